@@ -19,7 +19,7 @@ use Rattle.sx_rewrite.specs.declared.ext_rule.ExtRule.{ExtRule as ExtRuleOf}
 use Rattle.sx_rewrite.specs.Accepted.{ExtRule, Checked, basic, checked, rule_in, extended_rules}
 use Rattle.sx_rewrite.specs.Accepted.{Signature, IsAccepted}
 use Rattle.sx_rewrite.specs.Accepting.{AreStored}
-use Rattle.sx_rewrite.specs.Extensions.{Extension as Added, Fits, with_table}
+use Rattle.sx_rewrite.specs.Extensions.{Extension as Added, FitsRules, with_table}
 use Rattle.sx_rewrite.specs.ExtensionView.{ext_rule}
 use Rattle.sx_rewrite.specs.PlainRules.{plain_of}
 use Rattle.sx_rewrite.specs.Sound.{AreSoundBy}
@@ -30,20 +30,22 @@ use Rattle.sx_rewrite.proofs.KindLaws.{forms-fit, forms-typed}
 use Rattle.sx_rewrite.proofs.PlainSets.{plain_rules_are_accepted}
 use Rattle.sx_rewrite.proofs.RuleSets.{good_rules_are_disciplined}
 use Rattle.sx_extcheck.specs.declared.budgets.Budgets.{Budgets}
-use Rattle.sx_extcheck.specs.Accepts.{AreChecked}
+use Rattle.sx_extcheck.specs.Accepts.{AreRulesChecked}
 use Rattle.sx_extcheck.specs.Checks.{Check}
 use Rattle.sx_extcheck.proofs.StoredRules.{checked-stored}
 use Rattle.sx_notation.specs.declared.language.Language.{Language}
 use Rattle.sx_notation.specs.Language.{IsLanguage, LanguageData, language_data}
-use Rattle.sx_language.specs.States.{States as StatesLanguage}
+use Rattle.sx_language.specs.States.{IsLanguageIn as StatesLanguage}
 use Rattle.sx_extension.proofs.FitShapes.{have_no_typed}
 use Rattle.sx_steps.proofs.Ones.{ok_same}
 use Rattle.sx_uses.specs.ExtensionFile.{Extension, extension_file}
 use Rattle.sx_accepting.specs.ExtendedLanguages.{BaseLanguage, ExtendedData, ground_of, unextended}
-use Rattle.sx_accepting.specs.Extending.{ReadData, bodies_in, read_data, IsStated, HaveChecks}
-use Rattle.sx_accepting.specs.Extending.{check_after, with_extension, Accepts, ExtendsBy, Extends}
+use Rattle.sx_accepting.specs.Extending.{ReadData, bodies_in, read_data, IsExtensionStated}
+use Rattle.sx_accepting.specs.Extending.{HaveChecks}
+use Rattle.sx_accepting.specs.Extending.{check_after, with_extension, Accepts, ExtendsBy}
+use Rattle.sx_accepting.specs.Extending.{ExtendsLanguage}
 use Rattle.sx_accepting.specs.Laws.{IsAcceptedOver, ExtendedIsAccepted}
-use Rattle.sx_accepting.specs.ReadLanguage.{Stated, IsStated as IsLanguageStated, base_in}
+use Rattle.sx_accepting.specs.ReadLanguage.{Stated, IsLanguageStated, base_in}
 use Rattle.sx_accepting.proofs.Begun.{sorts_for}
 use Rattle.sx_steps.proofs.StepsOn.{went_on}
 
@@ -76,7 +78,7 @@ base_moded modes (r ∷ base) more h = (h.0, base_moded modes base more h.1)
 -- what is stored of rules that are checked
 are_stored : (c : Check) → AllModed c.sig.modes c.set.base →
     AllModed c.sig.modes (extended_rules (plain_of c.set)) →
-    (es : List ExtRuleOf) (ss : List Checked) (count : ℕ) → AreChecked c es count (Ok ss) →
+    (es : List ExtRuleOf) (ss : List Checked) (count : ℕ) → AreRulesChecked c es count (Ok ss) →
     AreStored c.sig c.labels c.set (map ext_rule es) ss
 are_stored c base plain [] [] count h = tt
 are_stored c base plain [] (s ∷ ss) count h = absurd h
@@ -87,7 +89,7 @@ are_stored c base plain (e ∷ es) (s ∷ ss) count (st, rest, n, more) =
 -- ---- what is accepted
 
 module _ (l : BaseLanguage) (x : ExtendedData) (over : IsAcceptedOver l x) (bytes : List ℕ)
-    (d : ReadData) (stated : IsStated (ground_of l x) bytes d) where
+    (d : ReadData) (stated : IsExtensionStated (ground_of l x) bytes d) where
   abbrev sig : Signature
   sig = signature_of x.set.forms
 
@@ -97,13 +99,13 @@ module _ (l : BaseLanguage) (x : ExtendedData) (over : IsAcceptedOver l x) (byte
   abbrev table : Table
   table = table_of stated.whole.extension.plain
 
-  fits : Fits sig x.set.base_shapes x.set.shapes all x.set.kept.table table
+  fits : FitsRules sig x.set.base_shapes x.set.shapes all x.set.kept.table table
       (map ext_rule stated.whole.extension.rules.items)
   fits =
-      subst (λ (fs : List FormData). Fits (signature_of fs) x.set.base_shapes x.set.shapes all
+      subst (λ (fs : List FormData). FitsRules (signature_of fs) x.set.base_shapes x.set.shapes all
       x.set.kept.table table (map ext_rule stated.whole.extension.rules.items))
       (sym over.forms)
-      (subst (λ (ss : List Shape). Fits (signature_of l.content.forms) ss x.set.shapes all
+      (subst (λ (ss : List Shape). FitsRules (signature_of l.content.forms) ss x.set.shapes all
       x.set.kept.table table (map ext_rule stated.whole.extension.rules.items))
       (sym over.shapes) stated.fits.fits)
 
@@ -155,7 +157,7 @@ module _ (l : BaseLanguage) (x : ExtendedData) (over : IsAcceptedOver l x) (byte
 
 -- the checks of the extension that the bytes state
 pub checks_of : (l : BaseLanguage) (budgets : Budgets) (x : ExtendedData) (bytes : List ℕ)
-    (d : ReadData) (tries : ℕ) (stated : IsStated (ground_of l x) bytes d)
+    (d : ReadData) (tries : ℕ) (stated : IsExtensionStated (ground_of l x) bytes d)
     (stored : List Checked) → HaveChecks (check_after x.set d.table budgets) d tries (Ok stored) →
     HaveChecks (check_after x.set (read_data stated.whole).table budgets) (read_data stated.whole)
     tries (Ok stored)
@@ -165,7 +167,7 @@ checks_of l budgets x bytes d tries stated stored h =
 
 -- what the language becomes by it
 pub next_of : (l : BaseLanguage) (x next : ExtendedData) (bytes : List ℕ) (d : ReadData)
-    (stated : IsStated (ground_of l x) bytes d) (stored : List Checked) →
+    (stated : IsExtensionStated (ground_of l x) bytes d) (stored : List Checked) →
     next ≡ with_extension x d stored → next ≡ with_extension x (read_data stated.whole) stored
 next_of l x next bytes d stated stored is =
     is ∙ ap (λ (y : ReadData). with_extension x y stored) stated.is
@@ -173,7 +175,7 @@ next_of l x next bytes d stated stored is =
 -- with an extension that is accepted the set is accepted
 pub accepted_next : (l : BaseLanguage) (budgets : Budgets) (file : List ℕ) (x next : ExtendedData)
     (bytes : List ℕ) (d : ReadData) (tries : ℕ) → IsAcceptedOver l x →
-    IsStated (ground_of l x) bytes d →
+    IsExtensionStated (ground_of l x) bytes d →
     Accepts l budgets file x d (Ok next) tries → IsAcceptedOver l next
 accepted_next l budgets file x next bytes d tries over stated accepts =
     let checks = checks_of l budgets x bytes d tries stated accepts.0 accepts.1 in
@@ -238,7 +240,7 @@ accepted_by l budgets file x next tries over steps =
 -- and with those in order
 pub accepted_from : (l : BaseLanguage) (budgets : Budgets) (files : List Extension)
     (x y : ExtendedData) (tries : ℕ) → IsAcceptedOver l x →
-    Extends l budgets files x (Ok y) tries → IsAcceptedOver l y
+    ExtendsLanguage l budgets files x (Ok y) tries → IsAcceptedOver l y
 accepted_from l budgets [] x y tries over steps =
     subst (IsAcceptedOver l) (sym (ok_same y x steps.0)) over
 accepted_from l budgets (file ∷ files) x y tries over steps =

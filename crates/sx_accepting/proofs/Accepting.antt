@@ -16,7 +16,7 @@ use Rattle.sx_extcheck.specs.declared.accept_error.AcceptError.{AcceptError}
 use Rattle.sx_extcheck.specs.declared.accept_error.AcceptError.TheVariants.{Memory, Rule}
 use Rattle.sx_extcheck.specs.declared.budgets.Budgets.{Budgets}
 use Rattle.sx_extcheck.specs.declared.refused.Refused.{Refused}
-use Rattle.sx_extcheck.specs.Accepts.{check_for, AreChecked, IsAnswered}
+use Rattle.sx_extcheck.specs.Accepts.{check_for, AreRulesChecked, IsCheckAnswered}
 use Rattle.sx_extcheck.specs.Checks.{Check}
 use Rattle.sx_notation.specs.declared.language.Language.{Language}
 use Rattle.sx_extension.specs.declared.extension.ReadExtension.{ReadExtension}
@@ -27,18 +27,18 @@ use Rattle.sx_accepting.specs.declared.extended.Extended.{Extended}
 use Rattle.sx_accepting.specs.AcceptanceStops.{Refusing}
 use Rattle.sx_accepting.specs.ExtendedLanguages.{base_of, extended_data}
 use Rattle.sx_accepting.specs.Extending.{read_data, HaveChecks, check_after, refusing_by}
-use Rattle.sx_accepting.specs.Extending.{refusing_after, Accepts, IsToldBy}
+use Rattle.sx_accepting.specs.Extending.{refusing_after, Accepts, IsStopToldBy}
 
 -- ---- tries
 
 -- no try was made before memory lacked
-pub none_checked : (c : Check) (es : List ExtRuleOf) → AreChecked c es 0 (Err Memory)
+pub none_checked : (c : Check) (es : List ExtRuleOf) → AreRulesChecked c es 0 (Err Memory)
 none_checked c [] = refl
 none_checked c (e ∷ es) = inl (omega arith)
 
 -- where a rule is refused, memory may lack for the answer
 pub refused_checked : (c : Check) (es : List ExtRuleOf) (n : ℕ) (e : AcceptError) →
-    AreChecked c es n (Err e) → AreChecked c es n (Err Memory)
+    AreRulesChecked c es n (Err e) → AreRulesChecked c es n (Err Memory)
 refused_checked c es n Memory h = h
 refused_checked c [] n (Rule name d) h = absurd h
 refused_checked c (e ∷ es) n (Rule name d) (inl (same, refused, is)) = inl (omega (arith, is))
@@ -58,7 +58,7 @@ module _ (l : Language) (s : Extended) (read : ReadExtension) (budgets : Budgets
     before = check_for s.accepted read.extension budgets
 
     have_checks : (n : ℕ) (answer : Result (List Checked) AcceptError) →
-        AreChecked before read.extension.rules.items n answer →
+        AreRulesChecked before read.extension.rules.items n answer →
         HaveChecks (check_after (extended_data l s).set (read_data read).table budgets)
         (read_data read) n answer
     have_checks n answer checked =
@@ -101,7 +101,7 @@ module _ (l : Language) (s : Extended) (read : ReadExtension) (budgets : Budgets
       -- the extension is accepted
       pub accepts_new : (all : List Shape) → all ≡ shapes_of read.grammar.parts →
           (new : AcceptedOf) (many : ℕ) → many ≡ length read.extension.rules.items →
-          IsAnswered s.accepted all read.extension before first last (Ok new) →
+          IsCheckAnswered s.accepted all read.extension before first last (Ok new) →
           Does (extended_data l) (Accepts (base_of l) budgets file (extended_data l s) (read_data
           read)) (Ok (record {
             grammars =
@@ -137,8 +137,8 @@ module _ (l : Language) (s : Extended) (read : ReadExtension) (budgets : Budgets
           )
 
       told_so : (n : ℕ) (e : AcceptError) (why : StepError) →
-          AreChecked before read.extension.rules.items n (Err e) →
-          IsToldBy file (refusing_by (base_of l) (extended_data l s) (read_data read)) e why →
+          AreRulesChecked before read.extension.rules.items n (Err e) →
+          IsStopToldBy file (refusing_by (base_of l) (extended_data l s) (read_data read)) e why →
           Accepts (base_of l) budgets file (extended_data l s) (read_data read) (Err why) n
       told_so n e errors.Memory checked told =
           have_checks n (Err Memory)
@@ -150,8 +150,8 @@ module _ (l : Language) (s : Extended) (read : ReadExtension) (budgets : Budgets
           (names : List Text)
           (vars : List (List Text)) → names ≡ map (λ e. e.rule.name) read.extension.rules.items →
           vars ≡ read.names.items →
-          IsAnswered s.accepted all read.extension before first last (Err refused) →
-          IsToldBy file (refusing_after l read.rule_grammar refused.set names vars)
+          IsCheckAnswered s.accepted all read.extension before first last (Err refused) →
+          IsStopToldBy file (refusing_after l read.rule_grammar refused.set names vars)
           refused.error why
           →
           Does (extended_data l) (Accepts (base_of l) budgets file (extended_data l s) (read_data
@@ -160,7 +160,7 @@ module _ (l : Language) (s : Extended) (read : ReadExtension) (budgets : Budgets
           let outcome = answer.2 in (
             answer.0,
             told_so answer.0 refused.error why outcome.0
-                (subst (λ (by : Refusing). IsToldBy file by refused.error why)
+                (subst (λ (by : Refusing). IsStopToldBy file by refused.error why)
                 (same_refusing refused.set names vars outcome.1.rules are named_so) told),
             answer.1,
           )

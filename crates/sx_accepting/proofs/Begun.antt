@@ -16,7 +16,7 @@ use Rattle.sx_rules.specs.declared.rule.Place.{Place}
 use Rattle.sx_rules.specs.declared.rule.Rule.{Rule as RuleOf}
 use Rattle.sx_rules.specs.Rules.{Rule}
 use Rattle.sx_rules.specs.Sets.{shapes_in, forms_in, rules_in, bare_rules_in}
-use Rattle.sx_rules.specs.Subjects.{is_typed}
+use Rattle.sx_rules.specs.Subjects.{is_typed_sort}
 use Rattle.sx_rules.specs.Views.{FormData, is_sub, named, rule}
 use Rattle.sx_rewrite.specs.declared.accepted.Accepted.{Accepted as AcceptedOf}
 use Rattle.sx_rewrite.specs.AcceptedView.{accepted}
@@ -24,7 +24,7 @@ use Rattle.sx_rewrite.specs.Extensions.{without_extensions}
 use Rattle.sx_rewrite.specs.Kinds.{IsSortFor, HaveSortsFor}
 use Rattle.sx_notation.specs.declared.language.Language.{Language}
 use Rattle.sx_notation.specs.Language.{PlaceFits, FormFits, IsLanguage, language_data}
-use Rattle.sx_language.specs.States.{States}
+use Rattle.sx_language.specs.States.{IsLanguageIn}
 use Rattle.sx_extension.specs.Grounds.{Ground, HasRoomFor, IsBefore}
 use Rattle.sx_extension.specs.Laws.{first_ground, LanguagesBegin}
 use Rattle.sx_accepting.specs.ExtendedLanguages.{base_of, extended_data, unextended, ground_of}
@@ -32,17 +32,17 @@ use Rattle.sx_accepting.specs.ExtendedLanguages.{CanExtend}
 
 -- ---- the sorts of forms
 
-untyped : (s : Sort) → is_typed (Some s) ≡ false → IsUntypedSort s
+untyped : (s : Sort) → is_typed_sort (Some s) ≡ false → IsUntypedSort s
 untyped (Lex kind) e k q = let same : Lex kind ≡ Typed k = q in cc
 untyped (Plain n) e k q = let same : Plain n ≡ Typed k = q in cc
 untyped (Typed n) e k q = let same : true ≡ false = e in cc
 
-typed : (s : Sort) → is_typed (Some s) ≡ true → (k : ℕ) × (s ≡ Typed k)
+typed : (s : Sort) → is_typed_sort (Some s) ≡ true → (k : ℕ) × (s ≡ Typed k)
 typed (Lex kind) e = let same : false ≡ true = e in absurd cc
 typed (Plain n) e = let same : false ≡ true = e in absurd cc
 typed (Typed n) e = (n, refl)
 
-sort_for : (r : Role) (s : Sort) → is_typed (Some s) ≡ is_sub r → IsSortFor r s
+sort_for : (r : Role) (s : Sort) → is_typed_sort (Some s) ≡ is_sub r → IsSortFor r s
 sort_for In s e = untyped s e
 sort_for Sub s e = typed s e
 sort_for Out s e = untyped s e
@@ -113,7 +113,7 @@ module _ (l : Language) (is : IsLanguage l) where
   }
 
   -- the language can be extended
-  pub first_can : LanguagesBegin → (name bytes : List ℕ) → States name bytes l →
+  pub first_can : LanguagesBegin → (name bytes : List ℕ) → IsLanguageIn name bytes l →
       length bytes ≤ 262144 → (files : ℕ) → files ≤ 8189 →
       CanExtend (base_of l) (unextended (language_data l)) files
   first_can law name bytes states short files few = record {

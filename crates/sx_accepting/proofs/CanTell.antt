@@ -11,7 +11,7 @@ use Rattle.sx_grammar.specs.Grammar.{Text}
 use Rattle.sx_grammar.specs.Made.{IsGrammar}
 use Rattle.sx_grammar.specs.Parts.{Parts}
 use Rattle.sx_grammar.specs.Told.{shapes_of}
-use Rattle.sx_earley.specs.Tokens.{Stems, sort_of, without_digits}
+use Rattle.sx_earley.specs.Tokens.{Stems, stem_sort, without_digits}
 use Rattle.sx_rules.specs.Deep.{AreShallow, RulesAreShallow}
 use Rattle.sx_rules.specs.Good.{IsAmong, AllGood}
 use Rattle.sx_rules.specs.Sets.{shapes_in, forms_in, rules_in}
@@ -26,7 +26,7 @@ use Rattle.sx_rewrite.specs.declared.accepted.Accepted.{Accepted as AcceptedOf}
 use Rattle.sx_rewrite.specs.declared.ext_rule.ExtRule.{ExtRule as ExtRuleOf}
 use Rattle.sx_rewrite.specs.Accepted.{AllDisciplined}
 use Rattle.sx_rewrite.specs.AcceptedView.{signature}
-use Rattle.sx_rewrite.specs.Extensions.{GoesOn, BodiesFit}
+use Rattle.sx_rewrite.specs.Extensions.{ShapesGoOn, BodiesFit}
 use Rattle.sx_rewrite.specs.ExtensionView.{ext_rule, named_rules}
 use Rattle.sx_language.specs.RuleLine.{Reader}
 use Rattle.sx_language.specs.RuleTexts.{HaveStemSorts, AreRules}
@@ -39,21 +39,22 @@ use Rattle.sx_extcheck.specs.declared.rule_refusal.RuleRefusal.TheVariants.{Reje
 use Rattle.sx_extcheck.specs.declared.rule_refusal.RuleRefusal.TheVariants.{DepthSpent, TooDeep}
 use Rattle.sx_extcheck.specs.declared.rule_refusal.RuleRefusal.TheVariants.{TooBig, RewriteSpent}
 use Rattle.sx_extcheck.specs.declared.rule_refusal.RuleRefusal.TheVariants.{RewriteDeep}
-use Rattle.sx_extcheck.specs.Accepts.{AreChecked}
+use Rattle.sx_extcheck.specs.Accepts.{AreRulesChecked}
 use Rattle.sx_extcheck.specs.Checks.{Check, IsRefusedFor}
 use Rattle.sx_extcheck.specs.CheckView.{check_with, CanCheck}
 use Rattle.sx_extcheck.specs.FlatTerms.{listed_term}
 use Rattle.sx_extension.specs.declared.extension.ReadExtension.{ReadExtension}
 use Rattle.sx_extension.specs.Grounds.{Ground, IsBefore}
 use Rattle.sx_extension.specs.Readings.{with_own}
-use Rattle.sx_extension.specs.States.{States}
+use Rattle.sx_extension.specs.States.{IsExtensionIn}
 use Rattle.sx_extension.proofs.Grounding.{same_sorts, sorts_kept, forms_kept}
 use Rattle.sx_stuck.specs.StuckGoals.{IsSortedBlame}
 use Rattle.sx_stuck.specs.StuckText.{CanTell}
 use Rattle.sx_stuck.specs.ToldGoals.{IsReadBy}
 use Rattle.sx_stuck.proofs.CanTell.{sorted_blames_can_be_told}
 use Rattle.sx_accepting.specs.AcceptanceStops.{Refusing, vars_named, telling_with}
-use Rattle.sx_accepting.specs.Refusals.{IsKept, AreNamed, refusing_in, RefusedExtensionsCanBeTold}
+use Rattle.sx_accepting.specs.Refusals.{IsAcceptedSet, AreNamed, refusing_in}
+use Rattle.sx_accepting.specs.Refusals.{RefusedExtensionsCanBeTold}
 use Rattle.sx_accepting.proofs.NamedVars.{vars-here, vars-later}
 use Rattle.sx_accepting.proofs.Rejected.{rejected_goals_are_sorted}
 
@@ -64,7 +65,7 @@ as-many : (stems : Stems) (names : List Text) (sorts : List Sort) →
     HaveStemSorts stems names sorts → length sorts ≤ length names
 as-many stems names sorts h =
     let a = ap length h in
-    let b = length-map names (λ name. sort_of stems (without_digits name)) in
+    let b = length-map names (λ name. stem_sort stems (without_digits name)) in
     let c = length-map sorts (λ (sort : Sort). Some sort) in omega (arith, a, b, c)
 
 rules-named : (r : Reader) (ls : List RuleData) (ns : List (List Text)) (qs : List NamedRule)
@@ -80,7 +81,7 @@ rules-named r (l ∷ ls) (n ∷ ns) (q ∷ qs) (b ∷ bs) h =
     (as-many r.stems n q.rule.sorts h.0.sorts, rules-named r ls ns qs bs h.1)
 
 module _ (g : Ground) (bytes : Text) (x : ReadExtension) (before : IsBefore g)
-    (st : States g bytes x) where
+    (st : IsExtensionIn g bytes x) where
   read-named : AreNamed (named_rules x.extension) x.names.items
   read-named =
       subst (λ (qs : List NamedRule). AreNamed qs x.names.items) (sym st.rules)
@@ -126,7 +127,7 @@ module _ (shapes : List Shape) (forms : List FormData) where
   refused-fresh : (c : Check) (names : List Text) (es : List ExtRuleOf) (count : ℕ) (name : Text)
       (defect : RuleRefusal) → AllGood shapes forms names (map (λ e. named e.rule) es) →
       IsAmong name names →
-      AreChecked c es count (Err (Rule name defect)) → ⊥
+      AreRulesChecked c es count (Err (Rule name defect)) → ⊥
   refused-fresh c names [] count name defect good k h = h
   refused-fresh c names (e ∷ es) count name defect good k (inl (same, refused, n)) =
       good.0.fresh (subst (λ (y : Text). IsAmong y names) same k)
@@ -134,11 +135,11 @@ module _ (shapes : List Shape) (forms : List FormData) where
       refused-fresh c (names ++ e.rule.name ∷ []) es rest name defect good.1
       (among-left names name e.rule.name k) more
 
-module _ (set : AcceptedOf) (k : IsKept set) (plain : PlainTable) (budgets : Budgets) (p : Parts)
+module _ (set : AcceptedOf) (k : IsAcceptedSet set) (plain : PlainTable) (budgets : Budgets) (p : Parts)
     (r : Refusing) (grammar : IsGrammar p)
     (by : (vars : List Text) → IsReadBy p (telling_with r vars))
     (forms : r.forms ≡ forms_in set.base)
-    (goes_on : GoesOn (shapes_in set.base) (shapes_in set.rules) (shapes_of p) (table_of set.plain)
+    (goes_on : ShapesGoOn (shapes_in set.base) (shapes_in set.rules) (shapes_of p) (table_of set.plain)
     (table_of plain)) (labels : plain.base ≡ length (shapes_in set.base)) where
   abbrev c : Check
   c = check_with set plain budgets
@@ -168,7 +169,7 @@ module _ (set : AcceptedOf) (k : IsKept set) (plain : PlainTable) (budgets : Bud
       RulesAreShallow (map (λ e. rule e.rule) es) →
       AllByRecursion (λ e. AreShallow (listed_term (option_map tree e.body))) es →
       AllByRecursion (λ e. length e.rule.premises.items < 2 ^ 32) es →
-      AreChecked c es count (Err (Rule name (Rejected b))) →
+      AreRulesChecked c es count (Err (Rule name (Rejected b))) →
       CanTell (telling_with r (vars_named (map (λ q. q.name) (map (λ e. named e.rule) es)) vs
       name)) (blame_of b)
   tell-rule [] vs names count name b n good s d f h u w x = absurd x

@@ -13,11 +13,11 @@ use Rattle.sx_steps.specs.Steps.{NoTries}
 use Rattle.sx_steps.specs.Stop.{Does}
 use Rattle.sx_steps.proofs.StepsOn.{goes_from, stops_at, untried, lacks_first}
 use Rattle.sx_uses.specs.declared.extension_file.ExtensionFile.{ExtensionFile}
-use Rattle.sx_uses.specs.ExtensionFile.{Extension, extension_of, extension_file, IsStated}
+use Rattle.sx_uses.specs.ExtensionFile.{Extension, extension_of, extension_file, IsHeaderStated}
 use Rattle.sx_accepting.specs.declared.extended.Extended.{Extended}
 use Rattle.sx_accepting.specs.ExtendedLanguages.{ExtendedData, base_of, extended_data, unextended}
 use Rattle.sx_accepting.specs.ExtendedLanguages.{CanExtendBy}
-use Rattle.sx_accepting.specs.Extending.{ReadsAfter, Accepts, ExtendsBy, Extends, GoesOnBy}
+use Rattle.sx_accepting.specs.Extending.{ReadsAfter, Accepts, ExtendsBy, ExtendsLanguage, GoesOnBy}
 
 module _ (l : Language) (budgets : Budgets) where
   -- memory may lack before any extension is read
@@ -29,29 +29,29 @@ module _ (l : Language) (budgets : Budgets) where
       (Accepts (base_of l) budgets (extension_file file.header.name) so_far) steps
 
   pub nothing_extends : (files : List Extension) (so_far : ExtendedData) (steps : ℕ) →
-      Does (extended_data l) (Extends (base_of l) budgets files so_far) (Err errors.Memory) steps
+      Does (extended_data l) (ExtendsLanguage (base_of l) budgets files so_far) (Err errors.Memory) steps
       steps
   nothing_extends [] so_far steps =
       untried (extended_data l) (λ result. result ≡ Ok so_far) (Err errors.Memory) steps tt
   nothing_extends (file ∷ files) so_far steps =
       stops_at (extended_data l) (extended_data l) (ExtendsBy (base_of l) budgets file so_far)
-      (Extends (base_of l) budgets files) errors.Memory steps steps
+      (ExtendsLanguage (base_of l) budgets files) errors.Memory steps steps
       (extends_nothing file so_far steps)
 
   -- what the extensions that are left do after those so far, all of them do
   abbrev pub LeadsOn : (files rest : List Extension) → (first now : ℕ) → Extended → Type 0
   LeadsOn files rest first now so_far =
       (result : Result Extended StepError) (after : ℕ) →
-      Does (extended_data l) (Extends (base_of l) budgets rest (extended_data l so_far)) result
+      Does (extended_data l) (ExtendsLanguage (base_of l) budgets rest (extended_data l so_far)) result
       now after →
-      Does (extended_data l) (Extends (base_of l) budgets files (unextended (language_data l)))
+      Does (extended_data l) (ExtendsLanguage (base_of l) budgets files (unextended (language_data l)))
       result first after
 
   module _ (files : List Extension) (first : ℕ) where
     pub leads_first : (begun : Extended) → extended_data l begun ≡ unextended (language_data l) →
         LeadsOn files files first first begun
     leads_first begun is result after does =
-        subst (λ (x : ExtendedData). Does (extended_data l) (Extends (base_of l) budgets files x)
+        subst (λ (x : ExtendedData). Does (extended_data l) (ExtendsLanguage (base_of l) budgets files x)
         result first after) is does
 
     module _ (now : ℕ) (so_far : Extended) where
@@ -62,22 +62,22 @@ module _ (l : Language) (budgets : Budgets) where
       leads_next file rest between next leads does result after more =
           leads result after (goes_from (extended_data l)
           (ExtendsBy (base_of l) budgets file (extended_data l so_far))
-          (Extends (base_of l) budgets rest) (extended_data l next) result now between after
+          (ExtendsLanguage (base_of l) budgets rest) (extended_data l next) result now between after
           does more)
 
       pub leads_stop : (file : Extension) (rest : List Extension) (after : ℕ) (e : StepError) →
           LeadsOn files (file ∷ rest) first now so_far →
           Does (extended_data l) (ExtendsBy (base_of l) budgets file (extended_data l so_far))
           (Err e) now after → Does (extended_data l)
-          (Extends (base_of l) budgets files (unextended (language_data l))) (Err e) first
+          (ExtendsLanguage (base_of l) budgets files (unextended (language_data l))) (Err e) first
           after
       leads_stop file rest after e leads does =
           leads (Err e) after (stops_at (extended_data l) (extended_data l)
           (ExtendsBy (base_of l) budgets file (extended_data l so_far))
-          (Extends (base_of l) budgets rest) e now after does)
+          (ExtendsLanguage (base_of l) budgets rest) e now after does)
 
       pub leads_end : LeadsOn files [] first now so_far →
-          Does (extended_data l) (Extends (base_of l) budgets files (unextended (language_data l)))
+          Does (extended_data l) (ExtendsLanguage (base_of l) budgets files (unextended (language_data l)))
           (Ok so_far) first now
       leads_end leads = leads (Ok so_far) now (untried (extended_data l) (λ result. result ≡ Ok
           (extended_data l so_far)) (Ok so_far) now refl)
@@ -97,7 +97,7 @@ pub none_left : (files : List ExtensionFile) (i : ℕ) → length files ≤ i �
 none_left files i all = ap (λ (l : List ExtensionFile). map extension_of l) (drop_all i files all)
 
 -- none of them is too long
-pub short_at : (files : List ExtensionFile) → AllByRecursion IsStated (map extension_of files) →
+pub short_at : (files : List ExtensionFile) → AllByRecursion IsHeaderStated (map extension_of files) →
     (i : ℕ) (file : ExtensionFile) → i < length files → file ≡ get_or files i file →
     length file.bytes.items ≤ 262144
 short_at [] h i file below is = absurd (omega (arith, below))

@@ -14,7 +14,7 @@ use Rattle.sx_rules.specs.Sets.{shapes_in, forms_in, rules_in}
 use Rattle.sx_rules.specs.Views.{FormData}
 use Rattle.sx_rewrite.specs.declared.ext_rule.ExtRule.{ExtRule as ExtRuleOf}
 use Rattle.sx_rewrite.specs.Accepted.{Checked}
-use Rattle.sx_rewrite.specs.Extensions.{Fits}
+use Rattle.sx_rewrite.specs.Extensions.{FitsRules}
 use Rattle.sx_rewrite.specs.ExtensionView.{ext_rule, named_rules}
 use Rattle.sx_rewrite.specs.Stored.{signature_of}
 use Rattle.sx_extcheck.specs.FlatTerms.{listed_term}
@@ -23,17 +23,17 @@ use Rattle.sx_extension.specs.declared.extension.ReadExtension.{ReadExtension}
 use Rattle.sx_extension.specs.Fitting.{FitsAfter}
 use Rattle.sx_extension.specs.Grounds.{Ground, HasRoomFor, IsBefore}
 use Rattle.sx_extension.specs.Laws.{next_ground, ExtensionsGoOn}
-use Rattle.sx_extension.specs.States.{States}
+use Rattle.sx_extension.specs.States.{IsExtensionIn}
 use Rattle.sx_accepting.specs.declared.extended.Extended.{Extended}
 use Rattle.sx_accepting.specs.ExtendedLanguages.{BaseLanguage, ExtendedData, ground_of}
 use Rattle.sx_accepting.specs.ExtendedLanguages.{ground_after, CanExtend}
 use Rattle.sx_accepting.specs.Extending.{read_data, with_extension}
-use Rattle.sx_accepting.specs.Refusals.{IsKept, CanAccept}
+use Rattle.sx_accepting.specs.Refusals.{IsAcceptedSet, CanAccept}
 
 -- ---- more can be read
 
 module _ (law : ExtensionsGoOn) (l : BaseLanguage) (x : ExtendedData) (read : ReadExtension)
-    (bytes : Text) (states : States (ground_of l x) bytes read)
+    (bytes : Text) (states : IsExtensionIn (ground_of l x) bytes read)
     (fits : FitsAfter (ground_of l x) read)
     (stored : List Checked) where
   next_is : x.set.forms ≡ l.content.forms →
@@ -79,7 +79,7 @@ bodies_shallow [] h = tt
 bodies_shallow (e ∷ es) h = (body_shallow (option_map tree e.body) h.0, bodies_shallow es h.1)
 
 -- the extension can be accepted after the set
-pub can_accept : (l : Language) (s : Extended) (read : ReadExtension) → IsKept s.accepted →
+pub can_accept : (l : Language) (s : Extended) (read : ReadExtension) → IsAcceptedSet s.accepted →
     IsBefore (ground_after l s) → shapes_in s.accepted.base ≡ shapes_of l.grammar.parts →
     FitsAfter (ground_after l s) read → CanAccept s.accepted (shapes_of read.grammar.parts)
     read.extension
@@ -94,10 +94,10 @@ can_accept l s read k before base fits =
       bodies = bodies_shallow read.extension.rules.items fits.usable.bodies;
       few = fits.usable.few;
       labels = fits.labels ∙ sym k.labels;
-      fits = subst (λ (fs : List FormData). Fits (signature_of fs) (shapes_in set.base)
+      fits = subst (λ (fs : List FormData). FitsRules (signature_of fs) (shapes_in set.base)
           (shapes_in set.rules) all (table_of set.plain) (table_of read.extension.plain)
           (map ext_rule read.extension.rules.items)) (sym before.rule_forms)
-          (subst (λ (ss : List Shape). Fits (signature_of (forms_in l.rules)) ss
+          (subst (λ (ss : List Shape). FitsRules (signature_of (forms_in l.rules)) ss
           (shapes_in set.rules) all (table_of set.plain) (table_of read.extension.plain)
           (map ext_rule read.extension.rules.items)) (sym base) fits.fits);
     }

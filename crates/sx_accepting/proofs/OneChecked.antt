@@ -10,7 +10,7 @@ use Rattle.sx_rewrite.specs.ExtensionView.{ext_rule}
 use Rattle.sx_extcheck.specs.declared.accept_error.AcceptError.{AcceptError}
 use Rattle.sx_extcheck.specs.declared.accept_error.AcceptError.TheVariants.{Memory, Rule}
 use Rattle.sx_extcheck.specs.declared.rule_refusal.RuleRefusal.{RuleRefusal}
-use Rattle.sx_extcheck.specs.Accepts.{AreChecked}
+use Rattle.sx_extcheck.specs.Accepts.{AreRulesChecked}
 use Rattle.sx_extcheck.specs.Agree.{Agree}
 use Rattle.sx_extcheck.specs.Checks.{Check, tries_for, IsStoredFor, IsRefusedFor}
 use Rattle.sx_extcheck.proofs.Verdicts.{stored-once, refused-once, not-both}
@@ -57,8 +57,8 @@ module _ (c : Check) (base shapes : List Shape) (ok : IsAccepted c.sig base shap
 
   -- both answers are the same, with as many tries
   one_answer : (es fs : List ExtRuleOf) → AreAlike es fs →
-      (m n : ℕ) (one other : Result (List Checked) AcceptError) → AreChecked c es m one →
-      AreChecked c fs n other → Agree (λ ss ts. ss ≡ ts) m n one other
+      (m n : ℕ) (one other : Result (List Checked) AcceptError) → AreRulesChecked c es m one →
+      AreRulesChecked c fs n other → Agree (λ ss ts. ss ≡ ts) m n one other
   one_answer es fs a m n (Err Memory) other h i = tt
   one_answer es fs a m n (Ok ss) (Err Memory) h i = tt
   one_answer es fs a m n (Err (Rule name d)) (Err Memory) h i = tt

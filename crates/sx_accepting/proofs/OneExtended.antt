@@ -29,9 +29,9 @@ use Rattle.sx_uses.specs.ExtensionFile.{Extension, extension_file}
 use Rattle.sx_accepting.specs.AcceptanceStops.{acceptance_stop}
 use Rattle.sx_accepting.specs.ExtensionStops.{extension_stop}
 use Rattle.sx_accepting.specs.ExtendedLanguages.{BaseLanguage, ExtendedData, ground_of, unextended}
-use Rattle.sx_accepting.specs.Extending.{ReadData, read_data, IsStated, HaveChecks}
+use Rattle.sx_accepting.specs.Extending.{ReadData, read_data, IsExtensionStated, HaveChecks}
 use Rattle.sx_accepting.specs.Extending.{check_after, with_extension, refusing_by, ReadsAfter}
-use Rattle.sx_accepting.specs.Extending.{Accepts, ExtendsBy, Extends}
+use Rattle.sx_accepting.specs.Extending.{Accepts, ExtendsBy, ExtendsLanguage}
 use Rattle.sx_accepting.specs.Alike.{IsOfLine, StopsAtExtension, SameButReadings}
 use Rattle.sx_accepting.specs.Laws.{IsAcceptedOver, ExtendsAgree}
 use Rattle.sx_accepting.specs.ReadLanguage.{base_in}
@@ -103,7 +103,7 @@ module _ (l : BaseLanguage) (x : ExtendedData) (file : Extension) where
 
 module _ (l : BaseLanguage) (budgets : Budgets) (file : List ℕ) (x : ExtendedData)
     (over : IsAcceptedOver l x) (bytes : List ℕ) (d : ReadData)
-    (stated : IsStated (ground_of l x) bytes d) where
+    (stated : IsExtensionStated (ground_of l x) bytes d) where
   abbrev pub with_these : Check
   with_these = check_after x.set d.table budgets
 
@@ -208,12 +208,12 @@ module _ (l : BaseLanguage) (budgets : Budgets) where
   -- extensions in order have one answer after what is accepted
   extends_by : (IsFree : Stop → Type 0) (files : List Extension) (x : ExtendedData) →
       IsAcceptedOver l x → ((s : Stop) → StopsAtExtension l budgets x files s → IsFree s) →
-      IsOneBy (SameButReadings IsFree) (Extends l budgets files x)
+      IsOneBy (SameButReadings IsFree) (ExtendsLanguage l budgets files x)
   extends_by IsFree [] x over so =
       trying_same (SameButReadings IsFree) (same_stop IsFree) NoTries (λ result. result ≡ Ok x)
       no_tries_one (λ a b h k f g. h ∙ sym k)
   extends_by IsFree (file ∷ files) x over so =
-      and_then_by (SameButReadings IsFree) (ExtendsBy l budgets file x) (Extends l budgets files)
+      and_then_by (SameButReadings IsFree) (ExtendsBy l budgets file x) (ExtendsLanguage l budgets files)
       (extends_one IsFree file x over (λ s stops line. so s (at_first file files x s stops line)))
       (λ y before h. extends_by IsFree files y (accepted_by l budgets file x y before over h)
       (λ s later. so s (at_later file files x s y before h later)))

@@ -17,12 +17,12 @@ use Rattle.sx_accepting.specs.Alike.{IsOfLine, StopsAtLanguage, SameButReadings}
 use Rattle.sx_accepting.specs.LanguageFiles.{language_file}
 use Rattle.sx_accepting.specs.LanguageStops.{language_stop}
 use Rattle.sx_accepting.specs.Laws.{LanguagesAgree}
-use Rattle.sx_accepting.specs.ReadLanguage.{Stated, IsStated, IsStopped, StatesLanguage}
+use Rattle.sx_accepting.specs.ReadLanguage.{Stated, IsLanguageStated, IsStopped, StatesLanguage}
 use Rattle.sx_accepting.specs.ReadLanguage.{ReadsLanguage}
 use Rattle.sx_accepting.proofs.SameRefusals.{not_lacking, same_lines, same_so}
 
-stated_same : (name bytes : List ℕ) (l k : Stated) → IsStated name bytes l →
-    IsStated name bytes k → l ≡ k
+stated_same : (name bytes : List ℕ) (l k : Stated) → IsLanguageStated name bytes l →
+    IsLanguageStated name bytes k → l ≡ k
 stated_same name bytes l k s t =
     let same = one_language.found name bytes s.whole t.whole s.states t.states in
     λ i. record {

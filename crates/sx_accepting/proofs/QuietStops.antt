@@ -22,7 +22,7 @@ use Rattle.sx_steps.specs.Stop.{IsNoFault}
 use Rattle.sx_steps.proofs.Quiet.{same_status, rules_refused, refused_quiet, spent_quiet}
 use Rattle.sx_accepting.specs.AcceptanceStops.{Refusing, acceptance_stop}
 use Rattle.sx_accepting.specs.ExtensionStops.{extension_stop}
-use Rattle.sx_accepting.specs.Extending.{IsToldBy}
+use Rattle.sx_accepting.specs.Extending.{IsStopToldBy}
 use Rattle.sx_accepting.specs.LanguageStops.{language_stop}
 
 line_refused : (file : List ℕ) (e : NotationError) (stop : Stop) →
@@ -107,6 +107,6 @@ acceptance_quiet X file by (accept_error.Rule name rule_defect.RewriteDeep) stop
 
 -- that an extension is not accepted is no fault
 pub told_quiet : (X : Type 0) (file : List ℕ) (by : Refusing) (e : AcceptError) (why : StepError) →
-    IsToldBy file by e why → IsNoFault {X = X} (Err why)
+    IsStopToldBy file by e why → IsNoFault {X = X} (Err why)
 told_quiet X file by e errors.Memory told = (λ none. none, λ none. none)
 told_quiet X file by e (errors.Stopped stop) told = acceptance_quiet X file by e stop told

@@ -35,7 +35,7 @@ use Rattle.sx_rewrite.specs.Extensions.{BodyFits, with_table}
 use Rattle.sx_rewrite.specs.ExtensionView.{ext_rule}
 use Rattle.sx_rewrite.specs.Flat.{flat_places}
 use Rattle.sx_rewrite.specs.PlainRules.{plain_of}
-use Rattle.sx_rewrite.specs.Puts.{IsSmall}
+use Rattle.sx_rewrite.specs.Puts.{IsSmallTerm}
 use Rattle.sx_rewrite.specs.Sound.{flat_given, flat_goal}
 use Rattle.sx_rewrite.proofs.Checks.{flat_goals_stay}
 use Rattle.sx_rewrite.proofs.FlatSorted.{flat_forms_are_sorted}
@@ -54,7 +54,7 @@ use Rattle.sx_extcheck.proofs.Measurable.{small-premises, small-places, small-bo
 use Rattle.sx_extcheck.proofs.StoredRules.{is-base}
 use Rattle.sx_stuck.specs.StuckGoals.{GotIsSorted, IsSortedBlame}
 use Rattle.sx_stuck.proofs.StuckGoals.{stuck_goals_are_sorted}
-use Rattle.sx_accepting.specs.Refusals.{IsKept, RejectedGoalsAreSorted}
+use Rattle.sx_accepting.specs.Refusals.{IsAcceptedSet, RejectedGoalsAreSorted}
 
 -- rules without their names
 bare-named : (rs : List RuleOf) → map (λ (q : NamedRule). q.rule) (map named rs) ≡ map rule rs
@@ -81,7 +81,7 @@ module _ (base shapes : List Shape) (begins : Begins base shapes) (forms : List 
 abbrev IsShallowGiven : Hypotheses → Type 0
 IsShallowGiven h = ShallowJudgements h.judgements × ArePairsShallow h.pairs
 
-module _ (set : AcceptedOf) (k : IsKept set) (plain : PlainTable) (budgets : Budgets)
+module _ (set : AcceptedOf) (k : IsAcceptedSet set) (plain : PlainTable) (budgets : Budgets)
     (e : ExtRuleOf) (can : CanCheck set plain e) where
   abbrev sig : Signature
   sig = signature set
@@ -129,7 +129,7 @@ module _ (set : AcceptedOf) (k : IsKept set) (plain : PlainTable) (budgets : Bud
     places = flat_places table (option_map (image table) ext.body)
         (sig.subjects ext.rule.conclusion.form) ext.rule.conclusion.places
 
-    places-small : AllByRecursion IsSmall places
+    places-small : AllByRecursion IsSmallTerm places
     places-small =
         flat-small table (option_map (image table) ext.body)
         (sig.subjects ext.rule.conclusion.form) ext.rule.conclusion.places

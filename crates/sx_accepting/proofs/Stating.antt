@@ -6,15 +6,15 @@ use Rattle.sx_interface.specs.declared.marks.Digest.{Digest}
 use Rattle.sx_notation.specs.declared.language.Language.{Language}
 use Rattle.sx_notation.specs.declared.notation_error.NotationError.{NotationError}
 use Rattle.sx_notation.specs.Language.{language_data, IsLanguage}
-use Rattle.sx_language.specs.States.{States, IsRefused}
+use Rattle.sx_language.specs.States.{IsLanguageIn, IsLanguageTextRefused}
 use Rattle.sx_steps.specs.declared.stop.Stop.{Stop}
 use Rattle.sx_accepting.specs.LanguageFiles.{language_file}
 use Rattle.sx_accepting.specs.LanguageStops.{language_stop}
-use Rattle.sx_accepting.specs.ReadLanguage.{Stated, IsStated, IsStopped}
+use Rattle.sx_accepting.specs.ReadLanguage.{Stated, IsLanguageStated, IsStopped}
 
-pub stated : (name bytes : List ℕ) (l : Language) (d : Digest) → States name bytes l →
+pub stated : (name bytes : List ℕ) (l : Language) (d : Digest) → IsLanguageIn name bytes l →
     IsLanguage l → d.bytes ≡ sha256 bytes →
-    IsStated name bytes (let s : Stated =
+    IsLanguageStated name bytes (let s : Stated =
     record { language = language_data l; stems = l.metas.stems.items; digest = d.bytes } in s)
 stated name bytes l d states fit digest =
     record {
@@ -28,7 +28,7 @@ stated name bytes l d states fit digest =
     }
 
 pub stopped : (file name bytes : List ℕ) (e : NotationError) (stop : Stop) →
-    file ≡ language_file name → IsRefused name bytes e → language_stop file e ≡ Some stop →
+    file ≡ language_file name → IsLanguageTextRefused name bytes e → language_stop file e ≡ Some stop →
     IsStopped name bytes stop
 stopped file name bytes e stop same refused is =
     record {

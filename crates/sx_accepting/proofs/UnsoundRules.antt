@@ -16,7 +16,7 @@ use Rattle.sx_extcheck.specs.declared.accept_error.AcceptError.TheVariants.{Memo
 use Rattle.sx_extcheck.specs.declared.budgets.Budgets.{Budgets}
 use Rattle.sx_extcheck.specs.declared.rule_refusal.RuleRefusal.{RuleRefusal}
 use Rattle.sx_extcheck.specs.declared.rule_refusal.RuleRefusal.TheVariants as rule_defect
-use Rattle.sx_extcheck.specs.Accepts.{AreChecked, HasUnsound}
+use Rattle.sx_extcheck.specs.Accepts.{AreRulesChecked, HasUnsound}
 use Rattle.sx_extcheck.specs.Checks.{Check}
 use Rattle.sx_extcheck.proofs.StoredRules.{checked-rejected}
 use Rattle.sx_extension.specs.declared.extension_error.ExtensionError.{ExtensionError}
@@ -37,7 +37,7 @@ use Rattle.sx_accepting.specs.AcceptanceStops.{Refusing, defect_of, acceptance_s
 use Rattle.sx_accepting.specs.ExtendedLanguages.{BaseLanguage, ExtendedData, unextended}
 use Rattle.sx_accepting.specs.ExtensionStops.{bad_plain, extension_stop}
 use Rattle.sx_accepting.specs.Extending.{ReadData, bodies_in, ReadsAfter, check_after, HaveChecks}
-use Rattle.sx_accepting.specs.Extending.{Accepts, ExtendsBy, Extends}
+use Rattle.sx_accepting.specs.Extending.{Accepts, ExtendsBy, ExtendsLanguage}
 use Rattle.sx_accepting.specs.Laws.{IsAcceptedOver, StopsAtUnsound, UnsoundIsFinal}
 use Rattle.sx_accepting.specs.ReadLanguage.{base_in}
 use Rattle.sx_accepting.proofs.AcceptedExtended.{accepted_begin, accepted_by}
@@ -81,7 +81,7 @@ module _ (Q : Stop → Type 0) where
 -- ---- a rule that is not sound
 
 module _ (c : Check) (base_moded : AllModed c.sig.modes c.set.base) (plain_moded : AllModed c.sig.modes (extended_rules (plain_of c.set))) where
-  unsound_among : (es : List ExtRuleOf) (count : ℕ) (name : List ℕ) (b : Blame) → AreChecked c es count (Err (Rule name (rule_defect.Rejected b))) → HasUnsound c es name
+  unsound_among : (es : List ExtRuleOf) (count : ℕ) (name : List ℕ) (b : Blame) → AreRulesChecked c es count (Err (Rule name (rule_defect.Rejected b))) → HasUnsound c es name
   unsound_among [] count name b h = absurd h
   unsound_among (e ∷ es) count name b (inl (same, refused, n)) =
       inl (same, λ s sound. rejected_is_unsound c.sig c.labels c.set (ext_rule e) s (checked-rejected c (ext_rule e) base_moded plain_moded refused.0) sound)
@@ -89,8 +89,8 @@ module _ (c : Check) (base_moded : AllModed c.sig.modes c.set.base) (plain_moded
 
 module _ (l : BaseLanguage) (budgets : Budgets) where
   -- one extension more at the end
-  one_more : (files : List Extension) (file : Extension) (x y z : ExtendedData) (m n : ℕ) → Extends l budgets files x (Ok y) m → ExtendsBy l budgets file y (Ok z) n →
-      (k : ℕ) × Extends l budgets (files ++ file ∷ []) x (Ok z) k
+  one_more : (files : List Extension) (file : Extension) (x y z : ExtendedData) (m n : ℕ) → ExtendsLanguage l budgets files x (Ok y) m → ExtendsBy l budgets file y (Ok z) n →
+      (k : ℕ) × ExtendsLanguage l budgets (files ++ file ∷ []) x (Ok z) k
   one_more [] file x y z m n h k = (
     n + 0,
     record {
@@ -135,12 +135,12 @@ module _ (l : BaseLanguage) (budgets : Budgets) (xs : List Extension) where
 
   -- after these extensions come those
   extends_final : (before after : List Extension) (x : ExtendedData) (tries : ℕ) →
-      xs ≡ before ++ after → Extends l budgets before (unextended l.content) (Ok x) tries →
-      IsAcceptedOver l x → FinalTrying Q (Extends l budgets after x)
+      xs ≡ before ++ after → ExtendsLanguage l budgets before (unextended l.content) (Ok x) tries →
+      IsAcceptedOver l x → FinalTrying Q (ExtendsLanguage l budgets after x)
   extends_final before [] x tries parts begun over = λ stop made h error.
       absurd (ok_no_err x stop (sym h.0))
   extends_final before (this ∷ after) x tries parts begun over =
-      and_then_final Q (ExtendsBy l budgets this x) (Extends l budgets after)
+      and_then_final Q (ExtendsBy l budgets this x) (ExtendsLanguage l budgets after)
       (and_then_final Q (Untried (ReadsAfter l x this))
       (Accepts l budgets (extension_file this.header.name) x)
       (trying_final Q NoTries (ReadsAfter l x this) (reads_after_final Q l x this))

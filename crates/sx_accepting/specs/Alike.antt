@@ -12,7 +12,7 @@ use Rattle.sx_steps.specs.Held.{Held}
 use Rattle.sx_term.specs.Limits.{most_bytes}
 use Rattle.sx_uses.specs.ExtensionFile.{Extension, extension_file}
 use Rattle.sx_accepting.specs.ExtendedLanguages.{BaseLanguage, ExtendedData, ground_of}
-use Rattle.sx_accepting.specs.Extending.{ReadsAfter, Extends}
+use Rattle.sx_accepting.specs.Extending.{ReadsAfter, ExtendsLanguage}
 use Rattle.sx_accepting.specs.LanguageFiles.{language_file}
 use Rattle.sx_accepting.specs.ReadLanguage.{StatesLanguage}
 
@@ -40,7 +40,7 @@ pub record StopsAtExtension (l : BaseLanguage) (budgets : Budgets) (start : Exte
   pub parts : files ≡ before ++ this ∷ after
   pub so_far : ExtendedData
   pub tries : ℕ
-  pub extends : Extends l budgets before start (Ok so_far) tries
+  pub extends : ExtendsLanguage l budgets before start (Ok so_far) tries
   pub stops : ReadsAfter l so_far this (Err stop)
   pub line : IsOfLine (extension_file this.header.name)
       (ExtensionHasThree (ground_of l so_far) this.bytes) stop

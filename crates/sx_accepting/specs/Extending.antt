@@ -19,13 +19,13 @@ use Rattle.sx_rewrite.specs.Stored.{signature_of}
 use Rattle.sx_extcheck.specs.declared.accept_error.AcceptError.{AcceptError}
 use Rattle.sx_extcheck.specs.declared.accept_error.AcceptError.TheVariants.{Memory}
 use Rattle.sx_extcheck.specs.declared.budgets.Budgets.{Budgets}
-use Rattle.sx_extcheck.specs.Accepts.{AreChecked}
+use Rattle.sx_extcheck.specs.Accepts.{AreRulesChecked}
 use Rattle.sx_extcheck.specs.Checks.{Check}
 use Rattle.sx_extension.specs.declared.extension_error.ExtensionError.{ExtensionError}
 use Rattle.sx_extension.specs.declared.extension.ReadExtension.{ReadExtension}
 use Rattle.sx_extension.specs.Grounds.{Ground}
 use Rattle.sx_extension.specs.Fitting.{FitsAfter}
-use Rattle.sx_extension.specs.States.{States, IsRefused}
+use Rattle.sx_extension.specs.States.{IsExtensionIn, IsExtensionTextRefused}
 use Rattle.sx_notation.specs.declared.language.Language.{Language}
 use Rattle.sx_steps.specs.declared.step_error.StepError.{StepError}
 use Rattle.sx_steps.specs.declared.step_error.StepError.TheVariants as errors
@@ -67,16 +67,16 @@ read_data x = record {
 }
 
 -- the bytes state the extension, which fits what it is read after
-pub record IsStated (g : Ground) (bytes : Text) (x : ReadData) : Type 0 where
+pub record IsExtensionStated (g : Ground) (bytes : Text) (x : ReadData) : Type 0 where
   pub whole : ReadExtension
-  pub states : States g bytes whole
+  pub states : IsExtensionIn g bytes whole
   pub fits : FitsAfter g whole
   pub is : x ≡ read_data whole
 
 -- the extension that the bytes state, or their refusal
 abbrev pub StatesAfter : Ground → Text → Result ReadData ExtensionError → Type 0
-StatesAfter g bytes (Ok x) = IsStated g bytes x
-StatesAfter g bytes (Err e) = IsRefused g bytes e
+StatesAfter g bytes (Ok x) = IsExtensionStated g bytes x
+StatesAfter g bytes (Err e) = IsExtensionTextRefused g bytes e
 
 -- the extension in the file, which is read after the language and the extensions so far
 abbrev pub ReadsAfter : BaseLanguage → ExtendedData → Extension → Result ReadData Stop → Type 0
@@ -102,7 +102,7 @@ pub record HaveChecks (c : Check) (x : ReadData) (tries : ℕ)
   pub held : List ExtRuleOf
   pub rules : map (λ e. named e.rule) held ≡ x.rules
   pub bodies : bodies_in held ≡ x.bodies
-  pub checked : AreChecked c held tries answer
+  pub checked : AreRulesChecked c held tries answer
 
 -- the language with the extension after those so far, where this is stored of its rules
 abbrev pub with_extension : ExtendedData → ReadData → List Checked → ExtendedData
@@ -158,11 +158,11 @@ ExtendsBy l budgets file so_far =
     (Accepts l budgets (extension_file file.header.name) so_far)
 
 -- each extension is read after all before it, and then accepted
-abbrev pub Extends : BaseLanguage → Budgets → List Extension → ExtendedData →
+abbrev pub ExtendsLanguage : BaseLanguage → Budgets → List Extension → ExtendedData →
     Result ExtendedData StepError → ℕ → Type 0
-Extends l budgets [] so_far = Untried (λ result. result ≡ Ok so_far)
-Extends l budgets (file ∷ files) so_far =
-    AndThen (ExtendsBy l budgets file so_far) (Extends l budgets files)
+ExtendsLanguage l budgets [] so_far = Untried (λ result. result ≡ Ok so_far)
+ExtendsLanguage l budgets (file ∷ files) so_far =
+    AndThen (ExtendsBy l budgets file so_far) (ExtendsLanguage l budgets files)
 
 -- ---- steps of the code
 
@@ -171,7 +171,7 @@ pub record WasRead (l : Language) (so_far : Extended) (read : ReadExtension) : T
   pub files : ℕ
   pub can : CanExtendBy l so_far files
   pub bytes : Text
-  pub states : States (ground_after l so_far) bytes read
+  pub states : IsExtensionIn (ground_after l so_far) bytes read
   pub fits : FitsAfter (ground_after l so_far) read
 
 -- with this the language can be extended by one file less
@@ -191,6 +191,6 @@ refusing_after l grammar set names vars = record {
 }
 
 -- this stop of the error, or memory lacks
-abbrev pub IsToldBy : (file : List ℕ) → Refusing → AcceptError → StepError → Type 0
-IsToldBy file by e errors.Memory = Unit {0}
-IsToldBy file by e (errors.Stopped stop) = acceptance_stop file by e ≡ Some stop
+abbrev pub IsStopToldBy : (file : List ℕ) → Refusing → AcceptError → StepError → Type 0
+IsStopToldBy file by e errors.Memory = Unit {0}
+IsStopToldBy file by e (errors.Stopped stop) = acceptance_stop file by e ≡ Some stop

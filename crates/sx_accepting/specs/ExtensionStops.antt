@@ -46,8 +46,8 @@ without_plain file label =
 -- ---- rules
 
 -- a defect of the rule with this name
-abbrev pub of_rule : List ℕ → List ℕ → ExtensionDefect → Stop
-of_rule file name what = at (place.Rule name) file (defect.Extension what)
+abbrev pub extension_rule_stop : List ℕ → List ℕ → ExtensionDefect → Stop
+extension_rule_stop file name what = at (place.Rule name) file (defect.Extension what)
 
 -- ---- whole files
 
@@ -58,8 +58,8 @@ extension_stop file (errors.Notation e) = language_stop file e
 extension_stop file (errors.Plain label e) = Some (bad_plain file label e)
 extension_stop file (errors.NoPlain label) = Some (without_plain file label)
 extension_stop file (errors.NoBody rule) =
-    Some (of_rule file rule extension_defect.NoBody)
+    Some (extension_rule_stop file rule extension_defect.NoBody)
 extension_stop file (errors.BodySort rule) =
-    Some (of_rule file rule extension_defect.BodySort)
+    Some (extension_rule_stop file rule extension_defect.BodySort)
 extension_stop file (errors.BodyExtended rule) =
-    Some (of_rule file rule extension_defect.BodyExtended)
+    Some (extension_rule_stop file rule extension_defect.BodyExtended)

@@ -18,7 +18,7 @@ use Rattle.sx_words.specs.declared.grammar_defect.GrammarDefect.TheVariants as g
 use Rattle.sx_words.specs.declared.refusal.Defect.TheVariants as defect
 use Rattle.sx_steps.specs.declared.stop.Stop.{Stop}
 use Rattle.sx_steps.specs.Refusal.{about}
-use Rattle.sx_steps.specs.Stops.{at, not_utf8, kind_text, bad_line, bad_rules}
+use Rattle.sx_steps.specs.Stops.{at, not_utf8, bad_kind_text, bad_line, bad_rules}
 
 -- ---- lines of rules
 
@@ -82,7 +82,8 @@ bad_language_rules file e variable = bad_rules file (λ number. metavariable var
 abbrev pub language_stop : List ℕ → NotationError → Option Stop
 language_stop file notation_error.Memory = None
 language_stop file (notation_error.NotUtf8 before) = Some (not_utf8 file before)
-language_stop file (notation_error.Notation line what) = Some (bad_line file line (kind_text what))
+language_stop file (notation_error.Notation line what) = Some (bad_line file line
+    (bad_kind_text what))
 language_stop file (notation_error.Token line e) = uncut_line file line e
 language_stop file (notation_error.Grammar e) = bad_grammar file (grammar_defect_of e)
 language_stop file (notation_error.Read line e) = Some (unread_line file line e)

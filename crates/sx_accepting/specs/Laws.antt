@@ -17,9 +17,10 @@ use Rattle.sx_steps.specs.Steps.{Untried}
 use Rattle.sx_steps.specs.TypeErrors.{IsTypeError}
 use Rattle.sx_uses.specs.ExtensionFile.{Extension, extension_file}
 use Rattle.sx_accepting.specs.ExtendedLanguages.{BaseLanguage, ExtendedData, unextended}
-use Rattle.sx_accepting.specs.Extending.{ReadData, bodies_in, ReadsAfter, check_after, Extends}
+use Rattle.sx_accepting.specs.Extending.{ReadData, bodies_in, ReadsAfter, check_after}
+use Rattle.sx_accepting.specs.Extending.{ExtendsLanguage}
 use Rattle.sx_accepting.specs.Alike.{StopsAtLanguage, StopsAtExtension, SameButReadings}
-use Rattle.sx_accepting.specs.ReadLanguage.{Stated, IsStated, ReadsLanguage, base_in}
+use Rattle.sx_accepting.specs.ReadLanguage.{Stated, IsLanguageStated, ReadsLanguage, base_in}
 
 -- the set is accepted over the shapes and the forms of the language
 pub record IsAcceptedOver (l : BaseLanguage) (x : ExtendedData) : Type 0 where
@@ -29,9 +30,9 @@ pub record IsAcceptedOver (l : BaseLanguage) (x : ExtendedData) : Type 0 where
 
 -- what a language that a text states becomes by extensions is accepted
 abbrev pub ExtendedIsAccepted : Type 0
-ExtendedIsAccepted = (name bytes : List ℕ) (l : Stated) → IsStated name bytes l →
+ExtendedIsAccepted = (name bytes : List ℕ) (l : Stated) → IsLanguageStated name bytes l →
     (budgets : Budgets) (files : List Extension) (x : ExtendedData) (tries : ℕ) →
-    Extends (base_in l) budgets files (unextended l.language) (Ok x) tries →
+    ExtendsLanguage (base_in l) budgets files (unextended l.language) (Ok x) tries →
     IsAcceptedOver (base_in l) x
 
 -- by the name and the files a language's file states one language or has one stop, read faults
@@ -44,10 +45,10 @@ LanguagesAgree = (name : List ℕ) (files : Files) (a b : Result Stated StepErro
 -- by the language, the files and the budgets there is one result and one number of tries, out of
 -- memory aside, but for the two readings that a stop shows of a line with more than two
 abbrev pub ExtendsAgree : Type 0
-ExtendsAgree = (name bytes : List ℕ) (l : Stated) → IsStated name bytes l →
+ExtendsAgree = (name bytes : List ℕ) (l : Stated) → IsLanguageStated name bytes l →
     (budgets : Budgets) (files : List Extension) (a b : Result ExtendedData StepError) (m n : ℕ) →
-    Extends (base_in l) budgets files (unextended l.language) a m →
-    Extends (base_in l) budgets files (unextended l.language) b n →
+    ExtendsLanguage (base_in l) budgets files (unextended l.language) a m →
+    ExtendsLanguage (base_in l) budgets files (unextended l.language) b n →
     IsSure a → IsSure b →
     AnswersBy (SameButReadings (StopsAtExtension (base_in l) budgets (unextended l.language) files))
     a b × (m ≡ n)
@@ -62,7 +63,7 @@ pub record StopsAtUnsound (l : BaseLanguage) (budgets : Budgets) (files : List E
   pub parts : files ≡ before ++ this ∷ after
   pub so_far : ExtendedData
   pub tries : ℕ
-  pub extends : Extends l budgets before (unextended l.content) (Ok so_far) tries
+  pub extends : ExtendsLanguage l budgets before (unextended l.content) (Ok so_far) tries
   pub read : ReadData
   pub reads : ReadsAfter l so_far this (Ok read)
   pub rules : List ExtRule
@@ -75,7 +76,8 @@ pub record StopsAtUnsound (l : BaseLanguage) (budgets : Budgets) (files : List E
 
 -- extensions are refused for a type error only where the rule that the stop is about is not sound
 abbrev pub UnsoundIsFinal : Type 0
-UnsoundIsFinal = (name bytes : List ℕ) (l : Stated) → IsStated name bytes l →
+UnsoundIsFinal = (name bytes : List ℕ) (l : Stated) → IsLanguageStated name bytes l →
     (budgets : Budgets) (files : List Extension) (stop : Stop) (tries : ℕ) →
-    Extends (base_in l) budgets files (unextended l.language) (Err (errors.Stopped stop)) tries →
+    ExtendsLanguage (base_in l) budgets files (unextended l.language) (Err
+    (errors.Stopped stop)) tries →
     IsTypeError stop → StopsAtUnsound (base_in l) budgets files stop

@@ -5,7 +5,7 @@ use Rattle.sx_earley.specs.Tokens.{Stems}
 use Rattle.sx_notation.specs.declared.language.Language.{Language}
 use Rattle.sx_notation.specs.declared.notation_error.NotationError.{NotationError}
 use Rattle.sx_notation.specs.Language.{LanguageData, language_data, IsLanguage}
-use Rattle.sx_language.specs.States.{States, IsRefused}
+use Rattle.sx_language.specs.States.{IsLanguageIn, IsLanguageTextRefused}
 use Rattle.sx_outside.specs.Files.{Files}
 use Rattle.sx_steps.specs.declared.stop.Stop.{Stop}
 use Rattle.sx_steps.specs.Held.{Held}
@@ -35,9 +35,9 @@ abbrev pub base_in : Stated → BaseLanguage
 base_in l = record { content = l.language; stems = l.stems }
 
 -- the bytes state the language under this name, and have the digest
-pub record IsStated (name bytes : List ℕ) (l : Stated) : Type 0 where
+pub record IsLanguageStated (name bytes : List ℕ) (l : Stated) : Type 0 where
   pub whole : Language
-  pub states : States name bytes whole
+  pub states : IsLanguageIn name bytes whole
   pub fit : IsLanguage whole
   pub language : l.language ≡ language_data whole
   pub stems : l.stems ≡ whole.metas.stems.items
@@ -46,12 +46,12 @@ pub record IsStated (name bytes : List ℕ) (l : Stated) : Type 0 where
 -- the bytes are refused under this name
 pub record IsStopped (name bytes : List ℕ) (stop : Stop) : Type 0 where
   pub error : NotationError
-  pub refused : IsRefused name bytes error
+  pub refused : IsLanguageTextRefused name bytes error
   pub is : language_stop (language_file name) error ≡ Some stop
 
 -- the language that the bytes state, or their refusal
 abbrev pub StatesLanguage : List ℕ → List ℕ → Result Stated Stop → Type 0
-StatesLanguage name bytes (Ok l) = IsStated name bytes l
+StatesLanguage name bytes (Ok l) = IsLanguageStated name bytes l
 StatesLanguage name bytes (Err stop) = IsStopped name bytes stop
 
 -- the language in the file
@@ -61,5 +61,5 @@ ReadsLanguage name files = Then (Held most_bytes (language_file name) files) (St
 -- some text of at most so many bytes as a file may have states the language under this name
 pub record HasText (name : List ℕ) (l : Language) : Type 0 where
   pub bytes : List ℕ
-  pub states : States name bytes l
+  pub states : IsLanguageIn name bytes l
   pub short : length bytes ≤ most_bytes

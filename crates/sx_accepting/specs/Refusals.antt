@@ -20,7 +20,7 @@ use Rattle.sx_rewrite.specs.declared.ext_rule.ExtRule.{ExtRule as ExtRuleOf}
 use Rattle.sx_rewrite.specs.declared.extension_data.ExtensionData.{ExtensionData}
 use Rattle.sx_rewrite.specs.Accepted.{extended_rules, IsAccepted}
 use Rattle.sx_rewrite.specs.AcceptedView.{accepted, signature}
-use Rattle.sx_rewrite.specs.Extensions.{Fits}
+use Rattle.sx_rewrite.specs.Extensions.{FitsRules}
 use Rattle.sx_rewrite.specs.ExtensionView.{ext_rule, named_rules}
 use Rattle.sx_rewrite.specs.PlainRules.{plain_of}
 use Rattle.sx_rewrite.specs.Stored.{ArePlain}
@@ -29,19 +29,19 @@ use Rattle.sx_extcheck.specs.declared.accept_error.AcceptError.TheVariants.{Rule
 use Rattle.sx_extcheck.specs.declared.budgets.Budgets.{Budgets}
 use Rattle.sx_extcheck.specs.declared.rule_refusal.RuleRefusal.{RuleRefusal}
 use Rattle.sx_extcheck.specs.declared.rule_refusal.RuleRefusal.TheVariants.{Rejected}
-use Rattle.sx_extcheck.specs.Accepts.{check_for, AreChecked}
+use Rattle.sx_extcheck.specs.Accepts.{check_for, AreRulesChecked}
 use Rattle.sx_extcheck.specs.Agree.{defect_as_data}
 use Rattle.sx_extcheck.specs.Checks.{IsRefusedFor}
 use Rattle.sx_extcheck.specs.CheckView.{check_with, CanCheck}
 use Rattle.sx_extcheck.specs.FlatTerms.{listed_term}
 use Rattle.sx_extension.specs.declared.extension.ReadExtension.{ReadExtension}
 use Rattle.sx_extension.specs.Grounds.{Ground, IsBefore}
-use Rattle.sx_extension.specs.States.{States}
+use Rattle.sx_extension.specs.States.{IsExtensionIn}
 use Rattle.sx_stuck.specs.StuckGoals.{IsSortedBlame}
 use Rattle.sx_accepting.specs.AcceptanceStops.{Refusing, CanTellError, acceptance_stop}
 
 -- the set is accepted, and its base rules and its plain rules are rule sets
-pub record IsKept (set : AcceptedOf) : Type 0 where
+pub record IsAcceptedSet (set : AcceptedOf) : Type 0 where
   pub held : IsAccepted (signature set) (shapes_in set.base) (shapes_in set.rules)
       (accepted set)
   pub base : IsRuleSet (shapes_in set.base) (forms_in set.base) (rules_in set.base)
@@ -62,14 +62,15 @@ pub record CanAccept (set : AcceptedOf) (all : List Shape) (ext : ExtensionData)
       ext.rules.items
   pub few : AllByRecursion (λ e. length e.rule.premises.items < 2 ^ 32) ext.rules.items
   pub labels : ext.plain.base ≡ set.plain.base
-  pub fits : Fits (signature set) (shapes_in set.base) (shapes_in set.rules) all
+  pub fits : FitsRules (signature set) (shapes_in set.base) (shapes_in set.rules) all
       (table_of set.plain) (table_of ext.plain) (map ext_rule ext.rules.items)
 
 -- the stuck goal of a rule that is not sound is well sorted by the shapes of the extension, under
 -- the sorts of the rule's variables, and no deeper than 1,000
 abbrev pub RejectedGoalsAreSorted : Type 0
 RejectedGoalsAreSorted =
-    (set : AcceptedOf) → IsKept set → (plain : PlainTable) (budgets : Budgets) (e : ExtRuleOf) →
+    (set : AcceptedOf) → IsAcceptedSet set → (plain : PlainTable) (budgets : Budgets)
+    (e : ExtRuleOf) →
     (can : CanCheck set plain e) (form : FormData) →
     slice_get (forms_in set.base) e.rule.conclusion.form ≡ Some form →
     (b : BlameOf) → IsRefusedFor (check_with set plain budgets) (ext_rule e) (Rejected b) →
@@ -95,11 +96,11 @@ refusing_in g set x = record {
 -- so it can be told why an extension that was read is not accepted
 abbrev pub RefusedExtensionsCanBeTold : Type 0
 RefusedExtensionsCanBeTold =
-    (set : AcceptedOf) → IsKept set →
-    (g : Ground) (bytes : Text) (x : ReadExtension) → IsBefore g → States g bytes x →
+    (set : AcceptedOf) → IsAcceptedSet set →
+    (g : Ground) (bytes : Text) (x : ReadExtension) → IsBefore g → IsExtensionIn g bytes x →
     g.forms ≡ forms_in set.base → CanAccept set (shapes_of x.grammar.parts) x.extension →
     (budgets : Budgets) (count : ℕ) (error : AcceptError) →
-    AreChecked (check_for set x.extension budgets) x.extension.rules.items count (Err error) →
+    AreRulesChecked (check_for set x.extension budgets) x.extension.rules.items count (Err error) →
     CanTellError (refusing_in g set x) error
 
 -- the stop of a rule that is refused depends on the stuck goal as plain data alone

@@ -6,7 +6,7 @@ ghost use Rattle.sx_grammar.specs.Told.{shapes_of};
 ghost use Rattle.sx_steps.specs.Stop.{Does, IsNoFault, Gives};
 ghost use Rattle.sx_accepting.specs.AcceptanceStops.{CanTellError};
 ghost use Rattle.sx_accepting.specs.ExtendedLanguages.{base_of, extended_data};
-ghost use Rattle.sx_accepting.specs.Extending.{read_data, Accepts, WasRead, GoesOnBy, IsToldBy};
+ghost use Rattle.sx_accepting.specs.Extending.{read_data, Accepts, WasRead, GoesOnBy, IsStopToldBy};
 ghost use Rattle.sx_accepting.specs.Extending.{refusing_after};
 
 use crate::acceptance_stops::bad_acceptance;
@@ -34,7 +34,7 @@ fn refusal(
 ) -> StepError
     requires { CanTellError (refusing_after given.now.language.now grammar.now refused.set
         names.now vars.now) refused.error }
-    ensures told { IsToldBy name.now (refusing_after given.now.language.now grammar.now
+    ensures told { IsStopToldBy name.now (refusing_after given.now.language.now grammar.now
         refused.set names.now vars.now) refused.error result }
 {
     let Refused { set, error } = refused;

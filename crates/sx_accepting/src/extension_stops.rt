@@ -60,7 +60,7 @@ fn bad_plain(alloc: Global, file: &Text, label: Text, error: PlainDefect) -> Res
 
 /// A defect of the rule with this name.
 fn of_rule(alloc: Global, file: &Text, name: Text, what: ExtensionDefect) -> Result<Stop, NoMemory>
-    ensures { IfOk result (λ stop. stop ≡ stops.of_rule file.now name what) }
+    ensures { IfOk result (λ stop. stop ≡ stops.extension_rule_stop file.now name what) }
 {
     refused_at(alloc, file, Position::Rule(name), Defect::Extension(what))
 }

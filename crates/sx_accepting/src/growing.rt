@@ -4,10 +4,10 @@ ghost use Rattle.std.specs.Prelude.{◌≡◌, ◌≤◌, ℕ, List, length, map
 ghost use Rattle.std.specs.List.{AllByRecursion};
 ghost use Rattle.sx_notation.specs.Language.{IsLanguage, language_data};
 ghost use Rattle.sx_steps.specs.Stop.{Does, IsNoFault};
-ghost use Rattle.sx_uses.specs.ExtensionFile.{extension_of, extension_file, IsStated};
+ghost use Rattle.sx_uses.specs.ExtensionFile.{extension_of, extension_file, IsHeaderStated};
 ghost use Rattle.sx_accepting.specs.ExtendedLanguages.{base_of, extended_data, unextended};
 ghost use Rattle.sx_accepting.specs.ExtendedLanguages.{CanExtendBy};
-ghost use Rattle.sx_accepting.specs.Extending.{ExtendsBy, Extends, GoesOnBy};
+ghost use Rattle.sx_accepting.specs.Extending.{ExtendsBy, ExtendsLanguage, GoesOnBy};
 ghost use Rattle.sx_accepting.specs.ReadLanguage.{HasText};
 ghost use Rattle.sx_term.specs.Limits.{most_bytes};
 
@@ -86,9 +86,9 @@ pub fn extend_language<L: Ledger>(
 ) -> Result<Extended, StepError>
     requires language { IsLanguage language.now }
     requires text { (name : List ℕ) × HasText name language.now }
-    requires files { AllByRecursion IsStated (map extension_of files.now) }
+    requires files { AllByRecursion IsHeaderStated (map extension_of files.now) }
     requires few { length files.now ≤ 256 }
-    ensures step { Does (extended_data language.now) (Extends (base_of language.now) budgets
+    ensures step { Does (extended_data language.now) (ExtendsLanguage (base_of language.now) budgets
         (map extension_of files.now) (unextended (language_data language.now))) result
         steps.old steps.new }
     ensures can { IfOk result (λ x. CanExtendBy language.now x 0) }

@@ -1,11 +1,7 @@
 //! What is proved of languages with extensions.
 
-ghost use Rattle.sx_accepting.specs.Refusals.{
-  IsKept,
-  RejectedGoalsAreSorted,
-  RefusedExtensionsCanBeTold,
-  RefusedRulesStopAlike,
-};
+ghost use Rattle.sx_accepting.specs.Refusals.{IsAcceptedSet, RejectedGoalsAreSorted};
+ghost use Rattle.sx_accepting.specs.Refusals.{RefusedExtensionsCanBeTold, RefusedRulesStopAlike};
 ghost use Rattle.sx_accepting.specs.Laws.{ExtendedIsAccepted, LanguagesAgree, ExtendsAgree};
 ghost use Rattle.sx_accepting.specs.Laws.{UnsoundIsFinal};
 
@@ -13,7 +9,7 @@ use sx_rewrite::Accepted;
 
 /// What holds of every accepted set and of its rule sets.
 pub fn kept(set: &Accepted)
-    ensures { IsKept set.now }
+    ensures { IsAcceptedSet set.now }
 {
     set.facts();
     set.base_rules().facts();

@@ -3,7 +3,7 @@
 ghost use Rattle.std.specs.Prelude.{◌≡◌, ◌≤◌, IfOk, length};
 ghost use Rattle.sx_extension.specs.Fitting.{FitsAfter};
 ghost use Rattle.sx_extension.specs.Grounds.{IsBefore};
-ghost use Rattle.sx_extension.specs.States.{States};
+ghost use Rattle.sx_extension.specs.States.{IsExtensionIn};
 ghost use Rattle.sx_steps.specs.Stop.{Gives, IsNoFault};
 ghost use Rattle.sx_uses.specs.ExtensionFile.{extension_of, extension_file};
 ghost use Rattle.sx_accepting.specs.ExtendedLanguages.{base_of, extended_data, ground_after};
@@ -32,7 +32,7 @@ pub(crate) fn read_next(
     ensures step { Gives read_data (ReadsAfter (base_of given.now.language.now)
         (extended_data given.now.language.now so_far.now) (extension_of file.now)) result }
     ensures stated { IfOk result
-        (States (ground_after given.now.language.now so_far.now) file.now.bytes.items) }
+        (IsExtensionIn (ground_after given.now.language.now so_far.now) file.now.bytes.items) }
     ensures fits { IfOk result (FitsAfter (ground_after given.now.language.now so_far.now)) }
     ensures no_fault { IsNoFault result }
 {

@@ -9,13 +9,15 @@ use Rattle.std.proofs.lemmas.Bool.{cases_lt}
 use Rattle.sx_term.specs.declared.lex_kind.LexKind.{LexKind}
 use Rattle.sx_term.specs.declared.lex_kind.LexKind.TheVariants.{Id, Num, Str}
 use Rattle.sx_term.specs.contracts.lex_kind.LexKindPartialEq.TheImpl.{eq-value as kind_eq}
-use Rattle.sx_term.specs.Tree.{Tree, node, lexeme, hole, none, forest, depth_of, size_of, greatest_depth, total_size}
+use Rattle.sx_term.specs.Tree.{Tree, node, lexeme, hole, none, forest, depth_of, size_of}
+use Rattle.sx_term.specs.Tree.{greatest_depth, total_size}
 use Rattle.sx_arena.specs.declared.arena.Cell.{Cell}
 use Rattle.sx_arena.specs.declared.shape.Shape.{Shape}
 use Rattle.sx_arena.specs.declared.shape.Shape.TheVariants.{Node, Lex, Var}
 use Rattle.sx_arena.specs.contracts.shape.ShapePartialEq.TheImpl.{eq-value as shape_eq}
-use Rattle.sx_arena.specs.Grown.{Extends, grown_from, Fits}
-use Rattle.sx_arena.specs.Arena.{tree_at, shape_tree, AreBelow, KidsBelow, cell_tree, IsCell, IsNewCell, cell_trees, IsPlace, IsRead}
+use Rattle.sx_arena.specs.Grown.{Extends, grown_from, CellsFit}
+use Rattle.sx_arena.specs.Arena.{tree_at, shape_tree, AreBelow, KidsBelow, cell_tree, IsCell}
+use Rattle.sx_arena.specs.Arena.{IsNewCell, cell_trees, IsTermPlace, IsCellRead}
 use Rattle.sx_arena.specs.Hashed.{is_node_of}
 use Rattle.sx_arena.specs.Found.{cell_at, shape_at, IsFind}
 use Rattle.sx_arena.proofs.Growing.{extends-length, extends-at, grown_from-one, grown-length, fits-one, grown-at}
@@ -140,11 +142,11 @@ distinct_one ts c d n i j a b e =
     go (inr x) (inl y) = absurd (n.new j y.0 (sym y.1 ∙ sym e ∙ x.1))
     go (inr x) (inr y) = x.0 ∙ sym y.0
 
-distinct_from : (ts : List Tree) (cs : List Cell) → Distinct ts → Fits cell_tree IsNewCell ts cs → Distinct (grown_from cell_tree ts cs)
+distinct_from : (ts : List Tree) (cs : List Cell) → Distinct ts → CellsFit cell_tree IsNewCell ts cs → Distinct (grown_from cell_tree ts cs)
 distinct_from ts [] d h = d
 distinct_from ts (c ∷ cs) d h = distinct_from (ts ++ cell_tree ts c ∷ []) cs (distinct_one ts c d h.0) h.1
 
-pub distinct : (cs : List Cell) → Fits cell_tree IsNewCell [] cs → Distinct (cell_trees cs)
+pub distinct : (cs : List Cell) → CellsFit cell_tree IsNewCell [] cs → Distinct (cell_trees cs)
 distinct cs h = distinct_from [] cs (λ i j a b e. absurd (omega arith)) h
 
 -- terms that come later change nothing
@@ -176,7 +178,7 @@ cell_later ts us x c h =
     }
 
 -- what stands at a number
-pub cell_read : (cs : List Cell) → Fits cell_tree IsNewCell [] cs → (i : ℕ) (c : Cell) → i < length cs → c ≡ get_or cs i c → IsRead (cell_trees cs) i c
+pub cell_read : (cs : List Cell) → CellsFit cell_tree IsNewCell [] cs → (i : ℕ) (c : Cell) → i < length cs → c ≡ get_or cs i c → IsCellRead (cell_trees cs) i c
 cell_read cs h i c l e =
     let r = grown-at cell_tree IsNewCell cs h i c (node 0 none) l e in
     let a : IsCell r.0 c = r.1.cell in
@@ -187,13 +189,13 @@ cell_read cs h i c l e =
 
 -- the cells after one is put
 pub record Put (old new : List Cell) (c : Cell) (i : ℕ) : Type 0 where
-  pub arena : Fits cell_tree IsNewCell [] new
+  pub arena : CellsFit cell_tree IsNewCell [] new
   pub extends : Extends (cell_trees old) (cell_trees new)
   pub within : i < length (cell_trees new)
   pub is : tree_at (cell_trees new) i ≡ cell_tree (cell_trees old) c
 
 -- a new cell is put behind the others
-pub add_new : (old new : List Cell) (c : Cell) (i : ℕ) → Fits cell_tree IsNewCell [] old → IsNewCell (cell_trees old) c → new ≡ old ++ c ∷ [] → i ≡ length old → Put old new c i
+pub add_new : (old new : List Cell) (c : Cell) (i : ℕ) → CellsFit cell_tree IsNewCell [] old → IsNewCell (cell_trees old) c → new ≡ old ++ c ∷ [] → i ≡ length old → Put old new c i
 add_new old new c i h n e m =
     let f : cell_trees (old ++ c ∷ []) ≡ cell_trees old ++ cell_tree (cell_trees old) c ∷ [] = grown_from-one cell_tree [] old c in
     let g = grown-length cell_tree old in
@@ -208,14 +210,14 @@ add_new old new c i h n e m =
     })
 
 -- what is found of the cells is so of the terms
-module _ (cs : List Cell) (h : Fits cell_tree IsNewCell [] cs) where
-  read_at : (i : ℕ) → i < length cs → IsRead (cell_trees cs) i (cell_at cs i)
+module _ (cs : List Cell) (h : CellsFit cell_tree IsNewCell [] cs) where
+  read_at : (i : ℕ) → i < length cs → IsCellRead (cell_trees cs) i (cell_at cs i)
   read_at i l = cell_read cs h i (cell_at cs i) l (get_or_default cs i _ (cell_at cs i) l)
 
   place_from : (wanted : Shape → Bool) (t : Tree) →
       ((s : Shape) → KidsBelow (length (cell_trees cs)) s → wanted s ≡ true → shape_tree (cell_trees cs) s ≡ t) →
       ((s : Shape) → KidsBelow (length (cell_trees cs)) s → shape_tree (cell_trees cs) s ≡ t → wanted s ≡ true) →
-      (r : Option ℕ) → IsFind wanted cs r → IsPlace (cell_trees cs) t r
+      (r : Option ℕ) → IsFind wanted cs r → IsTermPlace (cell_trees cs) t r
   place_from wanted t f g None n = λ i l e.
       let m : i < length cs = (let q = grown-length cell_tree cs in omega arith) in
       let r = read_at i m in
@@ -224,12 +226,12 @@ module _ (cs : List Cell) (h : Fits cell_tree IsNewCell [] cs) where
       let r = read_at i p.0 in
       ((let q = grown-length cell_tree cs in let l = p.0 in omega arith), r.tree ∙ f (shape_at cs i) r.cell.kids p.1)
 
-  pub place_of_cell : (c : Cell) → IsCell (cell_trees cs) c → (r : Option ℕ) → IsFind (shape_eq.it c.shape) cs r → IsPlace (cell_trees cs) (cell_tree (cell_trees cs) c) r
+  pub place_of_cell : (c : Cell) → IsCell (cell_trees cs) c → (r : Option ℕ) → IsFind (shape_eq.it c.shape) cs r → IsTermPlace (cell_trees cs) (cell_tree (cell_trees cs) c) r
   place_of_cell c a = place_from (shape_eq.it c.shape) (cell_tree (cell_trees cs) c)
       (λ s b w. sym (shapes_eq (cell_trees cs) c.shape s w))
       (λ s b e. shapes_same (cell_trees cs) (distinct cs h) c.shape s a.kids b (sym e))
 
-  pub place_of_node : (label : ℕ) (is : List ℕ) → AreBelow (length (cell_trees cs)) is → (r : Option ℕ) → IsFind (is_node_of label is) cs r → IsPlace (cell_trees cs) (node label (forest (map (tree_at (cell_trees cs)) is))) r
+  pub place_of_node : (label : ℕ) (is : List ℕ) → AreBelow (length (cell_trees cs)) is → (r : Option ℕ) → IsFind (is_node_of label is) cs r → IsTermPlace (cell_trees cs) (node label (forest (map (tree_at (cell_trees cs)) is))) r
   place_of_node label is a = place_from (is_node_of label is) (node label (forest (map (tree_at (cell_trees cs)) is)))
       (λ s b w. node_is (cell_trees cs) label is s w)
       (λ s b e. is_node (cell_trees cs) (distinct cs h) label is a s b e)
@@ -239,10 +241,10 @@ below_at n [] a i k h e = absurd (omega arith)
 below_at n (j ∷ is) a zero k h e = let b = a.0 in omega arith
 below_at n (j ∷ is) a (suc i) k h e = below_at n is a.1 i k (omega arith) e
 
-pub depth_read : (ts : List Tree) (i : ℕ) (c : Cell) → IsRead ts i c → c.depth ≡ min (depth_of (tree_at ts i)) (2 ^ 64 - 1)
+pub depth_read : (ts : List Tree) (i : ℕ) (c : Cell) → IsCellRead ts i c → c.depth ≡ min (depth_of (tree_at ts i)) (2 ^ 64 - 1)
 depth_read ts i c r = r.cell.depth ∙ ap (λ t. min (depth_of t) (2 ^ 64 - 1)) (sym r.tree)
 
-pub size_read : (ts : List Tree) (i : ℕ) (c : Cell) → IsRead ts i c → c.size ≡ min (size_of (tree_at ts i)) (2 ^ 64 - 1)
+pub size_read : (ts : List Tree) (i : ℕ) (c : Cell) → IsCellRead ts i c → c.size ≡ min (size_of (tree_at ts i)) (2 ^ 64 - 1)
 size_read ts i c r = r.cell.size ∙ ap (λ t. min (size_of t) (2 ^ 64 - 1)) (sym r.tree)
 
 pub below_zero : (n : ℕ) (is : List ℕ) → AreBelow n is → (i : ℕ) → i < length is → get_or is i 0 < n

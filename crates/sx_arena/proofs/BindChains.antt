@@ -4,17 +4,17 @@ use Rattle.std.specs.Prelude.{nat_eq, take}
 use Rattle.std.proofs.lemmas.Bool.Decides.{Decides-eqb}
 use Rattle.std.proofs.lemmas.List.{length_push, get_or_push}
 use Rattle.sx_term.specs.Tree.{Tree, node, none}
-use Rattle.sx_arena.specs.Matching.{Assignment, unbound, bind}
+use Rattle.sx_arena.specs.Matching.{Assignment, nothing_bound, bind}
 use Rattle.sx_arena.specs.declared.binds.Bind.{Bind}
 use Rattle.sx_arena.specs.declared.binds.Binds.{Binds}
-use Rattle.sx_arena.specs.Grown.{Extends, grown_from, Fits}
+use Rattle.sx_arena.specs.Grown.{Extends, grown_from, CellsFit}
 use Rattle.sx_arena.specs.Arena.{tree_at}
-use Rattle.sx_arena.specs.Binds.{env_at, bind_step, BindFits, envs, IsBinds, BindsGrow, IsFound}
+use Rattle.sx_arena.specs.Binds.{env_at, bind_step, BindFits, envs, IsBinds, BindsGrow, IsBoundTerm}
 use Rattle.sx_arena.proofs.Growing.{extends-same, extends-then, extends-length, extends-at, grown_from-one, grown_from-append, grown_from-extends, grown-length, fits-one, grown-at, grown-same}
 
 pub env_stays : (es fs : List Assignment) → Extends es fs → (i : ℕ) → i ≤ length es → env_at fs i ≡ env_at es i
 env_stays es fs x zero h = refl
-env_stays es fs x (suc i) h = extends-at es fs x i unbound (omega arith)
+env_stays es fs x (suc i) h = extends-at es fs x i nothing_bound (omega arith)
 
 pub bind_same : (env : Assignment) (v w : ℕ) (t : Tree) → v ≡ w → bind env v t w ≡ Some t
 bind_same env v w t e = go (nat_eq w v) refl
@@ -39,7 +39,7 @@ pub record BindRead (ts : List Tree) (es : List Assignment) (here : ℕ) (c : Bi
 
 bind_read_at : (ts : List Tree) (b : Binds) → IsBinds ts b → (i : ℕ) (c : Bind) → i < length b.cells.items → c ≡ get_or b.cells.items i c → BindRead ts (envs ts b) (suc i) c
 bind_read_at ts b h i c l e =
-    let r = grown-at (bind_step ts) (BindFits ts) b.cells.items h i c unbound l e in
+    let r = grown-at (bind_step ts) (BindFits ts) b.cells.items h i c nothing_bound l e in
     let front = r.0 in
     let p = r.1 in
     let n : length front ≡ i = r.2 in
@@ -57,7 +57,7 @@ bind_read ts b h here c p l e =
     let f : suc (here - 1) ≡ here = omega arith in
     subst (λ (n : ℕ). BindRead ts (envs ts b) n c) f (bind_read_at ts b h (here - 1) c (omega arith) e)
 
-pub found_here : (ts : List Tree) (b : Binds) → IsBinds ts b → (here v : ℕ) (c : Bind) → 0 < here → here ≤ length b.cells.items → c ≡ get_or b.cells.items (here - 1) c → c.variable ≡ v → IsFound ts (env_at (envs ts b) here v) (Some c.term)
+pub found_here : (ts : List Tree) (b : Binds) → IsBinds ts b → (here v : ℕ) (c : Bind) → 0 < here → here ≤ length b.cells.items → c ≡ get_or b.cells.items (here - 1) c → c.variable ≡ v → IsBoundTerm ts (env_at (envs ts b) here v) (Some c.term)
 found_here ts b h here v c p l e f =
     let r = bind_read ts b h here c p l e in
     (r.term, ap (λ (env : Assignment). env v) r.env ∙ bind_same (env_at (envs ts b) c.before) c.variable v (tree_at ts c.term) f)
@@ -96,11 +96,11 @@ binds_one ts old new c h t l e =
     let k : length old.cells.items + 1 ≡ suc (length old.cells.items) = omega arith in
     let m = ap length e ∙ length_push old.cells.items c in (
       record {
-        binds = subst (λ (x : List Bind). Fits (bind_step ts) (BindFits ts) [] x) (sym e) (fits-one (bind_step ts) (BindFits ts) [] old.cells.items c h p);
+        binds = subst (λ (x : List Bind). CellsFit (bind_step ts) (BindFits ts) [] x) (sym e) (fits-one (bind_step ts) (BindFits ts) [] old.cells.items c h p);
         cells = (c ∷ [], e);
         extends = (bind_step ts (envs ts old) c ∷ [], f);
       },
-      ap (env_at (envs ts new)) k ∙ ap (λ es. get_or es (length old.cells.items) unbound) f ∙ get_or_push (envs ts old) (bind_step ts (envs ts old) c) unbound (length old.cells.items) n,
+      ap (env_at (envs ts new)) k ∙ ap (λ es. get_or es (length old.cells.items) nothing_bound) f ∙ get_or_push (envs ts old) (bind_step ts (envs ts old) c) nothing_bound (length old.cells.items) n,
       (omega arith),
     )
 
@@ -109,7 +109,7 @@ take_drop zero xs = refl
 take_drop (suc n) [] = refl
 take_drop (suc n) (x ∷ xs) = ap (λ ys. x ∷ ys) (take_drop n xs)
 
-fits_front : {C V : Type 0} (step : List V → C → V) (P : List V → C → Type 0) (vs : List V) (cs ds : List C) → Fits step P vs (cs ++ ds) → Fits step P vs cs
+fits_front : {C V : Type 0} (step : List V → C → V) (P : List V → C → Type 0) (vs : List V) (cs ds : List C) → CellsFit step P vs (cs ++ ds) → CellsFit step P vs cs
 fits_front step P vs [] ds h = tt
 fits_front step P vs (c ∷ cs) ds h = (h.0, fits_front step P (vs ++ step vs c ∷ []) cs ds h.1)
 
@@ -117,9 +117,9 @@ fits_front step P vs (c ∷ cs) ds h = (h.0, fits_front step P (vs ++ step vs c 
 pub binds_cut : (old new : Binds) (n : ℕ) → new.cells.items ≡ take n old.cells.items → (ts : List Tree) → IsBinds ts old → IsBinds ts new × Extends (envs ts new) (envs ts old)
 binds_cut old new n e ts h =
     let cs = old.cells.items in
-    let f = fits_front (bind_step ts) (BindFits ts) [] (take n cs) (drop n cs) (subst (λ (ds : List Bind). Fits (bind_step ts) (BindFits ts) [] ds) (take_drop n cs) h) in
+    let f = fits_front (bind_step ts) (BindFits ts) [] (take n cs) (drop n cs) (subst (λ (ds : List Bind). CellsFit (bind_step ts) (BindFits ts) [] ds) (take_drop n cs) h) in
     let g = ap (λ (ds : List Bind). grown_from (bind_step ts) [] ds) (take_drop n cs) ∙ grown_from-append (bind_step ts) [] (take n cs) (drop n cs) in
     let x = subst (λ (ys : List Assignment). Extends (grown_from (bind_step ts) [] (take n cs)) ys) (sym g) (grown_from-extends (bind_step ts) (grown_from (bind_step ts) [] (take n cs)) (drop n cs)) in (
-      subst (λ (ds : List Bind). Fits (bind_step ts) (BindFits ts) [] ds) (sym e) f,
+      subst (λ (ds : List Bind). CellsFit (bind_step ts) (BindFits ts) [] ds) (sym e) f,
       subst (λ (ds : List Bind). Extends (grown_from (bind_step ts) [] ds) (envs ts old)) (sym e) x,
     )

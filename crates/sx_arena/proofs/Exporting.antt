@@ -10,8 +10,8 @@ use Rattle.sx_arena.specs.Matching.{Assignment, value_or, filled}
 use Rattle.sx_arena.specs.Limits.{first_values}
 use Rattle.sx_arena.specs.declared.arena.Cell.{Cell}
 use Rattle.sx_arena.specs.declared.shape.Shape.TheVariants.{Node as Branch}
-use Rattle.sx_arena.specs.Arena.{SmallVec, tree_at, shape_tree, AreBelow, KidsBelow, IsRead}
-use Rattle.sx_arena.specs.Binds.{IsFound}
+use Rattle.sx_arena.specs.Arena.{SmallVec, tree_at, shape_tree, AreBelow, KidsBelow, IsCellRead}
+use Rattle.sx_arena.specs.Binds.{IsBoundTerm}
 
 depth_in : (ts : List Tree) (is : List ℕ) (k i : ℕ) → k < length is → i ≡ get_or is k 0 → depth_of (tree_at ts i) ≤ greatest_depth (forest (map (tree_at ts) is))
 depth_in ts [] k i h e = absurd (omega arith)
@@ -19,7 +19,7 @@ depth_in ts (x ∷ is) zero i h e = let f = ap (λ y. depth_of (tree_at ts y)) e
 depth_in ts (x ∷ is) (suc k) i h e = let r = depth_in ts is k i (omega arith) e in omega arith
 
 -- a kid is less deep than its node
-pub kid_less : (ts : List Tree) (index label : ℕ) (c : Cell) (kids : SmallVec ℕ) (is : List ℕ) (k i : ℕ) → IsRead ts index c → c.shape ≡ Branch label kids → is ≡ kids.items → k < length is → i ≡ get_or is k 0 →
+pub kid_less : (ts : List Tree) (index label : ℕ) (c : Cell) (kids : SmallVec ℕ) (is : List ℕ) (k i : ℕ) → IsCellRead ts index c → c.shape ≡ Branch label kids → is ≡ kids.items → k < length is → i ≡ get_or is k 0 →
     depth_of (tree_at ts i) < depth_of (tree_at ts index)
 kid_less ts index label c kids is k i r e f h g =
     let a : tree_at ts index ≡ node label (forest (map (tree_at ts) is)) = r.tree ∙ ap (shape_tree ts) e ∙ ap (λ xs. node label (forest (map (tree_at ts) xs))) (sym f) in
@@ -27,7 +27,7 @@ kid_less ts index label c kids is k i r e f h g =
     let d = depth_in ts is k i h g in
     omega arith
 
-pub kid_within : (ts : List Tree) (index label : ℕ) (c : Cell) (kids : SmallVec ℕ) (is : List ℕ) (k i : ℕ) → IsRead ts index c → c.shape ≡ Branch label kids → is ≡ kids.items → k < length is → i ≡ get_or is k 0 → i < length ts
+pub kid_within : (ts : List Tree) (index label : ℕ) (c : Cell) (kids : SmallVec ℕ) (is : List ℕ) (k i : ℕ) → IsCellRead ts index c → c.shape ≡ Branch label kids → is ≡ kids.items → k < length is → i ≡ get_or is k 0 → i < length ts
 kid_within ts index label c kids is k i r e f h g = among is k (subst (λ xs. AreBelow (length ts) xs) (sym f) (subst (KidsBelow (length ts)) e r.cell.kids)) h g
   where
     among : (is : List ℕ) (k : ℕ) → AreBelow (length ts) is → k < length is → i ≡ get_or is k 0 → i < length ts
@@ -35,7 +35,7 @@ kid_within ts index label c kids is k i r e f h g = among is k (subst (λ xs. Ar
     among (x ∷ is) zero b h g = (let z = b.0 in omega arith)
     among (x ∷ is) (suc k) b h g = among is k b.1 (omega arith) g
 
-pub exported_node : (ts : List Tree) (index label : ℕ) (c : Cell) (kids : SmallVec ℕ) (is : List ℕ) (k : ℕ) (parts : Vec Term Global) → IsRead ts index c → c.shape ≡ Branch label kids → is ≡ kids.items → length is ≤ k →
+pub exported_node : (ts : List Tree) (index label : ℕ) (c : Cell) (kids : SmallVec ℕ) (is : List ℕ) (k : ℕ) (parts : Vec Term Global) → IsCellRead ts index c → c.shape ≡ Branch label kids → is ≡ kids.items → length is ≤ k →
     map tree parts.items ≡ map (tree_at ts) (take k is) → tree (Node label parts) ≡ tree_at ts index
 exported_node ts index label c kids is k parts r e f h m =
     tree-at_node (Node label parts) label parts refl
@@ -52,8 +52,8 @@ values_more ts env n terms more t m e f =
     let k : n + 1 ≡ suc n = omega arith in
     ap (map tree) f ∙ map_push tree terms t ∙ (λ i. m i ++ e i ∷ []) ∙ sym (ap (λ (j : ℕ). first_values j (filled env)) k ∙ values_one n (filled env))
 
-pub value_found : (ts : List Tree) (env : Assignment) (n i : ℕ) (t : Term) → IsFound ts (env n) (Some i) → tree t ≡ tree_at ts i → tree t ≡ filled env n
+pub value_found : (ts : List Tree) (env : Assignment) (n i : ℕ) (t : Term) → IsBoundTerm ts (env n) (Some i) → tree t ≡ tree_at ts i → tree t ≡ filled env n
 value_found ts env n i t f e = e ∙ sym (ap (λ (o : Option Tree). value_or o) f.1)
 
-pub value_none : (ts : List Tree) (env : Assignment) (n : ℕ) (t : Term) (kids : Vec Term Global) → IsFound ts (env n) None → kids.items ≡ [] → t ≡ Node 0 kids → tree t ≡ filled env n
+pub value_none : (ts : List Tree) (env : Assignment) (n : ℕ) (t : Term) (kids : Vec Term Global) → IsBoundTerm ts (env n) None → kids.items ≡ [] → t ≡ Node 0 kids → tree t ≡ filled env n
 value_none ts env n t kids f k e = tree-at_node t 0 kids e ∙ ap (λ xs. node 0 (forest (map tree xs))) k ∙ sym (ap (λ (o : Option Tree). value_or o) f)

@@ -3,7 +3,7 @@ use Rattle.std.proofs.Common.{◌≡◌, ℕ, zero, suc, ◌+◌, ◌<◌, ◌�
 use Rattle.std.specs.Prelude.{take, drop}
 use Rattle.std.proofs.Math.Seq.{take-append_seam}
 use Rattle.std.proofs.lemmas.List.{append-nil, get_or_append_left, length-append, length_push, get_or_at, take_all, take-append-drop}
-use Rattle.sx_arena.specs.Grown.{Extends, grown_from, Fits}
+use Rattle.sx_arena.specs.Grown.{Extends, grown_from, CellsFit}
 
 pub extends-same : {V : Type 0} (xs : List V) → Extends xs xs
 extends-same xs = ([], sym (append-nil xs))
@@ -45,12 +45,12 @@ pub grown_from-extends : {C V : Type 0} (step : List V → C → V) (vs : List V
 grown_from-extends step vs [] = extends-same vs
 grown_from-extends step vs (c ∷ cs) = extends-then vs (vs ++ step vs c ∷ []) (grown_from step (vs ++ step vs c ∷ []) cs) (step vs c ∷ [], refl) (grown_from-extends step (vs ++ step vs c ∷ []) cs)
 
-pub fits-one : {C V : Type 0} (step : List V → C → V) (P : List V → C → Type 0) (vs : List V) (cs : List C) (c : C) → Fits step P vs cs → P (grown_from step vs cs) c → Fits step P vs (cs ++ c ∷ [])
+pub fits-one : {C V : Type 0} (step : List V → C → V) (P : List V → C → Type 0) (vs : List V) (cs : List C) (c : C) → CellsFit step P vs cs → P (grown_from step vs cs) c → CellsFit step P vs (cs ++ c ∷ [])
 fits-one step P vs [] c h p = (p, tt)
 fits-one step P vs (d ∷ cs) c h p = (h.0, fits-one step P (vs ++ step vs d ∷ []) cs c h.1 p)
 
 -- a cell, and the values before it
-pub fits-at : {C V : Type 0} (step : List V → C → V) (P : List V → C → Type 0) (vs : List V) (cs : List C) → Fits step P vs cs → (i : ℕ) (c : C) → i < length cs → c ≡ get_or cs i c →
+pub fits-at : {C V : Type 0} (step : List V → C → V) (P : List V → C → Type 0) (vs : List V) (cs : List C) → CellsFit step P vs cs → (i : ℕ) (c : C) → i < length cs → c ≡ get_or cs i c →
     (front : List V) × P front c × (length front ≡ length vs + i) × Extends (front ++ step front c ∷ []) (grown_from step vs cs)
 fits-at step P vs [] h i c l e = absurd (omega arith)
 fits-at {C} {V} step P vs (d ∷ cs) h zero c l e =
@@ -61,7 +61,7 @@ fits-at {C} {V} step P vs (d ∷ cs) h (suc i) c l e =
     (r.0, r.1, (let k = r.2 in omega arith), r.3)
 
 -- the value of a cell
-pub grown-at : {C V : Type 0} (step : List V → C → V) (P : List V → C → Type 0) (cs : List C) → Fits step P [] cs → (i : ℕ) (c : C) (d : V) → i < length cs → c ≡ get_or cs i c →
+pub grown-at : {C V : Type 0} (step : List V → C → V) (P : List V → C → Type 0) (cs : List C) → CellsFit step P [] cs → (i : ℕ) (c : C) (d : V) → i < length cs → c ≡ get_or cs i c →
     (front : List V) × P front c × (length front ≡ i) × Extends front (grown_from step [] cs) × (get_or (grown_from step [] cs) i d ≡ step front c)
 grown-at step P cs h i c d l e =
     let r = fits-at step P [] cs h i c l e in
@@ -73,12 +73,12 @@ grown-at step P cs h i c d l e =
 
 -- where another step does the same at cells that fit
 pub grown-same : {C V : Type 0} (step other : List V → C → V) (P Q : List V → C → Type 0) → ((vs : List V) (c : C) → P vs c → (step vs c ≡ other vs c) × Q vs c) →
-    (vs : List V) (cs : List C) → Fits step P vs cs → (grown_from other vs cs ≡ grown_from step vs cs) × Fits other Q vs cs
+    (vs : List V) (cs : List C) → CellsFit step P vs cs → (grown_from other vs cs ≡ grown_from step vs cs) × CellsFit other Q vs cs
 grown-same step other P Q same vs [] h = (refl, tt)
 grown-same {C} {V} step other P Q same vs (c ∷ cs) h =
     let s = same vs c h.0 in
     let r = grown-same step other P Q same (vs ++ step vs c ∷ []) cs h.1 in
-    (ap (λ (x : V). grown_from other (vs ++ x ∷ []) cs) (sym s.0) ∙ r.0, (s.1, subst (λ (x : V). Fits other Q (vs ++ x ∷ []) cs) s.0 r.1))
+    (ap (λ (x : V). grown_from other (vs ++ x ∷ []) cs) (sym s.0) ∙ r.0, (s.1, subst (λ (x : V). CellsFit other Q (vs ++ x ∷ []) cs) s.0 r.1))
 
 -- the first cells stand for the first values
 grown_from-take : {C V : Type 0} (step : List V → C → V) (vs : List V) (n : ℕ) (cs : List C) → grown_from step vs (take n cs) ≡ take (length vs + n) (grown_from step vs cs)
@@ -91,7 +91,7 @@ grown_from-take step vs (suc n) (c ∷ cs) =
     let e : length (vs ++ step vs c ∷ []) + n ≡ length vs + suc n = omega arith in
     grown_from-take step (vs ++ step vs c ∷ []) n cs ∙ ap (λ k. take k (grown_from step (vs ++ step vs c ∷ []) cs)) e
 
-fits_from-take : {C V : Type 0} (step : List V → C → V) (P : List V → C → Type 0) (vs : List V) (n : ℕ) (cs : List C) → Fits step P vs cs → Fits step P vs (take n cs)
+fits_from-take : {C V : Type 0} (step : List V → C → V) (P : List V → C → Type 0) (vs : List V) (n : ℕ) (cs : List C) → CellsFit step P vs cs → CellsFit step P vs (take n cs)
 fits_from-take step P vs zero [] h = tt
 fits_from-take step P vs (suc n) [] h = tt
 fits_from-take step P vs zero (c ∷ cs) h = tt
@@ -103,5 +103,5 @@ grown-take {C} {V} step n cs ds e =
     ap (λ (xs : List C). grown_from step [] xs) e ∙ grown_from-take step [] n cs ∙ ap (λ (k : ℕ). take k (grown_from step [] cs)) z
 
 -- and fit as they did
-pub fits-take : {C V : Type 0} (step : List V → C → V) (P : List V → C → Type 0) (n : ℕ) (cs ds : List C) → ds ≡ take n cs → Fits step P [] cs → Fits step P [] ds
-fits-take {C} {V} step P n cs ds e h = subst (λ (xs : List C). Fits step P [] xs) (sym e) (fits_from-take step P [] n cs h)
+pub fits-take : {C V : Type 0} (step : List V → C → V) (P : List V → C → Type 0) (n : ℕ) (cs ds : List C) → ds ≡ take n cs → CellsFit step P [] cs → CellsFit step P [] ds
+fits-take {C} {V} step P n cs ds e h = subst (λ (xs : List C). CellsFit step P [] xs) (sym e) (fits_from-take step P [] n cs h)

@@ -3,7 +3,9 @@ use Rattle.std.specs.Prelude.{nat_eq}
 use Rattle.std.proofs.lemmas.Bool.{eq-eqb}
 use Rattle.sx_term.specs.Tree.{Tree, Trees, node, lexeme, hole, none, ◌▹◌}
 use Rattle.sx_rules.specs.Instances.{instance, instances, Stands, StandsInKids, StandsAmong}
-use Rattle.sx_arena.specs.Matching.{same, Assignment, bind, match_variable, match_when, match_then, match, match_kids, match_all, IsBound, Extends, Agrees}
+use Rattle.sx_arena.specs.Matching.{same, Assignment, bind, match_variable, match_when, match_then}
+use Rattle.sx_arena.specs.Matching.{match, match_kids, match_all, IsBound, ExtendsAssignment}
+use Rattle.sx_arena.specs.Matching.{Agrees}
 use Rattle.sx_arena.proofs.Sameness.{nat_same, same_true, same_self}
 
 pub when_true : (b : Bool) (r : Option Assignment) (env : Assignment) → match_when b r ≡ Some env → (b ≡ true) × (r ≡ Some env)
@@ -35,27 +37,27 @@ bind-other env v t w ne = go (nat_eq w v) refl
 
 -- what a match tells: the bindings stay, just the pattern's variables are added, and the instance is the term
 pub record Matches (p t : Tree) (env more : Assignment) : Type 0 where
-  pub extends : Extends env more
+  pub extends : ExtendsAssignment env more
   pub only : (v : ℕ) → IsBound more v → IsBound env v ⊎ Stands v p
   pub every : (v : ℕ) → Stands v p → IsBound more v
   pub instance_is : (s : ℕ → Tree) → Agrees more s → instance s p ≡ t
 
 pub record MatchesKids (ps ts : Trees) (env more : Assignment) : Type 0 where
-  pub extends : Extends env more
+  pub extends : ExtendsAssignment env more
   pub only : (v : ℕ) → IsBound more v → IsBound env v ⊎ StandsInKids v ps
   pub every : (v : ℕ) → StandsInKids v ps → IsBound more v
   pub instance_is : (s : ℕ → Tree) → Agrees more s → instances s ps ≡ ts
 
 pub record MatchesAll (ps ts : List Tree) (env more : Assignment) : Type 0 where
-  pub extends : Extends env more
+  pub extends : ExtendsAssignment env more
   pub only : (v : ℕ) → IsBound more v → IsBound env v ⊎ StandsAmong v ps
   pub every : (v : ℕ) → StandsAmong v ps → IsBound more v
   pub instance_is : (s : ℕ → Tree) → Agrees more s → map (instance s) ps ≡ ts
 
-pub stays-bound : (env more : Assignment) → Extends env more → (v : ℕ) → IsBound env v → IsBound more v
+pub stays-bound : (env more : Assignment) → ExtendsAssignment env more → (v : ℕ) → IsBound env v → IsBound more v
 stays-bound env more h v (u, e) = (u, h v u e)
 
-pub stays-agreed : (env more : Assignment) (s : ℕ → Tree) → Extends env more → Agrees more s → Agrees env s
+pub stays-agreed : (env more : Assignment) (s : ℕ → Tree) → ExtendsAssignment env more → Agrees more s → Agrees env s
 stays-agreed env more s h a v u e = a v u (h v u e)
 
 variable_matches : (r : Option Tree) (v : ℕ) (t : Tree) (env more : Assignment) → env v ≡ r → match_variable r v t env ≡ Some more → Matches (hole v) t env more

@@ -20,7 +20,7 @@ use Rattle.sx_arena.specs.declared.binds.Binds.{Binds}
 use Rattle.sx_arena.specs.Grown.{Extends}
 use Rattle.sx_arena.specs.Arena.{trees, IsHeld}
 use Rattle.sx_arena.specs.Binds.{envs, env_at, IsBinds}
-use Rattle.sx_arena.specs.Pairs.{IsTold}
+use Rattle.sx_arena.specs.Pairs.{IsTruthTold}
 use Rattle.sx_arena.proofs.Growing.{extends-then, extends-at}
 use Rattle.sx_arena.proofs.BindChains.{envs_stay}
 use Rattle.sx_arena.proofs.Arenas.{Distinct}
@@ -155,7 +155,7 @@ pairs_stay ts us x (p ∷ ps) a =
 pub told : (a b c : Arena) (bs : Binds) (env i j : ℕ) (ps : List Pair) (s t : Tree) (r : Bool) → IsBinds (trees a) bs → ArePairs (length (trees a)) ps →
     IsHeld a b i (instance (filled (env_at (envs (trees a) bs) env)) s) → IsHeld b c j (instance (filled (env_at (envs (trees b) bs) env)) t) →
     r ≡ are_apart (record { judgements = []; pairs = pairs_of (trees c) ps }) (tree_at (trees c) i) (tree_at (trees c) j) →
-    IsTold a c r (are_apart (record { judgements = []; pairs = pairs_of (trees a) ps }) (instance (filled (env_at (envs (trees a) bs) env)) s) (instance (filled (env_at (envs (trees a) bs) env)) t))
+    IsTruthTold a c r (are_apart (record { judgements = []; pairs = pairs_of (trees a) ps }) (instance (filled (env_at (envs (trees a) bs) env)) s) (instance (filled (env_at (envs (trees a) bs) env)) t))
 told a b c bs env i j ps s t r h p x y e =
     let z = extends-then (trees a) (trees b) (trees c) x.extends y.extends in
     let v = envs_stay (trees a) (trees b) x.extends bs h in

@@ -7,7 +7,8 @@ use Rattle.sx_term.specs.Tree.{Tree, Trees, node, hole, ◌▹◌, forest}
 use Rattle.sx_term.specs.declared.term.Term.{Term, Node, Var}
 use Rattle.sx_term.specs.Term.{tree}
 use Rattle.sx_rules.specs.Instances.{instance, instances}
-use Rattle.sx_arena.specs.Matching.{Assignment, same, bind, match, match_kids, match_then, match_when, match_variable, filled}
+use Rattle.sx_arena.specs.Matching.{Assignment, same, bind, match, match_kids, match_then}
+use Rattle.sx_arena.specs.Matching.{match_when, match_variable, filled}
 use Rattle.sx_term.proofs.Kids.{tree-at_node}
 use Rattle.sx_arena.proofs.Sameness.{same_true, same_self}
 use Rattle.sx_arena.specs.declared.arena.Arena.{Arena}
@@ -15,8 +16,9 @@ use Rattle.sx_arena.specs.declared.shape.Shape.{Shape}
 use Rattle.sx_arena.specs.declared.shape.Shape.TheVariants.{Node as Branch}
 use Rattle.sx_arena.specs.declared.binds.Binds.{Binds}
 use Rattle.sx_arena.specs.Grown.{Extends}
-use Rattle.sx_arena.specs.Arena.{SmallVec, trees, tree_at, shape_tree, IsArena, IsHeld, AreBelow, KidsBelow}
-use Rattle.sx_arena.specs.Binds.{envs, env_at, IsBinds, BindsGrow, IsFit}
+use Rattle.sx_arena.specs.Arena.{SmallVec, trees, tree_at, shape_tree, IsArena, IsHeld, AreBelow}
+use Rattle.sx_arena.specs.Arena.{KidsBelow}
+use Rattle.sx_arena.specs.Binds.{envs, env_at, IsBinds, BindsGrow, IsChainFit}
 use Rattle.sx_arena.specs.Places.{AreHeld}
 use Rattle.sx_arena.proofs.Growing.{extends-same, extends-then, extends-length}
 use Rattle.sx_arena.proofs.Arenas.{maps_same, below_more}
@@ -154,7 +156,7 @@ fitting_at ts env kids others i kid other l e g o =
 
 pub fitting_more : (ts : List Tree) (old mid new : Binds) (env last next : ℕ) (kids : List Term) (others : List ℕ) (i : ℕ) (kid : Term) (other : ℕ) →
     Fitting ts old mid env last kids others i → i < length kids → length kids ≡ length others → kid ≡ get_or kids i kid → other ≡ get_or others i other →
-    BindsGrow ts mid new → IsFit ts new (match (tree kid) (tree_at ts other) (env_at (envs ts mid) last)) (Some next) → Fitting ts old new env next kids others (i + 1)
+    BindsGrow ts mid new → IsChainFit ts new (match (tree kid) (tree_at ts other) (env_at (envs ts mid) last)) (Some next) → Fitting ts old new env next kids others (i + 1)
 fitting_more ts old mid new env last next kids others i kid other f l e g o b h = record {
   grows = binds_then ts old mid new f.grows b;
   within = h.0;

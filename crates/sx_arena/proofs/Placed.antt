@@ -15,7 +15,7 @@ use Rattle.sx_arena.specs.declared.arena.Arena.{Arena}
 use Rattle.sx_arena.specs.declared.binds.Binds.{Binds}
 use Rattle.sx_arena.specs.Grown.{Extends}
 use Rattle.sx_arena.specs.Arena.{trees, tree_at, IsArena, IsHeld, AreBelow}
-use Rattle.sx_arena.specs.Binds.{envs, env_at, IsBinds, BindsGrow, IsFit}
+use Rattle.sx_arena.specs.Binds.{envs, env_at, IsBinds, BindsGrow, IsChainFit}
 use Rattle.sx_arena.specs.Places.{selected, AreHeld}
 use Rattle.sx_arena.proofs.Growing.{extends-same, extends-then, extends-length}
 use Rattle.sx_arena.proofs.Arenas.{maps_same, below_more}
@@ -125,7 +125,7 @@ placing_at ts env mask o places terms i k t p l e d m g =
 
 pub placing_more : (ts : List Tree) (old mid new : Binds) (env last next : ℕ) (mask : List Bool) (o : Bool) (places : List Term) (terms : List ℕ) (i k t : ℕ) (p : Term) →
     Placing ts old mid env last mask o places terms i k → i < length places → p ≡ get_or places i p → get_or mask i false ≡ o → k < length terms → t ≡ get_or terms k t →
-    BindsGrow ts mid new → IsFit ts new (match (tree p) (tree_at ts t) (env_at (envs ts mid) last)) (Some next) → Placing ts old new env next mask o places terms (i + 1) (k + 1)
+    BindsGrow ts mid new → IsChainFit ts new (match (tree p) (tree_at ts t) (env_at (envs ts mid) last)) (Some next) → Placing ts old new env next mask o places terms (i + 1) (k + 1)
 placing_more ts old mid new env last next mask o places terms i k t p f l e d m g b h = record {
   grows = binds_then ts old mid new f.grows b;
   within = h.0;

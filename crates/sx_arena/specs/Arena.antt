@@ -6,7 +6,7 @@ use Rattle.sx_arena.specs.declared.shape.Shape.{Shape}
 use Rattle.sx_arena.specs.declared.shape.Shape.TheVariants.{Node, Lex, Var}
 use Rattle.sx_arena.specs.declared.arena.Cell.{Cell}
 use Rattle.sx_arena.specs.declared.arena.Arena.{Arena}
-use Rattle.sx_arena.specs.Grown.{grown_from, Fits}
+use Rattle.sx_arena.specs.Grown.{grown_from, CellsFit}
 pub use Rattle.sx_arena.specs.Grown.{Extends}
 pub use Rattle.smallvec.specs.SmallVec.{SmallVec}
 
@@ -50,17 +50,17 @@ trees a = cell_trees a.cells
 
 -- each cell refers to earlier ones, and no two terms are equal
 abbrev pub IsArena : Arena → Type 0
-IsArena a = Fits cell_tree IsNewCell [] a.cells
+IsArena a = CellsFit cell_tree IsNewCell [] a.cells
 
 -- the cell stands at the number
-pub record IsRead (ts : List Tree) (i : ℕ) (c : Cell) : Type 0 where
+pub record IsCellRead (ts : List Tree) (i : ℕ) (c : Cell) : Type 0 where
   pub cell : IsCell ts c
   pub tree : tree_at ts i ≡ cell_tree ts c
 
 -- the number of the term, or None where it is none of the terms
-abbrev pub IsPlace : List Tree → Tree → Option ℕ → Type 0
-IsPlace ts t None = (i : ℕ) → i < length ts → tree_at ts i ≡ t → ⊥
-IsPlace ts t (Some i) = (i < length ts) × (tree_at ts i ≡ t)
+abbrev pub IsTermPlace : List Tree → Tree → Option ℕ → Type 0
+IsTermPlace ts t None = (i : ℕ) → i < length ts → tree_at ts i ≡ t → ⊥
+IsTermPlace ts t (Some i) = (i < length ts) × (tree_at ts i ≡ t)
 
 -- the arena goes on from the other, and has the term at the number
 pub record IsHeld (old new : Arena) (i : ℕ) (t : Tree) : Type 0 where

@@ -11,7 +11,7 @@ grown_from step vs [] = vs
 grown_from step vs (c ∷ cs) = grown_from step (vs ++ step vs c ∷ []) cs
 
 -- each cell is P of the values before it
-abbrev pub Fits : {C V : Type 0} → (List V → C → V) → (List V → C → Type 0) → List V → List C →
+abbrev pub CellsFit : {C V : Type 0} → (List V → C → V) → (List V → C → Type 0) → List V → List C →
     Type 0
-Fits step P vs [] = Unit {0}
-Fits step P vs (c ∷ cs) = P vs c × Fits step P (vs ++ step vs c ∷ []) cs
+CellsFit step P vs [] = Unit {0}
+CellsFit step P vs (c ∷ cs) = P vs c × CellsFit step P (vs ++ step vs c ∷ []) cs

@@ -36,8 +36,8 @@ same_all _ _ = false
 abbrev pub Assignment : Type 0
 Assignment = ℕ → Option Tree
 
-abbrev pub unbound : Assignment
-unbound v = None
+abbrev pub nothing_bound : Assignment
+nothing_bound v = None
 
 -- the assignment with v bound to t
 abbrev pub bind : Assignment → ℕ → Tree → Assignment
@@ -88,8 +88,8 @@ abbrev pub IsBound : Assignment → ℕ → Type 0
 IsBound env v = (u : Tree) × (env v ≡ Some u)
 
 -- each binding of the one stands in the other
-abbrev pub Extends : Assignment → Assignment → Type 0
-Extends env more = (v : ℕ) (u : Tree) → env v ≡ Some u → more v ≡ Some u
+abbrev pub ExtendsAssignment : Assignment → Assignment → Type 0
+ExtendsAssignment env more = (v : ℕ) (u : Tree) → env v ≡ Some u → more v ≡ Some u
 
 -- the substitution gives each bound variable what it is bound to
 abbrev pub Agrees : Assignment → (ℕ → Tree) → Type 0
@@ -98,7 +98,7 @@ Agrees env s = (v : ℕ) (u : Tree) → env v ≡ Some u → s v ≡ u
 -- the one assignment extends the other by just the pattern's variables, and under it the pattern's
 -- instance is the term
 pub record IsMatch (pattern term : Tree) (env more : Assignment) : Type 0 where
-  pub extends : Extends env more
+  pub extends : ExtendsAssignment env more
   pub only : (v : ℕ) → IsBound more v → IsBound env v ⊎ Stands v pattern
   pub every : (v : ℕ) → Stands v pattern → IsBound more v
   pub instance_is : instance (filled more) pattern ≡ term

@@ -16,7 +16,7 @@ ArePairs n [] = Unit {0}
 ArePairs n (p ∷ ps) = ((p.first < n) × (p.second < n)) × ArePairs n ps
 
 -- the arena goes on from the other, and the one truth value is the other
-pub record IsTold (old new : Arena) (b r : Bool) : Type 0 where
+pub record IsTruthTold (old new : Arena) (b r : Bool) : Type 0 where
   pub arena : IsArena new
   pub extends : Extends (trees old) (trees new)
   pub is : b ≡ r

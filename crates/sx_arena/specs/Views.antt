@@ -15,5 +15,5 @@ rules_of set = map rule_of set.rules.items
 abbrev pub mask_of : List Place → List Bool
 mask_of places = map (λ p. is_out p.role) places
 
-abbrev pub modes_of : RuleSet → Modes
-modes_of set = modes_by (forms set.forms.items)
+abbrev pub set_modes : RuleSet → Modes
+set_modes set = modes_by (forms set.forms.items)

@@ -7,7 +7,7 @@ ghost use Rattle.std.specs.Prelude.{map, min};
 ghost use Rattle.std.specs.Prelude.{take, None};
 ghost use Rattle.sx_term.specs.Tree.{node, lexeme, hole, forest, greatest_depth, total_size};
 ghost use Rattle.sx_arena.specs.Arena.{trees, tree_at, cell_tree, IsArena, IsCell, AreBelow};
-ghost use Rattle.sx_arena.specs.Arena.{IsNewCell, IsPlace, IsRead, IsHeld};
+ghost use Rattle.sx_arena.specs.Arena.{IsNewCell, IsTermPlace, IsCellRead, IsHeld};
 ghost use Rattle.sx_arena.specs.Hashed.{mixed, hash_of};
 
 use crate::cells::Cells;
@@ -70,7 +70,7 @@ impl Arena {
         requires arena { IsArena self.now }
         requires cell { IsCell (trees self.now) cell.now }
         requires hash { hash ≡ hash_of cell.now.shape }
-        ensures { IsPlace (trees self.now) (cell_tree (trees self.now) cell.now) result }
+        ensures { IsTermPlace (trees self.now) (cell_tree (trees self.now) cell.now) result }
     {
         self.cells.find(&cell.shape, hash)
     }
@@ -82,7 +82,7 @@ impl Arena {
         requires arena { IsArena self.now }
         requires kids { AreBelow (length (trees self.now)) kids.now }
         requires hash { hash ≡ mixed label kids.now }
-        ensures { IsPlace (trees self.now)
+        ensures { IsTermPlace (trees self.now)
             (node label (forest (map (tree_at (trees self.now)) kids.now))) result }
     {
         self.cells.find_node(label, kids, hash)
@@ -119,7 +119,7 @@ impl Arena {
     pub fn cell(&self, index: usize) -> &Cell
         requires arena { IsArena self.now }
         requires within { index < length (trees self.now) }
-        ensures { IsRead (trees self.now) index result.now }
+        ensures { IsCellRead (trees self.now) index result.now }
     {
         self.cells.get(index)
     }
@@ -153,7 +153,7 @@ impl Arena {
         requires arena { IsArena self.old }
         requires kids { AreBelow (length (trees self.old)) kids.items }
         requires hash { hash ≡ mixed label kids.items }
-        requires new { IsPlace (trees self.old)
+        requires new { IsTermPlace (trees self.old)
             (node label (forest (map (tree_at (trees self.old)) kids.items))) None }
         ensures { IfOk result (λ i. IsHeld self.old self.new i
             (node label (forest (map (tree_at (trees self.old)) kids.items)))) }
@@ -204,7 +204,7 @@ impl Arena {
         requires arena { IsArena self.old }
         requires kids { AreBelow (length (trees self.old)) (kid ∷ []) }
         requires hash { hash ≡ mixed label (kid ∷ []) }
-        requires new { IsPlace (trees self.old)
+        requires new { IsTermPlace (trees self.old)
             (node label (forest (map (tree_at (trees self.old)) (kid ∷ [])))) None }
         ensures { IfOk result (λ i. IsHeld self.old self.new i
             (node label (forest (map (tree_at (trees self.old)) (kid ∷ []))))) }
@@ -226,7 +226,7 @@ impl Arena {
         requires arena { IsArena self.old }
         requires kids { AreBelow (length (trees self.old)) (left ∷ right ∷ []) }
         requires hash { hash ≡ mixed label (left ∷ right ∷ []) }
-        requires new { IsPlace (trees self.old)
+        requires new { IsTermPlace (trees self.old)
             (node label (forest (map (tree_at (trees self.old)) (left ∷ right ∷ [])))) None }
         ensures { IfOk result (λ i. IsHeld self.old self.new i
             (node label (forest (map (tree_at (trees self.old)) (left ∷ right ∷ []))))) }

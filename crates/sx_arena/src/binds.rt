@@ -4,7 +4,7 @@ ghost use Rattle.std.specs.Prelude.{◌≡◌, ℕ, ◌+◌, ◌≤◌, ◌<◌,
 ghost use Rattle.std.specs.Prelude.{take};
 ghost use Rattle.sx_term.specs.Tree.{Tree};
 ghost use Rattle.sx_arena.specs.Grown.{Extends};
-ghost use Rattle.sx_arena.specs.Binds.{envs, env_at, bind_step, IsBinds, IsFound, BindsGrow};
+ghost use Rattle.sx_arena.specs.Binds.{envs, env_at, bind_step, IsBinds, IsBoundTerm, BindsGrow};
 
 use std::alloc::Global;
 use sx_term::NoMemory;
@@ -61,7 +61,7 @@ impl Binds {
         requires binds { (ts : List Tree) × IsBinds ts self.now }
         requires env { env ≤ length self.now.cells.items }
         ensures { (ts : List Tree) → IsBinds ts self.now →
-            IsFound ts (env_at (envs ts self.now) env variable) result }
+            IsBoundTerm ts (env_at (envs ts self.now) env variable) result }
     {
         let mut here = env;
         while here > 0 {

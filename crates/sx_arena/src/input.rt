@@ -10,7 +10,7 @@ ghost use Rattle.sx_arena.specs.Arena.{trees, IsArena, IsHeld};
 ghost use Rattle.sx_arena.specs.Entered.{IsFactIn, AreFactsIn, ArePairsShallow, IsPairIn};
 ghost use Rattle.sx_arena.specs.Entered.{ArePairsIn};
 ghost use Rattle.sx_arena.specs.Places.{selected, AreHeld};
-ghost use Rattle.sx_arena.specs.Views.{mask_of, modes_of, judgement_of};
+ghost use Rattle.sx_arena.specs.Views.{mask_of, set_modes, judgement_of};
 ghost use Rattle.sx_term.specs.Limits.{most_depth};
 
 use crate::arena::Arena;
@@ -73,7 +73,7 @@ fn enter_fact(
 ) -> Result<Fact, NoMemory>
     requires shallow { AreShallow (map tree it.now.places.items) }
     requires arena { IsArena arena.old }
-    ensures { IfOk result (λ f. IsFactIn (modes_of rules.now) arena.old arena.new
+    ensures { IfOk result (λ f. IsFactIn (set_modes rules.now) arena.old arena.new
         (judgement_of it.now) f) }
 {
     let inputs = enter_places(alloc, arena, roles(rules, it.form), false, &it.places)?;
@@ -94,7 +94,7 @@ pub fn enter_facts(
 ) -> Result<Vec<Fact>, NoMemory>
     requires shallow { ShallowJudgements (map judgement_of holds.now) }
     requires arena { IsArena arena.old }
-    ensures { IfOk result (λ r. AreFactsIn (modes_of rules.now) arena.old arena.new
+    ensures { IfOk result (λ r. AreFactsIn (set_modes rules.now) arena.old arena.new
         (map judgement_of holds.now) r.items) }
 {
     let mut facts = Vec::with_capacity(alloc, holds.len())?;

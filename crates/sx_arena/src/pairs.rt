@@ -8,7 +8,7 @@ ghost use Rattle.sx_arena.specs.Matching.{filled};
 ghost use Rattle.sx_arena.specs.Limits.{are_apart};
 ghost use Rattle.sx_arena.specs.Binds.{IsBinds, env_of};
 ghost use Rattle.sx_arena.specs.Arena.{trees, tree_at, IsArena};
-ghost use Rattle.sx_arena.specs.Pairs.{pairs_of, ArePairs, IsTold};
+ghost use Rattle.sx_arena.specs.Pairs.{pairs_of, ArePairs, IsTruthTold};
 ghost use Rattle.sx_term.specs.Limits.{most_depth};
 
 use crate::arena::Arena;
@@ -77,7 +77,7 @@ pub fn instances_apart(
     requires binds { IsBinds (trees arena.old) chain.now.binds.now }
     requires env { chain.now.env ≤ length chain.now.binds.now.cells.items }
     requires pairs { ArePairs (length (trees arena.old)) pairs.now }
-    ensures { IfOk result (λ b. IsTold arena.old arena.new b
+    ensures { IfOk result (λ b. IsTruthTold arena.old arena.new b
         (are_apart (record { judgements = []; pairs = pairs_of (trees arena.old) pairs.now })
         (instance (filled (env_of (trees arena.old) chain.now)) (tree first.now))
         (instance (filled (env_of (trees arena.old) chain.now)) (tree second.now)))) }

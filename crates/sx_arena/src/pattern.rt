@@ -6,7 +6,7 @@ ghost use Rattle.sx_term.specs.Term.{tree};
 ghost use Rattle.sx_rules.specs.Instances.{instance};
 ghost use Rattle.sx_arena.specs.Matching.{match as matched, same, filled};
 ghost use Rattle.sx_arena.specs.Arena.{trees, tree_at, IsArena, IsHeld};
-ghost use Rattle.sx_arena.specs.Binds.{envs, env_at, IsBinds, BindsGrow, IsFit};
+ghost use Rattle.sx_arena.specs.Binds.{envs, env_at, IsBinds, BindsGrow, IsChainFit};
 ghost use Rattle.sx_arena.specs.Places.{AreHeld};
 ghost use Rattle.sx_term.specs.Limits.{most_depth};
 
@@ -205,7 +205,7 @@ fn fit_variable(
     requires env { env ≤ length binds.old.cells.items }
     requires within { term < length (trees arena.now) }
     ensures grows { OnOk result (BindsGrow (trees arena.now) binds.old binds.new) }
-    ensures fit { IfOk result (λ r. IsFit (trees arena.now) binds.new
+    ensures fit { IfOk result (λ r. IsChainFit (trees arena.now) binds.new
         (matched (hole variable) (tree_at (trees arena.now) term)
         (env_at (envs (trees arena.now) binds.old) env)) r) }
 {
@@ -235,7 +235,7 @@ pub fn fit(
     requires env { env ≤ length binds.old.cells.items }
     requires within { term < length (trees arena.now) }
     ensures grows { OnOk result (BindsGrow (trees arena.now) binds.old binds.new) }
-    ensures fit { IfOk result (λ r. IsFit (trees arena.now) binds.new
+    ensures fit { IfOk result (λ r. IsChainFit (trees arena.now) binds.new
         (matched (tree pattern.now) (tree_at (trees arena.now) term)
         (env_at (envs (trees arena.now) binds.old) env)) r) }
 {

@@ -8,7 +8,7 @@ ghost use Rattle.sx_arena.specs.Matching.{match_all, filled};
 ghost use Rattle.sx_rules.specs.Deep.{AreShallow};
 ghost use Rattle.sx_arena.specs.Limits.{limit_passed};
 ghost use Rattle.sx_arena.specs.Arena.{trees, tree_at, IsArena, AreBelow};
-ghost use Rattle.sx_arena.specs.Binds.{envs, env_at, IsBinds, BindsGrow, IsFit};
+ghost use Rattle.sx_arena.specs.Binds.{envs, env_at, IsBinds, BindsGrow, IsChainFit};
 ghost use Rattle.sx_arena.specs.Views.{mask_of};
 ghost use Rattle.sx_arena.specs.Places.{selected, patterns_of, AreHeld, IsLimit, Differs, NeverFit};
 
@@ -97,7 +97,7 @@ pub fn fit_places(
     requires env { env ≤ length binds.old.cells.items }
     requires terms { AreBelow (length (trees arena.now)) terms.now }
     ensures grows { OnOk result (BindsGrow (trees arena.now) binds.old binds.new) }
-    ensures fit { IfOk result (λ r. IsFit (trees arena.now) binds.new
+    ensures fit { IfOk result (λ r. IsChainFit (trees arena.now) binds.new
         (match_all (patterns_of side.now) (map (tree_at (trees arena.now)) terms.now)
         (env_at (envs (trees arena.now) binds.old) env)) r) }
 {

@@ -4,7 +4,7 @@ use Rattle.std.proofs.Common.{IsErrAnd, refl, sym, subst, arith}
 use Rattle.sx_audit.specs.Meaning.{Node, Meaning}
 use Rattle.sx_audit.specs.Shown.{IsShown, IsShownAfter}
 use Rattle.sx_audit.specs.declared.show_error.ShowError.{ShowError}
-use Rattle.sx_audit.proofs.ShownNodes.{shown-on, shown-stops, shown-none, told-of}
+use Rattle.sx_audit.proofs.ShownNodes.{after_nodes-on, after_nodes-stops, after_nodes-none, told-of}
 
 -- what showing the rest now answers, showing all answers
 pub record Carries (k : ℕ) (old : List Meaning) (ns : List Node) (j : ℕ) (now : List Meaning)
@@ -28,7 +28,7 @@ module _ (k j : ℕ) (old now : List Meaning) (ns rest : List Node)
     answers = λ result after s.
         c.answers result after
         (subst (λ (xs : List Node). IsShownAfter j now xs result after) (sym e)
-        (shown-on j i now new after a b result h s));
+        (after_nodes-on j i now new after a b result h s));
   }
 
   -- one of the rest is refused
@@ -40,14 +40,14 @@ module _ (k j : ℕ) (old now : List Meaning) (ns rest : List Node)
       subst (λ (w : ShowError). IsShownAfter k old ns (Err w) new) (sym is)
       (c.answers (Err e) new
       (subst (λ (xs : List Node). IsShownAfter j now xs (Err e) new) (sym same)
-      (shown-stops j now new a b e h)))
+      (after_nodes-stops j now new a b e h)))
 
   -- none is left
   pub carries-end : rest ≡ [] → IsShownAfter k old ns (Ok j) now
   carries-end e =
       c.answers (Ok j) now
       (subst (λ (xs : List Node). IsShownAfter j now xs (Ok j) now) (sym e)
-      (shown-none j now c.fits))
+      (after_nodes-none j now c.fits))
 
 -- what is refused where no nodes were shown before
 pub refused-first : (old new : List Meaning) (ns : List Node) (r : Result (Unit {0}) ShowError)

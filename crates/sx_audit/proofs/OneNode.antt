@@ -9,7 +9,7 @@ use Rattle.std.proofs.lemmas.List.{take-append-drop, take_more, take_all, drop_m
 use Rattle.std.proofs.lemmas.List.{append-nil, get_or_at, get_or_default, get_or-map, with_items_is}
 use Rattle.std.proofs.lemmas.List.Edits.{map_over_more}
 use Rattle.sx_audit.specs.Meaning.{Node, Meaning, after_node, verdict}
-use Rattle.sx_audit.specs.Shown.{shown, after, AllAdmit, Refusal, IsTold, IsShownAfter}
+use Rattle.sx_audit.specs.Shown.{after_nodes, after, AllAdmit, Refusal, IsShowTold, IsShownAfter}
 use Rattle.sx_audit.specs.declared.show_error.ShowError.{ShowError}
 use Rattle.sx_audit.specs.Kinds.{as_count}
 use Rattle.sx_audit.proofs.ShownNodes.{all-none, all-join, told-of}
@@ -20,21 +20,21 @@ pub record Passing (n : Node) (old now : List Meaning) (i : ℕ) : Type 0 where
   pub admitted : AllAdmit (n ∷ []) (take i old)
 
 -- what is shown of one node
-shown-state : (b : Bool) (m : Meaning) →
+after_nodes-state : (b : Bool) (m : Meaning) →
     (if◌then◌else◌ {A = Meaning × Bool} b (m, true) (m, false)).0 ≡ m
-shown-state true m = refl
-shown-state false m = refl
+after_nodes-state true m = refl
+after_nodes-state false m = refl
 
-shown-verdict : (b : Bool) (m : Meaning) →
+after_nodes-verdict : (b : Bool) (m : Meaning) →
     (if◌then◌else◌ {A = Meaning × Bool} b (m, true) (m, false)).1 ≡ b
-shown-verdict true m = refl
-shown-verdict false m = refl
+after_nodes-verdict true m = refl
+after_nodes-verdict false m = refl
 
 after-one : (n : Node) (m : Meaning) → after (n ∷ []) m ≡ after_node m n
-after-one n m = shown-state (verdict m n) (after_node m n)
+after-one n m = after_nodes-state (verdict m n) (after_node m n)
 
-admits-one : (n : Node) (m : Meaning) → (shown m (n ∷ [])).1 ≡ verdict m n
-admits-one n m = shown-verdict (verdict m n) (after_node m n)
+admits-one : (n : Node) (m : Meaning) → (after_nodes m (n ∷ [])).1 ≡ verdict m n
+admits-one n m = after_nodes-verdict (verdict m n) (after_node m n)
 
 -- at first no auditor has seen the node
 pub passing-none : {A : Type 0} (f : A → Meaning) (n : Node) (xs ys : List A) → ys ≡ xs →
@@ -139,7 +139,7 @@ module _ {A : Type 0} (f : A → Meaning) (n : Node) (list : Vec A Global) (item
         stands s v
 
     pub node-refused : (r : Result ℕ ShowError) (e : ShowError) → IsErrAnd r (λ z. z ≡ e) →
-        (verdict (f (get_or items i x)) n ≡ false) × IsTold e (f (get_or items i x)) j →
+        (verdict (f (get_or items i x)) n ≡ false) × IsShowTold e (f (get_or items i x)) j →
         IsShownAfter k (map f list.items) (n ∷ []) r
         (map f (take list.len (set items i y ++ drop (length (set items i y)) list.items)))
     node-refused (Ok c) e h t = absurd h
@@ -150,5 +150,5 @@ module _ {A : Type 0} (f : A → Meaning) (n : Node) (list : Vec A Global) (item
               stands s t.0,
           told-of z (f (get_or items i x)) (f (get_or items i x)) j (k + 0 + 1) refl
               (omega (arith, count))
-              (subst (λ (w : ShowError). IsTold w (f (get_or items i x)) j) (sym h) t.1),
+              (subst (λ (w : ShowError). IsShowTold w (f (get_or items i x)) j) (sym h) t.1),
         )

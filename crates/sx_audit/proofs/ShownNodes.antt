@@ -6,15 +6,16 @@ use Rattle.std.proofs.lemmas.Bool.{false≢true}
 use Rattle.std.proofs.lemmas.List.{length-append, map-append, map-id}
 use Rattle.sx_audit.specs.Meaning.{Node, Kind, Meaning, after_node, verdict}
 use Rattle.sx_audit.specs.Kinds.{as_count}
-use Rattle.sx_audit.specs.Shown.{shown, after, Admits, AllAdmit, Refusal, IsTold, IsShownAfter}
+use Rattle.sx_audit.specs.Shown.{after_nodes, after, Admits, AllAdmit, Refusal, IsShowTold}
+use Rattle.sx_audit.specs.Shown.{IsShownAfter}
 use Rattle.sx_audit.specs.declared.show_error.ShowError.{ShowError}
 use Rattle.sx_audit.specs.declared.show_error.ShowError.TheVariants.{Objected, Memory}
 
 -- a node that is admitted, and then more
-shown-more : (m : Meaning) (n : Node) (ns : List Node) → verdict m n ≡ true →
-    shown m (n ∷ ns) ≡ shown (after_node m n) ns
-shown-more m n ns h =
-    ap (λ (b : Bool). if b then shown (after_node m n) ns else (after_node m n, false)) h
+after_nodes-more : (m : Meaning) (n : Node) (ns : List Node) → verdict m n ≡ true →
+    after_nodes m (n ∷ ns) ≡ after_nodes (after_node m n) ns
+after_nodes-more m n ns h =
+    ap (λ (b : Bool). if b then after_nodes (after_node m n) ns else (after_node m n, false)) h
 
 first-admitted : (b : Bool) (m : Meaning) (rest : Meaning × Bool) →
     (if b then rest else (m, false)).1 ≡ true → b ≡ true
@@ -23,22 +24,22 @@ first-admitted false m rest h = absurd (false≢true h)
 
 pub admits-first : (m : Meaning) (n : Node) (ns : List Node) → Admits (n ∷ ns) m →
     verdict m n ≡ true
-admits-first m n ns h = first-admitted (verdict m n) (after_node m n) (shown (after_node m n) ns) h
+admits-first m n ns h = first-admitted (verdict m n) (after_node m n) (after_nodes (after_node m n) ns) h
 
 pub admits-rest : (m : Meaning) (n : Node) (ns : List Node) → Admits (n ∷ ns) m →
     Admits ns (after_node m n)
 admits-rest m n ns h =
-    sym (ap (λ (s : Meaning × Bool). s.1) (shown-more m n ns (admits-first m n ns h))) ∙ h
+    sym (ap (λ (s : Meaning × Bool). s.1) (after_nodes-more m n ns (admits-first m n ns h))) ∙ h
 
 -- nodes that are admitted, and then more
-shown-append : (m : Meaning) (a b : List Node) → Admits a m →
-    shown m (a ++ b) ≡ shown (after a m) b
-shown-append m [] b h = refl
-shown-append m (n ∷ ns) b h =
+after_nodes-append : (m : Meaning) (a b : List Node) → Admits a m →
+    after_nodes m (a ++ b) ≡ after_nodes (after a m) b
+after_nodes-append m [] b h = refl
+after_nodes-append m (n ∷ ns) b h =
     let v = admits-first m n ns h in
-    shown-more m n (ns ++ b) v
-    ∙ shown-append (after_node m n) ns b (admits-rest m n ns h)
-    ∙ ap (λ (s : Meaning × Bool). shown s.0 b) (sym (shown-more m n ns v))
+    after_nodes-more m n (ns ++ b) v
+    ∙ after_nodes-append (after_node m n) ns b (admits-rest m n ns h)
+    ∙ ap (λ (s : Meaning × Bool). after_nodes s.0 b) (sym (after_nodes-more m n ns v))
 
 -- nodes change the state alone
 kind-by : (b : Bool) (m one : Meaning) (rest : Meaning × Bool) → rest.0.kind ≡ m.kind →
@@ -49,7 +50,7 @@ kind-by false m one rest h k = k
 kind-stays : (ns : List Node) (m : Meaning) → (after ns m).kind ≡ m.kind
 kind-stays [] m = refl
 kind-stays (n ∷ ns) m =
-    kind-by (verdict m n) m (after_node m n) (shown (after_node m n) ns)
+    kind-by (verdict m n) m (after_node m n) (after_nodes (after_node m n) ns)
     (kind-stays ns (after_node m n)) refl
 
 module _ (a b : List Node) where
@@ -58,7 +59,7 @@ module _ (a b : List Node) where
       AllAdmit (a ++ b) ms
   all-both [] h k = tt
   all-both (m ∷ ms) h k =
-      (ap (λ (s : Meaning × Bool). s.1) (shown-append m a b h.0) ∙ k.0, all-both ms h.1 k.1)
+      (ap (λ (s : Meaning × Bool). s.1) (after_nodes-append m a b h.0) ∙ k.0, all-both ms h.1 k.1)
 
   -- the auditors after the nodes, and then more
   pub after-both : (ms : List Meaning) → AllAdmit a ms →
@@ -66,7 +67,7 @@ module _ (a b : List Node) where
   after-both [] h = refl
   after-both (m ∷ ms) h =
       ap (λ (x : Meaning). x ∷ map (after b) (map (after a) ms))
-      (sym (ap (λ (s : Meaning × Bool). s.0) (shown-append m a b h.0)))
+      (sym (ap (λ (s : Meaning × Bool). s.0) (after_nodes-append m a b h.0)))
       ∙ ap (λ (xs : List Meaning). after (a ++ b) m ∷ xs) (after-both ms h.1)
 
 -- auditors before others, and behind them
@@ -132,7 +133,7 @@ split f (m ∷ ms) (x ∷ front) one back h =
 
 -- what is told of an auditor is told of it after a change of its state
 pub told-of : (e : ShowError) (one it : Meaning) (n m : ℕ) → one.kind ≡ it.kind →
-    as_count n ≡ as_count m → IsTold e one n → IsTold e it m
+    as_count n ≡ as_count m → IsShowTold e one n → IsShowTold e it m
 told-of (Objected name number) one it n m h k t =
     (t.0 ∙ ap (λ (kind : Kind). kind.name) h, t.1 ∙ k)
 told-of Memory one it n m h k t = tt
@@ -188,18 +189,18 @@ module _ (a b : List Node) (old new : List Meaning) (h : AllAdmit a old)
     admitted = subst (λ (ns : List Node). AllAdmit ns part.before) (sym same-last)
         (all-both a last part.before before
         (subst (AllAdmit last) part.front_is r.admitted));
-    refused = ap (λ (ns : List Node). (shown part.it ns).1) same-last
+    refused = ap (λ (ns : List Node). (after_nodes part.it ns).1) same-last
         ∙ ap (λ (s : Meaning × Bool). s.1)
-        (shown-append part.it a last it-and-behind.0)
-        ∙ ap (λ (m : Meaning). (shown m last).1) (sym part.one_is) ∙ r.refused;
+        (after_nodes-append part.it a last it-and-behind.0)
+        ∙ ap (λ (m : Meaning). (after_nodes m last).1) (sym part.one_is) ∙ r.refused;
     states = r.states ∙ ap (λ (xs : List Meaning). xs ++ map (after r.seen) r.behind) saw
         ∙ ap (λ (xs : List Meaning). map (after ((a ++ r.seen) ++ r.node ∷ []))
         (part.before ++ part.it ∷ []) ++ xs) saw-not;
   }
 
   told-later : (e : ShowError) (k j : ℕ) → j ≡ as_count (k + length a) →
-      IsTold e r.one (j + length r.seen + 1) →
-      IsTold e part.it (k + length (a ++ r.seen) + 1)
+      IsShowTold e r.one (j + length r.seen + 1) →
+      IsShowTold e part.it (k + length (a ++ r.seen) + 1)
   told-later e k j c t =
       let n = length-append a r.seen in
       told-of e r.one part.it (j + length r.seen + 1) (k + length (a ++ r.seen) + 1)
@@ -224,10 +225,10 @@ refused-sooner old new a b r = record {
 }
 
 -- nodes that are shown, and then more
-pub shown-on : (k j : ℕ) (old mid new : List Meaning) (a b : List Node)
+pub after_nodes-on : (k j : ℕ) (old mid new : List Meaning) (a b : List Node)
     (result : Result ℕ ShowError) → IsShownAfter k old a (Ok j) mid →
     IsShownAfter j mid b result new → IsShownAfter k old (a ++ b) result new
-shown-on k j old mid new a b (Ok i) h s =
+after_nodes-on k j old mid new a b (Ok i) h s =
     let n = length-append a b in
     let c = h.2 in
     let d = s.2 in (
@@ -235,15 +236,15 @@ shown-on k j old mid new a b (Ok i) h s =
       s.1 ∙ ap (map (after b)) h.1 ∙ after-both a b old h.0,
       omega (arith, n, c, d),
     )
-shown-on k j old mid new a b (Err e) h s =
+after_nodes-on k j old mid new a b (Err e) h s =
     let t = subst (λ (ms : List Meaning). IsShownAfter j ms b (Err e) new) h.1 s in
     (refused-later a b old new h.0 t.0, told-later a b old new h.0 t.0 e k j h.2 t.1)
 
 -- nodes of which one is refused
-pub shown-stops : (k : ℕ) (old new : List Meaning) (a b : List Node) (e : ShowError) →
+pub after_nodes-stops : (k : ℕ) (old new : List Meaning) (a b : List Node) (e : ShowError) →
     IsShownAfter k old a (Err e) new → IsShownAfter k old (a ++ b) (Err e) new
-shown-stops k old new a b e h = (refused-sooner old new a b h.0, h.1)
+after_nodes-stops k old new a b e h = (refused-sooner old new a b h.0, h.1)
 
 -- no nodes
-pub shown-none : (k : ℕ) (ms : List Meaning) → k ≤ 2 ^ 64 - 1 → IsShownAfter k ms [] (Ok k) ms
-shown-none k ms h = (all-none ms, sym (map-id ms), omega (arith, h))
+pub after_nodes-none : (k : ℕ) (ms : List Meaning) → k ≤ 2 ^ 64 - 1 → IsShownAfter k ms [] (Ok k) ms
+after_nodes-none k ms h = (all-none ms, sym (map-id ms), omega (arith, h))

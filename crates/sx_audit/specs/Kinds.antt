@@ -29,8 +29,8 @@ rule_names parts = if nat_le (length parts) 64 && list_all (is_name true) parts 
     else None
 
 -- the names of rules that a setting lists, with commas between
-abbrev pub names_in : List ℕ → Option (List (List ℕ))
-names_in setting = rule_names (slice_split (λ b. b == 44) setting)
+abbrev pub listed_names : List ℕ → Option (List (List ℕ))
+listed_names setting = rule_names (slice_split (λ b. b == 44) setting)
 
 -- the names, where none stands twice
 abbrev pub distinct : List (List ℕ) → Option (List (List ℕ))
@@ -89,7 +89,7 @@ abbrev pub deny_kind : List ℕ → Kind
 deny_kind name = record {
   name = name;
   step = λ s n. (s, not (is_among s.texts n.rule));
-  takes = λ setting. option_map of_names (names_in setting);
+  takes = λ setting. option_map of_names (listed_names setting);
   text = λ s. codes "deny" ++ flat_map after_blank s.texts;
 }
 
@@ -118,6 +118,6 @@ tally_kind name = record {
   name = name;
   step = λ s n. (of_counts s.texts (counted n.rule s.texts s.numbers), true);
   takes = λ setting. option_map (λ names. of_counts names (map (λ x. 0) names))
-      (option_and_then distinct (names_in setting));
+      (option_and_then distinct (listed_names setting));
   text = λ s. codes "tally" ++ counts_text s.texts s.numbers;
 }

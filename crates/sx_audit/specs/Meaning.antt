@@ -39,11 +39,12 @@ abbrev pub verdict : Meaning → Node → Bool
 verdict m n = (m.kind.step m.state n).1
 
 -- the text of an auditor
-abbrev pub text_of : Meaning → List ℕ
-text_of m = m.kind.text m.state
+abbrev pub auditor_text : Meaning → List ℕ
+auditor_text m = m.kind.text m.state
 
 -- what setting an auditor answers
-abbrev pub IsSet : Meaning → List ℕ → Result (Unit {0}) SetError → Meaning → Type 0
-IsSet old setting (Ok x) new = (new.kind ≡ old.kind) × (old.kind.takes setting ≡ Some new.state)
-IsSet old setting (Err Bad) new = (new ≡ old) × (old.kind.takes setting ≡ None)
-IsSet old setting (Err Memory) new = new ≡ old
+abbrev pub IsAuditorSet : Meaning → List ℕ → Result (Unit {0}) SetError → Meaning → Type 0
+IsAuditorSet old setting (Ok x) new = (new.kind ≡ old.kind) ×
+    (old.kind.takes setting ≡ Some new.state)
+IsAuditorSet old setting (Err Bad) new = (new ≡ old) × (old.kind.takes setting ≡ None)
+IsAuditorSet old setting (Err Memory) new = new ≡ old

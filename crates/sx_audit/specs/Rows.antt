@@ -5,8 +5,8 @@ use Rattle.sx_audit.specs.declared.row.Row.{Row}
 use Rattle.sx_audit.specs.Kinds.{as_count}
 
 -- the names of the rows
-abbrev pub names_of : List Row → List (List ℕ)
-names_of rows = map (λ r. r.name) rows
+abbrev pub row_names : List Row → List (List ℕ)
+row_names rows = map (λ r. r.name) rows
 
 -- their counts
 abbrev pub counts_of : List Row → List ℕ

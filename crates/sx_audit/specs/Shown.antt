@@ -9,17 +9,18 @@ use Rattle.sx_audit.specs.declared.show_error.ShowError.TheVariants.{Objected, M
 
 -- the auditor and its verdict after its step was applied to the nodes, up to and including the
 -- first that it refuses
-abbrev pub shown : Meaning → List Node → Meaning × Bool
-shown m [] = (m, true)
-shown m (n ∷ ns) = if verdict m n then shown (after_node m n) ns else (after_node m n, false)
+abbrev pub after_nodes : Meaning → List Node → Meaning × Bool
+after_nodes m [] = (m, true)
+after_nodes m (n ∷ ns) = if verdict m n then after_nodes (after_node m n) ns else
+    (after_node m n, false)
 
 -- the auditor alone
 abbrev pub after : List Node → Meaning → Meaning
-after ns m = (shown m ns).0
+after ns m = (after_nodes m ns).0
 
 -- it refuses none of the nodes
 abbrev pub Admits : List Node → Meaning → Type 0
-Admits ns m = (shown m ns).1 ≡ true
+Admits ns m = (after_nodes m ns).1 ≡ true
 
 -- so it is of each auditor
 abbrev pub AllAdmit : List Node → List Meaning → Type 0
@@ -38,23 +39,23 @@ pub record Refusal (old : List Meaning) (ns : List Node) (new : List Meaning) : 
   pub nodes : ns ≡ seen ++ node ∷ later
   pub passed : AllAdmit seen old
   pub admitted : AllAdmit (seen ++ node ∷ []) before
-  pub refused : (shown one (seen ++ node ∷ [])).1 ≡ false
+  pub refused : (after_nodes one (seen ++ node ∷ [])).1 ≡ false
   pub states : new ≡ map (after (seen ++ node ∷ [])) (before ++ one ∷ [])
       ++ map (after seen) behind
 
 -- a refusal is told by the auditor's name and by the number of the node
-abbrev pub IsTold : ShowError → Meaning → ℕ → Type 0
-IsTold (Objected name number) one n = (name ≡ one.kind.name) × (number ≡ as_count n)
-IsTold Memory one n = Unit {0}
+abbrev pub IsShowTold : ShowError → Meaning → ℕ → Type 0
+IsShowTold (Objected name number) one n = (name ≡ one.kind.name) × (number ≡ as_count n)
+IsShowTold Memory one n = Unit {0}
 
 -- the nodes are shown to the auditors, up to the first that one of them refuses
 abbrev pub IsShown : List Meaning → List Node → Result (Unit {0}) ShowError → List Meaning → Type 0
 IsShown old ns (Ok x) new = AllAdmit ns old × (new ≡ map (after ns) old)
-IsShown old ns (Err e) new = (r : Refusal old ns new) × IsTold e r.one (length r.seen + 1)
+IsShown old ns (Err e) new = (r : Refusal old ns new) × IsShowTold e r.one (length r.seen + 1)
 
 -- so they are after so many others, and then this many were shown
 abbrev pub IsShownAfter : ℕ → List Meaning → List Node → Result ℕ ShowError → List Meaning → Type 0
 IsShownAfter k old ns (Ok count) new = AllAdmit ns old × (new ≡ map (after ns) old)
     × (count ≡ as_count (k + length ns))
 IsShownAfter k old ns (Err e) new = (r : Refusal old ns new)
-    × IsTold e r.one (k + length r.seen + 1)
+    × IsShowTold e r.one (k + length r.seen + 1)

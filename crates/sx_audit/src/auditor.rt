@@ -1,7 +1,8 @@
 //! Auditors of derivations.
 
 ghost use Rattle.std.specs.Prelude.{◌≡◌, ◌++◌, OnOk, OnErr};
-ghost use Rattle.sx_audit.specs.Meaning.{Meaning, IsSet, node, after_node, verdict, text_of};
+ghost use Rattle.sx_audit.specs.Meaning.{Meaning, IsAuditorSet, node, after_node, verdict};
+ghost use Rattle.sx_audit.specs.Meaning.{auditor_text};
 
 use crate::set_error::SetError;
 use std::alloc::Global;
@@ -20,7 +21,7 @@ pub trait Auditor: Drop {
     /// Puts the auditor into the state that the setting gives, or answers Bad exactly where it does
     /// not take the setting. After a refusal it is as before.
     fn set(&mut self, setting: &Text) -> Result<(), SetError>
-        ensures { IsSet (meaning self.old) setting.now result (meaning self.new) };
+        ensures { IsAuditorSet (meaning self.old) setting.now result (meaning self.new) };
 
     /// Makes the step at a node by the rule of this name at this depth, where the root has depth 1,
     /// and answers the verdict: false objects. It takes no memory.
@@ -31,6 +32,7 @@ pub trait Auditor: Drop {
     /// Appends the text for the state, without a line feed. After a refusal the bytes are as
     /// before.
     fn text(&self, alloc: Global, into: &mut Vec<u8>) -> Result<(), NoMemory>
-        ensures ok { OnOk result (into.new.items ≡ into.old.items ++ text_of (meaning self.now)) }
+        ensures ok { OnOk result (into.new.items ≡ into.old.items ++ auditor_text
+            (meaning self.now)) }
         ensures err { OnErr result (into.new.items ≡ into.old.items) };
 }

@@ -39,7 +39,8 @@ fn rule_names(alloc: Global, parts: &[&str]) -> Result<Option<Vec<Text>>, NoMemo
 
 /// The names of rules that the setting lists, or None where it is no such list.
 pub(crate) fn names(alloc: Global, setting: &Text) -> Result<Option<Vec<Text>>, NoMemory>
-    ensures { IfOk result (λ names. option_map (λ v. v.items) names ≡ spec.names_in setting.now) }
+    ensures { IfOk result
+        (λ names. option_map (λ v. v.items) names ≡ spec.listed_names setting.now) }
 {
     let parts = parts(alloc, setting.as_str())?;
     rule_names(alloc, &parts)

@@ -8,7 +8,7 @@ ghost use Rattle.sx_rules.specs.Sets.{rules_in};
 ghost use Rattle.sx_rules.specs.Views.{named};
 ghost use Rattle.sx_audit.specs.Meaning.{node, after_node, verdict};
 ghost use Rattle.sx_audit.specs.Preorder.{nodes, IsByRules};
-ghost use Rattle.sx_audit.specs.Shown.{IsTold, IsShown, IsShownAfter};
+ghost use Rattle.sx_audit.specs.Shown.{IsShowTold, IsShown, IsShownAfter};
 ghost use Rattle.sx_rules.specs.Limits.{most_levels};
 
 use crate::auditor::Auditor;
@@ -29,7 +29,7 @@ fn show_one(
     ensures answer { MatchResult result
         (λ _. verdict (meaning auditor.old) (node rule.now depth) ≡ true)
         (λ e. (verdict (meaning auditor.old) (node rule.now depth) ≡ false)
-        × IsTold e (meaning auditor.old) number) }
+        × IsShowTold e (meaning auditor.old) number) }
 {
     if auditor.see(rule, depth) {
         return Ok(());

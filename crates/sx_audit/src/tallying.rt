@@ -2,7 +2,7 @@
 
 ghost use Rattle.std.specs.Prelude.{◌≡◌, ◌++◌, map, codes, IfOk};
 ghost use Rattle.sx_audit.specs.Kinds.{tally_kind, of_counts, counts_text};
-ghost use Rattle.sx_audit.specs.Rows.{names_of, counts_of, row_after};
+ghost use Rattle.sx_audit.specs.Rows.{row_names, counts_of, row_after};
 
 use crate::auditor::Auditor;
 use crate::row::{Row, count};
@@ -22,7 +22,7 @@ pub struct Tally {
 
 /// A row for each name, without a node.
 fn rows(alloc: Global, names: Vec<Text>) -> Result<Vec<Row>, NoMemory>
-    ensures names { IfOk result (λ v. names_of v.items ≡ names.items) }
+    ensures names { IfOk result (λ v. row_names v.items ≡ names.items) }
     ensures counts { IfOk result (λ v. counts_of v.items ≡ map (λ x. 0) names.items) }
 {
     let mut rows = Vec::with_capacity(alloc, names.len())?;
@@ -44,7 +44,7 @@ fn count_each(rows: &mut [Row], rule: &Text)
 /// The names with their counts, after the kind's word.
 fn rows_text(alloc: Global, rows: &[Row]) -> Result<Vec<u8>, NoMemory>
     ensures { IfOk result (λ v. v.items ≡ codes "tally"
-        ++ counts_text (names_of rows.now) (counts_of rows.now)) }
+        ++ counts_text (row_names rows.now) (counts_of rows.now)) }
 {
     let mut made = Vec::new(alloc);
     made.extend_from_slice(b"tally")?;
@@ -58,7 +58,7 @@ fn rows_text(alloc: Global, rows: &[Row]) -> Result<Vec<u8>, NoMemory>
 impl Auditor for Tally {
     ghost meaning = { λ it. record {
       kind = tally_kind it.name;
-      state = of_counts (names_of it.rows.items) (counts_of it.rows.items);
+      state = of_counts (row_names it.rows.items) (counts_of it.rows.items);
     } };
 
     fn name(&self) -> &Text {

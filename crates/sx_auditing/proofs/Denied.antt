@@ -11,7 +11,7 @@ use Rattle.sx_rules.specs.Views.{NamedRule}
 use Rattle.sx_audit.specs.Kinds.{is_among}
 use Rattle.sx_audit.specs.Meaning.{Node, Meaning, verdict}
 use Rattle.sx_audit.specs.Preorder.{nodes, nodes_of_each}
-use Rattle.sx_audit.specs.Shown.{shown, after, Admits}
+use Rattle.sx_audit.specs.Shown.{after_nodes, after, Admits}
 use Rattle.sx_audit.proofs.ShownNodes.{admits-first, admits-rest}
 use Rattle.sx_auditing.specs.Laws.{denying, IsByOther}
 use Rattle.sx_auditing.specs.Shows.{Shows}
@@ -44,7 +44,7 @@ module _ (name : List ℕ) (names : List (List ℕ)) where
   denying-after : (ns : List Node) → after ns (denying name names) ≡ denying name names
   denying-after [] = refl
   denying-after (n ∷ ns) =
-      stays (verdict (denying name names) n) (denying name names) (shown (denying name names) ns)
+      stays (verdict (denying name names) n) (denying name names) (after_nodes (denying name names) ns)
       (denying-after ns)
 
   not-true : (b : Bool) → not b ≡ true → b ≡ false

@@ -9,9 +9,9 @@ use Rattle.std.proofs.lemmas.Slice.Eq.{bytes_eq-Decides}
 use Rattle.sx_words.specs.Commands.{AuditWord, has_kind}
 use Rattle.sx_steps.specs.declared.stop.Stop.{Stop}
 use Rattle.sx_steps.specs.Refusal.{bad_word}
-use Rattle.sx_audit.specs.Kinds.{names_in, of_names, deny_kind}
+use Rattle.sx_audit.specs.Kinds.{listed_names, of_names, deny_kind}
 use Rattle.sx_audit.specs.Meaning.{State, Kind, Meaning}
-use Rattle.sx_auditing.specs.Laws.{first_named, IsKept, denying}
+use Rattle.sx_auditing.specs.Laws.{first_named, IsAuditorKept, denying}
 use Rattle.sx_auditing.proofs.Sets.{mapped, sets-this, sets-later}
 use Rattle.sx_auditing.specs.Naming.{Slot, unset, set_to, set_first, Sets, set_ones, Names}
 
@@ -288,7 +288,7 @@ module _ (handed kept : List Meaning) (before : List AuditWord) (a : AuditWord)
   between = sets-before before (a ∷ behind) a.kind one.kind (map unset handed) h.0 h.1
       (record { slot = unset one; first = handed-first a.kind handed one first; kind_is = refl })
 
-  pub word-kept : IsKept kept one a.setting
+  pub word-kept : IsAuditorKept kept one a.setting
   word-kept =
       let g = begun a behind between.mid h.0 between.goes in
       let r = set-here a between.mid g.new between.has.slot g.sets between.has.first in
@@ -306,11 +306,11 @@ module _ (handed kept : List Meaning) (before : List AuditWord) (a : AuditWord)
       }
 
   pub deny-kept : one.kind ≡ deny_kind a.kind →
-      (names : List (List ℕ)) × (names_in a.setting ≡ Some names)
+      (names : List (List ℕ)) × (listed_names a.setting ≡ Some names)
       × Contains kept (denying a.kind names)
   deny-kept kind =
       let taken = sym (ap (λ (k : Kind). k.takes a.setting) kind) ∙ word-kept.takes in
-      let m = mapped of_names (names_in a.setting) word-kept.state taken in (
+      let m = mapped of_names (listed_names a.setting) word-kept.state taken in (
         m.it,
         m.is,
         subst (λ (x : Meaning). Contains kept x)

@@ -4,7 +4,7 @@ use Rattle.std.proofs.Common.{ap, sym, refl, subst, ◌∙◌, append_assoc}
 use Rattle.std.specs.List.{AllByRecursion}
 use Rattle.std.proofs.lemmas.Bool.{false≢true}
 use Rattle.sx_audit.specs.Meaning.{Node, Meaning, after_node, verdict}
-use Rattle.sx_audit.specs.Shown.{shown, Admits, AllAdmit, Refusal}
+use Rattle.sx_audit.specs.Shown.{after_nodes, Admits, AllAdmit, Refusal}
 use Rattle.sx_audit.proofs.ShownNodes.{admits-first, admits-rest}
 
 -- ---- lists in general
@@ -70,7 +70,7 @@ front-same {A} Q closed (w ∷ a) x b (z ∷ c) y d e h n k m =
 admits-more : (m : Meaning) (n : Node) (ns : List Node) → verdict m n ≡ true →
     Admits ns (after_node m n) → Admits (n ∷ ns) m
 admits-more m n ns v h =
-    ap (λ (b : Bool). (if◌then◌else◌ {A = Meaning × Bool} b (shown (after_node m n) ns)
+    ap (λ (b : Bool). (if◌then◌else◌ {A = Meaning × Bool} b (after_nodes (after_node m n) ns)
     (after_node m n, false)).1) v ∙ h
 
 -- what admits nodes admits those before
@@ -120,6 +120,6 @@ module _ (old : List Meaning) (ns : List Node) where
       s.before s.one s.behind (sym r.auditors ∙ s.auditors)
       (subst (λ (p : List Node). AllAdmit p r.before) last r.admitted)
       (λ h. false≢true (sym r.refused
-      ∙ ap (λ (p : List Node). (shown r.one p).1) last ∙ h))
+      ∙ ap (λ (p : List Node). (after_nodes r.one p).1) last ∙ h))
       s.admitted (λ h. false≢true (sym s.refused ∙ h)) in
       record { seen = f.fronts; node = f.ones; one = g.ones }

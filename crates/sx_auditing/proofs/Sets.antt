@@ -14,7 +14,7 @@ use Rattle.sx_steps.specs.Refusal.{bad_word}
 use Rattle.sx_audit.specs.declared.set_error.SetError.{SetError}
 use Rattle.sx_audit.specs.declared.set_error.SetError.TheVariants as set_error
 use Rattle.sx_auditing.specs.Naming.{Slot, set_to, set_first, Sets}
-use Rattle.sx_auditing.specs.Setting.{HasOtherName, IsPlace, IsSetTo, IsSetFirst}
+use Rattle.sx_auditing.specs.Setting.{HasOtherName, IsAuditorPlace, IsSetTo, IsSetFirst}
 use Rattle.sx_auditing.proofs.Once.{all-joined}
 
 pub record Mapped {A B : Type 0} (f : A → B) (o : Option A) (y : B) : Type 0 where
@@ -66,7 +66,7 @@ others-all f name items i h others =
 pub place-here : {A : Type 0} (f : A → Slot) (name : List ℕ) (items : List A) (i : ℕ) (x : A) →
     i < length items → x ≡ get_or items i x →
     AllByRecursion (HasOtherName name) (take i (map f items)) →
-    bytes_eq (f x).auditor.kind.name name ≡ true → IsPlace name (map f items) i
+    bytes_eq (f x).auditor.kind.name name ≡ true → IsAuditorPlace name (map f items) i
 place-here f name items i x h e others named = record {
   within = subst (λ (n : ℕ). i < n) (sym (length-map items f)) h;
   one = f x;
@@ -113,7 +113,7 @@ first-missing {A} f a ys items e h =
     (subst (λ (zs : List A). AllByRecursion (HasOtherName a.kind) (map f zs)) e h)
 
 module _ {A : Type 0} (f : A → Slot) (a : AuditWord) (items : List A) (i : ℕ) (x y : A)
-    (e : x ≡ get_or items i x) (p : IsPlace a.kind (map f items) i) where
+    (e : x ≡ get_or items i x) (p : IsAuditorPlace a.kind (map f items) i) where
   within : i < length items
   within = subst (λ (n : ℕ). i < n) (length-map items f) p.within
 
@@ -133,11 +133,11 @@ module _ {A : Type 0} (f : A → Slot) (a : AuditWord) (items : List A) (i : ℕ
   at-place (Err set_error.Memory) s = tt
 
 pub first-set : {A : Type 0} (f : A → Slot) (a : AuditWord) (ys items : List A) → ys ≡ items →
-    (i : ℕ) (x y : A) → x ≡ get_or items i x → IsPlace a.kind (map f ys) i →
+    (i : ℕ) (x y : A) → x ≡ get_or items i x → IsAuditorPlace a.kind (map f ys) i →
     (result : Result (Unit {0}) SetError) → IsSetTo a.setting (f x) result (f y) →
     IsSetFirst a (map f items) result (map f (set items i y))
 first-set {A} f a ys items same i x y e p =
-    at-place f a items i x y e (subst (λ (zs : List A). IsPlace a.kind (map f zs) i) same p)
+    at-place f a items i x y e (subst (λ (zs : List A). IsAuditorPlace a.kind (map f zs) i) same p)
 
 -- ---- each word
 

@@ -7,7 +7,7 @@ use Rattle.sx_words.specs.Commands.{AuditWord, has_kind}
 use Rattle.sx_rules.specs.Orders.{Entry, of_rule, of_given}
 use Rattle.sx_rules.specs.Views.{NamedRule, rule_name}
 use Rattle.sx_steps.specs.declared.stop.Stop.{Stop}
-use Rattle.sx_audit.specs.Kinds.{is_among, names_in, of_names, deny_kind}
+use Rattle.sx_audit.specs.Kinds.{is_among, listed_names, of_names, deny_kind}
 use Rattle.sx_audit.specs.Meaning.{State, Meaning}
 use Rattle.sx_auditing.specs.Naming.{Names}
 use Rattle.sx_auditing.specs.Shows.{Shows}
@@ -35,7 +35,7 @@ first_named name (m ∷ auditors) = if bytes_eq m.kind.name name then Some m
     else first_named name auditors
 
 -- the auditor is among those that are kept, in the state that the setting gives
-pub record IsKept (kept : List Meaning) (one : Meaning) (setting : List ℕ) : Type 0 where
+pub record IsAuditorKept (kept : List Meaning) (one : Meaning) (setting : List ℕ) : Type 0 where
   pub state : State
   pub takes : one.kind.takes setting ≡ Some state
   pub stands : Contains kept (record { kind = one.kind; state = state })
@@ -46,7 +46,7 @@ abbrev pub WordsAreKept : Type 0
 WordsAreKept = (handed kept : List Meaning) (before : List AuditWord) (a : AuditWord)
     (behind : List AuditWord) → has_kind behind a.kind ≡ false →
     Names handed (before ++ a ∷ behind) (Ok kept) →
-    (one : Meaning) → first_named a.kind handed ≡ Some one → IsKept kept one a.setting
+    (one : Meaning) → first_named a.kind handed ≡ Some one → IsAuditorKept kept one a.setting
 
 -- ---- what is denied
 
@@ -80,5 +80,5 @@ DeniedAreKept = (handed kept : List Meaning) (before : List AuditWord) (a : Audi
     (behind : List AuditWord) → has_kind behind a.kind ≡ false →
     Names handed (before ++ a ∷ behind) (Ok kept) →
     (one : Meaning) → first_named a.kind handed ≡ Some one → one.kind ≡ deny_kind a.kind →
-    (names : List (List ℕ)) × (names_in a.setting ≡ Some names)
+    (names : List (List ℕ)) × (listed_names a.setting ≡ Some names)
     × Contains kept (denying a.kind names)

@@ -13,7 +13,7 @@ abbrev pub HasOtherName : List ℕ → Slot → Type 0
 HasOtherName name s = bytes_eq s.auditor.kind.name name ≡ false
 
 -- at this place stands the first auditor with the name
-pub record IsPlace (name : List ℕ) (slots : List Slot) (place : ℕ) : Type 0 where
+pub record IsAuditorPlace (name : List ℕ) (slots : List Slot) (place : ℕ) : Type 0 where
   pub within : place < length slots
   pub one : Slot
   pub others : AllByRecursion (HasOtherName name) (take place slots)

@@ -7,7 +7,7 @@ ghost use Rattle.sx_words.specs.View.{audit_view};
 ghost use Rattle.sx_steps.specs.Refusal as refusals;
 ghost use Rattle.sx_steps.specs.Stop.{Gives, IsNoFault};
 ghost use Rattle.sx_auditing.specs.Naming as spec;
-ghost use Rattle.sx_auditing.specs.Setting.{HasOtherName, IsPlace, IsSetTo, IsSetFirst};
+ghost use Rattle.sx_auditing.specs.Setting.{HasOtherName, IsAuditorPlace, IsSetTo, IsSetFirst};
 
 use std::alloc::Global;
 use sx_audit::{Auditor, SetError};
@@ -61,7 +61,7 @@ fn place_of(slots: &[Slot], name: &Text) -> Option<usize>
     ensures { MatchOption result
         (AllByRecursion (HasOtherName name.now)
         (map (λ s. record { auditor = meaning s.auditor; is_set = s.is_set }) slots.now))
-        (λ place. IsPlace name.now
+        (λ place. IsAuditorPlace name.now
         (map (λ s. record { auditor = meaning s.auditor; is_set = s.is_set }) slots.now) place) }
 {
     for place in 0..slots.len() {

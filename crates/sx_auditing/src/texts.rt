@@ -1,7 +1,7 @@
 //! The texts of auditors.
 
 ghost use Rattle.std.specs.Prelude.{◌≡◌, ◌∷◌, ◌++◌, [], map, OnOk};
-ghost use Rattle.sx_audit.specs.Meaning.{text_of};
+ghost use Rattle.sx_audit.specs.Meaning.{auditor_text};
 ghost use Rattle.sx_auditing.specs.Texts.{texts_of};
 
 use std::alloc::Global;
@@ -11,7 +11,7 @@ use sx_term::NoMemory;
 /// Appends the auditor's text, with a line feed.
 fn put_text(alloc: Global, auditor: &Box<dyn Auditor>, into: &mut Vec<u8>) -> Result<(), NoMemory>
     ensures { OnOk result (into.new.items ≡ into.old.items
-        ++ text_of (meaning auditor.now) ++ 10 ∷ []) }
+        ++ auditor_text (meaning auditor.now) ++ 10 ∷ []) }
 {
     auditor.text(alloc, into)?;
     into.push(b'\n')?;

@@ -26,15 +26,15 @@ use Rattle.sx_importing.proofs.OneImports.{reads_imports_one}
 use Rattle.sx_compiling.specs.Laws.{UnitsAgree}
 use Rattle.sx_compiling.specs.Laws.{SameButShown as UnitShown}
 use Rattle.sx_compiling.specs.MakeUnit.{MakesUnit}
-use Rattle.sx_compiling.specs.Reached.{HasLanguage}
+use Rattle.sx_compiling.specs.Reached.{HasNamedLanguage}
 use Rattle.sx_closure.specs.Closures.{HaveLanguage}
 use Rattle.sx_headers.specs.ModuleFiles.{module_file}
 use Rattle.sx_closure.specs.ReadModules.{ReadsModules}
 use Rattle.sx_closure.proofs.Agreeing.{modules_alike}
-use Rattle.sx_build.specs.BuildModules.{Progress, begun, grown, ShowsUnit, MakesWith}
+use Rattle.sx_build.specs.BuildModules.{Progress, none_made, grown, ShowsUnit, MakesWith}
 use Rattle.sx_build.specs.BuildModules.{MakesNext, MakesAfter, whole_plan, language_in, BuildsOver}
 use Rattle.sx_build.specs.BuildModules.{BuildsRead, BuildsModule}
-use Rattle.sx_build.specs.Laws.{IsFound, IsTurn, given_at, SameButShown, BuildsAgree}
+use Rattle.sx_build.specs.Laws.{IsClosureFound, IsTurnOf, given_at, SameButShown, BuildsAgree}
 use Rattle.sx_build.specs.MadeModules.{with_made}
 use Rattle.sx_build.proofs.Languages.{HasBytes, have_language, has_bytes, given_language}
 use Rattle.sx_build.proofs.Turns.{IsAt, at_begin, at_next, turn_of}
@@ -81,7 +81,7 @@ module _ (units : UnitsAgree) (once : ShowsOnce) (name : List ℕ) (budgets : Bu
   alike s = same_alike s s refl
 
   -- one module
-  module _ (t : IsTurn name budgets auditors files) (language : HasLanguage (given_at t)) where
+  module _ (t : IsTurnOf name budgets auditors files) (language : HasNamedLanguage (given_at t)) where
     of_unit : (s r : Stop) → UnitShown budgets files (given_at t) s r → Related s r
     of_unit s r (inl same) = inl same
     of_unit s r (inr (are, free)) = inr (are, inr (t, free))
@@ -98,7 +98,7 @@ module _ (units : UnitsAgree) (once : ShowsOnce) (name : List ℕ) (budgets : Bu
         (shows_one once t.found.language t.progress t.own unit))
 
   -- all modules
-  module _ (f : IsFound name files) where
+  module _ (f : IsClosureFound name files) where
     bytes : HasBytes (language_in f.modules) f.language
     bytes = has_bytes (language_in f.modules) files f.language f.states
 
@@ -133,9 +133,9 @@ module _ (units : UnitsAgree) (once : ShowsOnce) (name : List ℕ) (budgets : Bu
 
     over_by : IsOneBy Related (BuildsOver budgets auditors files f.modules f.language)
     over_by =
-        and_then_by Related (MakesAfter budgets files f.language (begun auditors) f.modules)
+        and_then_by Related (MakesAfter budgets files f.language (none_made auditors) f.modules)
         (λ end. Untried (λ result. result ≡ Ok (whole_plan end)))
-        (after_by f.modules (begun auditors) (have_language name files f.modules f.reads)
+        (after_by f.modules (none_made auditors) (have_language name files f.modules f.reads)
         (at_begin name budgets auditors files f))
         (λ end tries made. trying_same Related alike NoTries
         (λ result. result ≡ Ok (whole_plan end)) no_tries_one (is_given (Ok (whole_plan end))))

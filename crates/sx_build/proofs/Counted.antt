@@ -12,16 +12,17 @@ use Rattle.sx_steps.specs.Work.{Plan}
 use Rattle.sx_accepting.specs.ReadLanguage.{ReadsLanguage}
 use Rattle.sx_headers.specs.ReadModule.{Module}
 use Rattle.sx_importing.specs.ReadImports.{ReadsImports}
-use Rattle.sx_compiling.specs.Laws.{WalksAreWithin as UnitsWithin}
+use Rattle.sx_compiling.specs.Laws.{UnitsWalksAreWithin as UnitsWithin}
 use Rattle.sx_compiling.specs.MakeUnit.{MakesUnit}
 use Rattle.sx_compiling.proofs.StepTries.{Most, trying_most, untried_most, most_untried, passed}
 use Rattle.sx_closure.specs.Closures.{HaveLanguage}
 use Rattle.sx_closure.specs.ReadModules.{ReadsModules}
 use Rattle.sx_closure.proofs.Closing.{are_closure}
-use Rattle.sx_build.specs.BuildModules.{Progress, begun, given_in, ShowsUnit, MakesWith, MakesNext}
+use Rattle.sx_build.specs.BuildModules.{Progress, none_made, given_in, ShowsUnit, MakesWith}
+use Rattle.sx_build.specs.BuildModules.{MakesNext}
 use Rattle.sx_build.specs.BuildModules.{MakesAfter, whole_plan, language_in, BuildsOver, BuildsRead}
 use Rattle.sx_build.specs.BuildModules.{BuildsModule}
-use Rattle.sx_build.specs.Laws.{IsFound, WalksAreWithin}
+use Rattle.sx_build.specs.Laws.{IsClosureFound, BuildWalksAreWithin}
 use Rattle.sx_build.specs.MadeModules.{with_made}
 use Rattle.sx_build.proofs.Languages.{HasBytes, have_language, has_bytes, given_language}
 
@@ -68,7 +69,7 @@ module _ (units : UnitsWithin) (name : List ℕ) (budgets : Budgets) (auditors :
   abbrev most : ℕ
   most = 4097 * budgets.tries
 
-  module _ (f : IsFound name files) where
+  module _ (f : IsClosureFound name files) where
     bytes : HasBytes (language_in f.modules) f.language
     bytes = has_bytes (language_in f.modules) files f.language f.states
 
@@ -100,9 +101,9 @@ module _ (units : UnitsWithin) (name : List ℕ) (budgets : Budgets) (auditors :
     over_most : Most (BuildsOver budgets auditors files f.modules f.language)
         (length f.modules * most)
     over_most =
-        most_untried (MakesAfter budgets files f.language (begun auditors) f.modules)
+        most_untried (MakesAfter budgets files f.language (none_made auditors) f.modules)
         (λ end result. result ≡ Ok (whole_plan end)) (length f.modules * most)
-        (after_most f.modules (begun auditors) (have_language name files f.modules f.reads))
+        (after_most f.modules (none_made auditors) (have_language name files f.modules f.reads))
 
   all_most : Most (BuildsModule name budgets auditors files) (256 * most)
   all_most =
@@ -116,13 +117,13 @@ module _ (units : UnitsWithin) (name : List ℕ) (budgets : Budgets) (auditors :
 
   built_within : (plan : Plan) (tries : ℕ) →
       BuildsModule name budgets auditors files (Ok plan) tries →
-      (f : IsFound name files) × (tries ≤ length f.modules * most)
+      (f : IsClosureFound name files) × (tries ≤ length f.modules * most)
   built_within plan tries builds =
       let read = passed (ReadsModules name files) (BuildsRead budgets auditors files) plan tries
       builds in
       let stated = passed (ReadsLanguage (language_in read.given) files)
       (BuildsOver budgets auditors files read.given) plan tries read.goes in
-      let f : IsFound name files = record {
+      let f : IsClosureFound name files = record {
         modules = read.given;
         reads = read.begins;
         language = stated.given;
@@ -130,8 +131,8 @@ module _ (units : UnitsWithin) (name : List ℕ) (budgets : Budgets) (auditors :
       } in
       (f, over_most f (Ok plan) tries stated.goes)
 
-pub walks_are_within : UnitsWithin → WalksAreWithin
-walks_are_within units = record {
+pub build_walks_are_within : UnitsWithin → BuildWalksAreWithin
+build_walks_are_within units = record {
   built = built_within units;
   all = all_most units;
 }

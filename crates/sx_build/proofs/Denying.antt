@@ -10,7 +10,7 @@ use Rattle.sx_audit.specs.Meaning.{Meaning}
 use Rattle.sx_auditing.specs.Laws.{denying, DeniedAreUnlisted, DenyingStays}
 use Rattle.sx_build.specs.MadeModules.{Made}
 use Rattle.sx_build.specs.BuiltModules.{AreBuilt}
-use Rattle.sx_build.specs.Denied.{AreWithout, DeniedAreUnwritten}
+use Rattle.sx_build.specs.Denied.{AreWithout, DeniedAreUnbuilt}
 
 module _ (unlisted : DeniedAreUnlisted) (stays : DenyingStays) (word : List ℕ)
     (names : List (List ℕ)) (budgets : Budgets) (old new : Files) (l : Stated) where
@@ -29,7 +29,7 @@ module _ (unlisted : DeniedAreUnlisted) (stays : DenyingStays) (word : List ℕ)
   each_without from to (m ∷ ms) [] built there = absurd built
   each_without from to [] (x ∷ made) built there = absurd built
 
-pub denied_unwritten : DeniedAreUnlisted → DenyingStays → DeniedAreUnwritten
+pub denied_unwritten : DeniedAreUnlisted → DenyingStays → DeniedAreUnbuilt
 denied_unwritten unlisted stays name budgets auditors old new lines b word names there =
     each_without unlisted stays word names budgets old new b.language auditors b.left b.modules
     b.made b.built there

@@ -5,7 +5,7 @@ use Rattle.sx_headers.specs.ReadModule.{Module}
 use Rattle.sx_compiling.specs.Headline.{UnitsHaveHeadline}
 use Rattle.sx_compiling.proofs.NamedImports.{imports_named}
 use Rattle.sx_closure.specs.ReadImport.{ReadsNamed}
-use Rattle.sx_closure.specs.ReadModules.{name_of}
+use Rattle.sx_closure.specs.ReadModules.{module_name}
 use Rattle.sx_closure.proofs.Closing.{are_closure}
 use Rattle.sx_build.specs.BuildModules.{given_in, language_in}
 use Rattle.sx_build.specs.BuiltModules.{BuiltHaveHeadline}
@@ -15,8 +15,8 @@ use Rattle.sx_compiling.proofs.Members.{all_at}
 
 pub built_have_headline : UnitsHaveHeadline → BuiltHaveHeadline
 built_have_headline units name budgets auditors old new lines is_a_name b m among from to x i =
-    let own = name_of m in
-    let read = all_at (λ (n : Module). ReadsNamed old (name_of n) (Ok n)) b.modules m
+    let own = module_name m in
+    let read = all_at (λ (n : Module). ReadsNamed old (module_name n) (Ok n)) b.modules m
     (are_closure name old b.modules b.reads).1 among in
     let named = imports_named new m.header.imports i.imports i.reads in
     let language = language_in b.modules in

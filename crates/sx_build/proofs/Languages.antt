@@ -6,10 +6,10 @@ use Rattle.sx_steps.specs.Held.{Held}
 use Rattle.sx_term.specs.Limits.{most_bytes}
 use Rattle.sx_steps.proofs.StepsOn.{went}
 use Rattle.sx_accepting.specs.LanguageFiles.{language_file}
-use Rattle.sx_accepting.specs.ReadLanguage.{Stated, IsStated, StatesLanguage, ReadsLanguage}
+use Rattle.sx_accepting.specs.ReadLanguage.{Stated, IsLanguageStated, StatesLanguage, ReadsLanguage}
 use Rattle.sx_headers.specs.ReadModule.{Module}
 use Rattle.sx_importing.specs.ReadImports.{ImportData}
-use Rattle.sx_compiling.specs.Reached.{HasLanguage}
+use Rattle.sx_compiling.specs.Reached.{HasNamedLanguage}
 use Rattle.sx_closure.specs.Closures.{HaveLanguage, IsClosure}
 use Rattle.sx_closure.specs.ReadModules.{ReadsModules}
 use Rattle.sx_closure.proofs.Closing.{are_closure}
@@ -32,7 +32,7 @@ have_language name files ms reads =
 -- a text states the language that was read
 pub record HasBytes (language : List ℕ) (l : Stated) : Type 0 where
   pub bytes : List ℕ
-  pub states : IsStated language bytes l
+  pub states : IsLanguageStated language bytes l
 
 pub has_bytes : (language : List ℕ) (files : Files) (l : Stated) →
     ReadsLanguage language files (Ok l) → HasBytes language l
@@ -43,8 +43,8 @@ has_bytes language files l reads =
 
 -- so it is under the name that a module with this language has for it
 pub given_language : (language : List ℕ) (l : Stated) → HasBytes language l → (m : Module) →
-    m.header.language ≡ language → (imports : List ImportData) → HasLanguage (given_in l m imports)
+    m.header.language ≡ language → (imports : List ImportData) → HasNamedLanguage (given_in l m imports)
 given_language language l b m same imports = record {
   bytes = b.bytes;
-  states = subst (λ (w : List ℕ). IsStated w b.bytes l) (sym same) b.states;
+  states = subst (λ (w : List ℕ). IsLanguageStated w b.bytes l) (sym same) b.states;
 }

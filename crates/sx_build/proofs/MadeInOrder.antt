@@ -19,7 +19,7 @@ use Rattle.sx_compiling.specs.MakeUnit.{MakesUnit}
 use Rattle.sx_compiling.proofs.MadeUnits.{units_keep_promise}
 use Rattle.sx_closure.specs.Closures.{HaveLanguage}
 use Rattle.sx_headers.specs.ModuleFiles.{module_file}
-use Rattle.sx_closure.specs.ReadModules.{name_of}
+use Rattle.sx_closure.specs.ReadModules.{module_name}
 use Rattle.sx_build.specs.BuildModules.{Progress, grown, given_in, ShowsUnit, MakesWith, MakesNext}
 use Rattle.sx_build.specs.BuildModules.{MakesAfter}
 use Rattle.sx_build.specs.MadeModules.{Made, made_of, with_made}
@@ -123,7 +123,7 @@ module _ (budgets : Budgets) (old : Files) (language : List ℕ) (l : Stated)
   -- they have the names of the modules
   pub made_named : (before : List Made) (from to : List Meaning) (ms : List Module)
       (made : List Made) → AreMade budgets old l before from to ms made →
-      map (λ x. x.name) made ≡ map name_of ms
+      map (λ x. x.name) made ≡ map module_name ms
   made_named before from to [] [] built = refl
   made_named before from to (m ∷ ms) (x ∷ made) (next, one, rest) =
       let same = ap (λ (y : Made). y.name) one.is in

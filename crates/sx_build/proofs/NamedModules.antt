@@ -14,12 +14,12 @@ use Rattle.sx_steps.specs.Held.{Held}
 use Rattle.sx_term.specs.Limits.{most_bytes}
 use Rattle.sx_steps.proofs.Ones.{some_same, none_some}
 use Rattle.sx_steps.proofs.StepsOn.{went}
-use Rattle.sx_walking.specs.Reached.{Found, uses_in, IsFound, IsTold}
+use Rattle.sx_walking.specs.Reached.{Found, uses_in, AreVisitsFound, IsWalkTold}
 use Rattle.sx_walking.proofs.Coming.{names_are}
 use Rattle.sx_headers.specs.ModuleFiles.{module_file}
 use Rattle.sx_headers.specs.ReadModule.{Module, StatesModule}
 use Rattle.sx_closure.specs.ReadImport.{ReadsNamed, ReadsImport}
-use Rattle.sx_closure.specs.ReadModules.{name_of, imports_of, ReachesModules, ReadsModules}
+use Rattle.sx_closure.specs.ReadModules.{module_name, imports_of, ReachesModules, ReadsModules}
 use Rattle.sx_closure.proofs.Walks.{import_read, import_named}
 use Rattle.sx_compiling.proofs.Members.{contains_map, all_at}
 
@@ -47,7 +47,7 @@ user_of None lines e = absurd (none_some lines e)
 module _ (language : List ℕ) (files : Files) (root : Name)
     (is_a_name : is_name false root ≡ true) where
   -- so have those that are reached
-  reached_named : (found : Found Module) → IsFound (ReadsImport language files) found →
+  reached_named : (found : Found Module) → AreVisitsFound (ReadsImport language files) found →
       {name : Name} → Reached (uses_in imports_of found) (root ∷ []) name →
       is_name false name ≡ true
   reached_named found visited {name = name} (is_root (zero, below, same)) =
@@ -63,21 +63,21 @@ module _ (language : List ℕ) (files : Files) (root : Name)
 
   module _ (ms : List Module) (m : Module) (among : Contains ms m) where
     told_named : (file : List ℕ) (found : Found Module) →
-        IsFound (ReadsImport language files) found → (end : End) →
+        AreVisitsFound (ReadsImport language files) found → (end : End) →
         Walks (uses_in imports_of found) 256 (root ∷ []) end →
-        IsTold (ReadsImport language files) file found end (Ok ms) →
-        is_name false (name_of m) ≡ true
+        IsWalkTold (ReadsImport language files) file found end (Ok ms) →
+        is_name false (module_name m) ≡ true
     told_named file found visited (Ok order) walks told =
-        let same = names_are name_of imports_of (ReadsImport language files)
+        let same = names_are module_name imports_of (ReadsImport language files)
         (λ n x h. import_named language files n x h) found visited order ms told in
         reached_named found visited
-        (((order_is_whole (uses_in imports_of found) 256 (root ∷ []) order walks).1 (name_of m)).0
-        (subst (λ (l : List Name). Contains l (name_of m)) same (contains_map name_of ms m among)))
+        (((order_is_whole (uses_in imports_of found) 256 (root ∷ []) order walks).1 (module_name m)).0
+        (subst (λ (l : List Name). Contains l (module_name m)) same (contains_map module_name ms m among)))
     told_named file found visited (Err why) walks told = absurd told
 
 pub modules_named : (name : List ℕ) (files : Files) (ms : List Module) →
     is_name false name ≡ true → ReadsModules name files (Ok ms) → (m : Module) → Contains ms m →
-    is_name false (name_of m) ≡ true
+    is_name false (module_name m) ≡ true
 modules_named name files ms is_a_name reads m among =
     let w = went (ReadsNamed files name) (λ m. ReachesModules m.header.language name files) ms
     reads in

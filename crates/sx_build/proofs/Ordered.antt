@@ -11,7 +11,7 @@ use Rattle.sx_importing.proofs.EachLoops.{left_next}
 use Rattle.sx_walking.specs.Opened.{AreOnce}
 use Rattle.sx_walking.specs.Laws.{AllComeAfter, ComesAfter}
 use Rattle.sx_closure.specs.Closures.{IsClosure, HaveLanguage}
-use Rattle.sx_closure.specs.ReadModules.{name_of, imports_of}
+use Rattle.sx_closure.specs.ReadModules.{module_name, imports_of}
 use Rattle.sx_build.specs.BuildModules.{language_in}
 use Rattle.sx_compiling.proofs.Members.{contains_more, all_by}
 
@@ -46,36 +46,36 @@ source_at sources i source below is =
 
 -- the names of the modules before the next one
 pub names_next : (ms : List Module) (i : ℕ) (m : Module) → i < length ms → m ≡ get_or ms i m →
-    map name_of (take (i + 1) ms) ≡ map name_of (take i ms) ++ name_of m ∷ []
+    map module_name (take (i + 1) ms) ≡ map module_name (take i ms) ++ module_name m ∷ []
 names_next ms i m below is =
-    map_more name_of ms i m below
-    ∙ ap (λ (n : List ℕ). map name_of (take i ms) ++ n ∷ []) (ap name_of (sym is))
+    map_more module_name ms i m below
+    ∙ ap (λ (n : List ℕ). map module_name (take i ms) ++ n ∷ []) (ap module_name (sym is))
 
-module _ (sources : List ModuleFile) (order : AllComeAfter name_of imports_of (map module_of sources))
+module _ (sources : List ModuleFile) (order : AllComeAfter module_name imports_of (map module_of sources))
     (i : ℕ) (source : ModuleFile) (below : i < length (map module_of sources))
     (is : module_of source ≡ get_or (map module_of sources) i (module_of source)) where
   abbrev ms : List Module
   ms = map module_of sources
 
   -- it comes after those before it
-  comes : ComesAfter name_of imports_of (take i ms) (module_of source)
+  comes : ComesAfter module_name imports_of (take i ms) (module_of source)
   comes =
       order (take i ms) (drop (i + 1) ms) (module_of source)
       (sym (take-append-drop i ms)
       ∙ ap (λ (l : List Module). take i ms ++ l) (left_next ms i (module_of source) below is))
 
-  pub imports_among : (names : List (List ℕ)) → names ≡ map name_of (take i ms) →
+  pub imports_among : (names : List (List ℕ)) → names ≡ map module_name (take i ms) →
       AllByRecursion (Contains names) (imports_of (module_of source))
   imports_among names same =
       subst (λ (ns : List (List ℕ)). AllByRecursion (Contains ns) (imports_of (module_of source)))
       (sym same)
-      (all_by (Contains (map name_of (take i ms))) (imports_of (module_of source))
+      (all_by (Contains (map module_name (take i ms))) (imports_of (module_of source))
       comes.after_them)
 
-  pub name_is_new : (names : List (List ℕ)) → names ≡ map name_of (take i ms) →
-      Contains names (name_of (module_of source)) → ⊥
+  pub name_is_new : (names : List (List ℕ)) → names ≡ map module_name (take i ms) →
+      Contains names (module_name (module_of source)) → ⊥
   name_is_new names same among =
-      comes.once (subst (λ (ns : List (List ℕ)). Contains ns (name_of (module_of source))) same
+      comes.once (subst (λ (ns : List (List ℕ)). Contains ns (module_name (module_of source))) same
       among)
 
 -- ---- the first of the modules

@@ -17,9 +17,9 @@ use Rattle.sx_walking.specs.Opened.{AreOnce}
 use Rattle.sx_accepting.specs.ReadLanguage.{Stated, ReadsLanguage}
 use Rattle.sx_auditing.proofs.Once.{all-front}
 use Rattle.sx_headers.specs.ReadModule.{Module}
-use Rattle.sx_closure.specs.ReadModules.{name_of, imports_of, ReadsModules}
+use Rattle.sx_closure.specs.ReadModules.{module_name, imports_of, ReadsModules}
 use Rattle.sx_closure.proofs.Closing.{are_closure}
-use Rattle.sx_build.specs.BuildModules.{Progress, begun, MakesAfter, whole_plan, language_in}
+use Rattle.sx_build.specs.BuildModules.{Progress, none_made, MakesAfter, whole_plan, language_in}
 use Rattle.sx_build.specs.BuildModules.{BuildsOver, BuildsRead}
 use Rattle.sx_build.specs.BuiltModules.{AreBuilt, HoldsTexts, IsNoFileOf, BuiltModules}
 use Rattle.sx_build.specs.BuiltModules.{BuildsKeepPromise}
@@ -73,17 +73,17 @@ made_so (x ∷ made) name (suc k, below, same) =
     }
 
 module _ (budgets : Budgets) (old new : Files) (l : Stated) (whole : List Module)
-    (order : AllComeAfter name_of imports_of whole) (all : List Made)
+    (order : AllComeAfter module_name imports_of whole) (all : List Made)
     (holds : AllByRecursion (HoldsTexts new) all) where
   -- those before are made, and these are left
   record AreLeft (done ms : List Module) (before made : List Made) : Type 0 where
     modules : whole ≡ done ++ ms
     mades : all ≡ before ++ made
-    named : map (λ x. x.name) before ≡ map name_of done
+    named : map (λ x. x.name) before ≡ map module_name done
 
   -- what a module before holds is there in the end
   holds_same : (done ms : List Module) (before made : List Made) →
-      AreLeft done ms before made → (name : List ℕ) → Contains (map name_of done) name →
+      AreLeft done ms before made → (name : List ℕ) → Contains (map module_name done) name →
       with_made before old (interface_file name) ≡ new (interface_file name)
   holds_same done ms before made left name among =
       let has = made_so before name
@@ -100,13 +100,13 @@ module _ (budgets : Budgets) (old new : Files) (l : Stated) (whole : List Module
       has.named (stands ∙ sym there.interface)
 
   next_left : (done ms : List Module) (before made : List Made) (m : Module) (x : Made) →
-      x.name ≡ name_of m → AreLeft done (m ∷ ms) before (x ∷ made) →
+      x.name ≡ module_name m → AreLeft done (m ∷ ms) before (x ∷ made) →
       AreLeft (done ++ m ∷ []) ms (before ++ x ∷ []) made
   next_left done ms before made m x same left = record {
     modules = left.modules ∙ sym (append_assoc done (m ∷ []) ms);
     mades = left.mades ∙ sym (append_assoc before (x ∷ []) made);
     named = map-append (λ y. y.name) before (x ∷ [])
-        ∙ (λ i. left.named i ++ same i ∷ []) ∙ sym (map-append name_of done (m ∷ []));
+        ∙ (λ i. left.named i ++ same i ∷ []) ∙ sym (map-append module_name done (m ∷ []));
   }
 
   built_by : (done ms : List Module) (before made : List Made) (from to : List Meaning) →
@@ -172,10 +172,10 @@ module _ (name : List ℕ) (budgets : Budgets) (auditors : List Meaning) (old ne
 
   -- where all were made so
   made_by : (end : Progress) (plan : Plan) (tries : ℕ) →
-      MakesAfter budgets old l (begun auditors) ms (Ok end) tries → plan ≡ whole_plan end →
+      MakesAfter budgets old l (none_made auditors) ms (Ok end) tries → plan ≡ whole_plan end →
       new ≡ after plan.files old → BuiltModules name budgets auditors old new plan.lines
   made_by end plan tries makes planned files_are =
-      let more = all_more budgets old (language_in ms) l bytes (begun auditors) ms end tries
+      let more = all_more budgets old (language_in ms) l bytes (none_made auditors) ms end tries
       (have_language name old ms reads) makes in
       kept_by more.made end.auditors plan more.built
       (planned ∙ ap (λ (made : List Made). whole_plan (end_of made end.auditors)) more.is)
@@ -189,7 +189,7 @@ builds_keep_promise name budgets auditors old new plan tries builds files_are =
     let stated = went_on (Untried (ReadsLanguage (language_in ms) old))
     (BuildsOver budgets auditors old ms) plan read.after read.goes in
     let l = stated.given in
-    let all = went_on (MakesAfter budgets old l (begun auditors) ms)
+    let all = went_on (MakesAfter budgets old l (none_made auditors) ms)
     (λ end. Untried (λ result. result ≡ Ok (whole_plan end))) plan stated.after stated.goes in
     made_by name budgets auditors old new ms read.begins.0 l stated.begins.0 all.given plan
     all.before all.begins (ok_same plan (whole_plan all.given) all.goes.0) files_are

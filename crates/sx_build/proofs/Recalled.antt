@@ -24,9 +24,9 @@ use Rattle.sx_interface.specs.declared.import.Import.{Import}
 use Rattle.sx_walking.specs.FileTable.{FileMap, files_by}
 use Rattle.sx_walking.specs.Reached.{Found}
 use Rattle.sx_walking.proofs.Tables.{put_held, put_cases}
-use Rattle.sx_build.specs.Buildings.{AreMore, AreDistinct}
+use Rattle.sx_build.specs.Buildings.{AreMore, AreNamedApart}
 use Rattle.sx_build.specs.MadeModules.{Made, with_made}
-use Rattle.sx_build.specs.Remembering.{IsGone, IsKept, IsImportOf, IsOwn, Remembers}
+use Rattle.sx_build.specs.Remembering.{IsGone, IsInterfaceKept, IsImportOf, IsOwnImport, Remembers}
 use Rattle.sx_build.proofs.MadeFiles.{interface_stands}
 
 -- ---- what stands under the names
@@ -46,7 +46,7 @@ gone_held old new key name e u =
 pub kept_by : {R E : Type 0} (r : Result R E) (old new : FileMap Import) (key : List ℕ)
     (i : Import) → key ≡ i.interface.«module» →
     OnOk r (hash.UpdatesBy string_eq (λ k. bytes_eq key (string_bytes k)) old new (Some i)) →
-    OnErr r (new.entries ≡ old.entries) → IsKept i (files_by old) (files_by new)
+    OnErr r (new.entries ≡ old.entries) → IsInterfaceKept i (files_by old) (files_by new)
 kept_by (Ok x) old new key i named updates stays =
     inl (put_held old new key i.interface.«module» i named updates)
 kept_by (Err e) old new key i named updates stays = inr (λ name. cc)
@@ -68,14 +68,14 @@ module _ (mades : List Made) where
   remembers_left name old new gone before other i h =
       before other i (left_so (bytes_eq name other) (old other) i (sym (gone other) ∙ h))
 
-  own_as : (name : List ℕ) (i j : Import) → i.interface.«module» ≡ name → i ≡ j → IsOwn mades i →
+  own_as : (name : List ℕ) (i j : Import) → i.interface.«module» ≡ name → i ≡ j → IsOwnImport mades i →
       IsImportOf mades name j
   own_as name i j named same own =
       subst (λ (n : List ℕ). IsImportOf mades n j) named
       (subst (λ (k : Import). IsImportOf mades i.interface.«module» k) same own)
 
-  pub remembers_kept : (i : Import) (old new : Found Import) → IsKept i old new →
-      Remembers mades old → IsOwn mades i → Remembers mades new
+  pub remembers_kept : (i : Import) (old new : Found Import) → IsInterfaceKept i old new →
+      Remembers mades old → IsOwnImport mades i → Remembers mades new
   remembers_kept i old new (inl put) before own name j h =
       elim (put_cases i.interface.«module» i old new put name j h) [
         | inl here ↦ own_as name i j here.0 here.1 own
@@ -85,7 +85,7 @@ module _ (mades : List Made) where
       before name j (sym (same name) ∙ h)
 
   -- it is what is read once the files of these were written
-  pub recalled : (name : List ℕ) (i : Import) → AreDistinct mades → IsImportOf mades name i →
+  pub recalled : (name : List ℕ) (i : Import) → AreNamedApart mades → IsImportOf mades name i →
       (files : Files) → ReadsImport (with_made mades files) name (Ok (import_of i))
   recalled name i once is files =
       is.reads (with_made mades files)
@@ -112,11 +112,11 @@ module _ (mades : List Made) where
   read_own made name among named (Err e) reads short own = tt
 
   pub own_next : (name : List ℕ) (before after : List Import) (i : Import) →
-      after ≡ before ++ i ∷ [] → AllByRecursion (IsOwn mades) before → IsImportOf mades name i →
-      AllByRecursion (IsOwn mades) after
+      after ≡ before ++ i ∷ [] → AllByRecursion (IsOwnImport mades) before → IsImportOf mades name i →
+      AllByRecursion (IsOwnImport mades) after
   own_next name before after i is all one =
-      subst (λ (v : List Import). AllByRecursion (IsOwn mades) v) (sym is)
-      (all-joined (IsOwn mades) before (i ∷ []) all
+      subst (λ (v : List Import). AllByRecursion (IsOwnImport mades) v) (sym is)
+      (all-joined (IsOwnImport mades) before (i ∷ []) all
       (subst (λ (n : List ℕ). IsImportOf mades n i) (sym one.own) one, tt))
 
 -- ---- one module more
@@ -136,16 +136,16 @@ module _ (before after : List Made) (more : AreMore before after) where
   pub remembers_more : (held : Found Import) → Remembers before held → Remembers after held
   remembers_more held was name i h = own_more name i (was name i h)
 
-  pub all_more : (is : List Import) → AllByRecursion (IsOwn before) is →
-      AllByRecursion (IsOwn after) is
+  pub all_more : (is : List Import) → AllByRecursion (IsOwnImport before) is →
+      AllByRecursion (IsOwnImport after) is
   all_more [] all = tt
   all_more (i ∷ is) all = (own_more i.interface.«module» i all.0, all_more is all.1)
 
 -- where it was made, its imports are remembered again
 pub remembers_on : (r : Result (Unit {0}) StepError) (before after : List Made)
     (held now : Found Import) (is : List Import) → IfOk r (λ done. AreMore before after) →
-    Remembers before held → AllByRecursion (IsOwn before) is →
-    ((mades : List Made) → Remembers mades held → AllByRecursion (IsOwn mades) is →
+    Remembers before held → AllByRecursion (IsOwnImport before) is →
+    ((mades : List Made) → Remembers mades held → AllByRecursion (IsOwnImport mades) is →
     Remembers mades now) → IfOk r (λ done. Remembers after now)
 remembers_on (Ok done) before after held now is more was all keeps =
     keeps after (remembers_more before after more held was) (all_more before after more is all)

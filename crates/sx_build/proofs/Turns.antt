@@ -11,8 +11,8 @@ use Rattle.sx_steps.proofs.Ones.{ok_same, ok_no_err}
 use Rattle.sx_accepting.specs.ReadLanguage.{Stated}
 use Rattle.sx_headers.specs.ReadModule.{Module}
 use Rattle.sx_importing.specs.ReadImports.{ImportData, ReadsImports}
-use Rattle.sx_build.specs.BuildModules.{Progress, begun, MakesNext, MakesAfter}
-use Rattle.sx_build.specs.Laws.{IsFound, IsTurn}
+use Rattle.sx_build.specs.BuildModules.{Progress, none_made, MakesNext, MakesAfter}
+use Rattle.sx_build.specs.Laws.{IsClosureFound, IsTurnOf}
 use Rattle.sx_build.specs.MadeModules.{with_made}
 
 module _ (budgets : Budgets) (files : Files) (l : Stated) (m : Module) (before next : Progress)
@@ -53,15 +53,15 @@ module _ (budgets : Budgets) (files : Files) (l : Stated) (m : Module) (before n
 
 -- so many of the modules were made, and these are left
 pub record IsAt (name : List ℕ) (budgets : Budgets) (auditors : List Meaning) (files : Files)
-    (f : IsFound name files) (ms : List Module) (progress : Progress) : Type 0 where
+    (f : IsClosureFound name files) (ms : List Module) (progress : Progress) : Type 0 where
   pub before : List Module
   pub stands : f.modules ≡ before ++ ms
   pub tries : ℕ
-  pub makes : MakesAfter budgets files f.language (begun auditors) before (Ok progress) tries
+  pub makes : MakesAfter budgets files f.language (none_made auditors) before (Ok progress) tries
 
 module _ (name : List ℕ) (budgets : Budgets) (auditors : List Meaning) (files : Files)
-    (f : IsFound name files) where
-  pub at_begin : IsAt name budgets auditors files f f.modules (begun auditors)
+    (f : IsClosureFound name files) where
+  pub at_begin : IsAt name budgets auditors files f f.modules (none_made auditors)
   at_begin = record { before = []; stands = refl; tries = 0; makes = (refl, refl) }
 
   pub at_next : (m : Module) (ms : List Module) (progress next : Progress) (one : ℕ) →
@@ -72,7 +72,7 @@ module _ (name : List ℕ) (budgets : Budgets) (auditors : List Meaning) (files 
     before = at.before ++ m ∷ [];
     stands = at.stands ∙ sym (append_assoc at.before (m ∷ []) ms);
     tries = at.tries + one;
-    makes = made_more budgets files f.language m progress next one makes at.before (begun auditors)
+    makes = made_more budgets files f.language m progress next one makes at.before (none_made auditors)
         at.tries at.makes;
   }
 
@@ -80,7 +80,7 @@ module _ (name : List ℕ) (budgets : Budgets) (auditors : List Meaning) (files 
   abbrev pub turn_of : (m : Module) (ms : List Module) (progress : Progress) →
       IsAt name budgets auditors files f (m ∷ ms) progress → (imports : List ImportData) →
       ReadsImports (with_made progress.made files) m.header.imports (Ok imports) →
-      IsTurn name budgets auditors files
+      IsTurnOf name budgets auditors files
   turn_of m ms progress at imports imported = record {
     found = f;
     before = at.before;

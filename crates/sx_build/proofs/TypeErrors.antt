@@ -27,18 +27,18 @@ use Rattle.sx_headers.specs.ReadModule.{Module, StatesModule}
 use Rattle.sx_importing.specs.Each.{GivesNext, GivesAfter}
 use Rattle.sx_importing.specs.ReadImports.{ImportData, ReadsImport, ReadsImports}
 use Rattle.sx_compiling.specs.Laws.{HasNoType, HasUnsoundRule}
-use Rattle.sx_compiling.specs.Laws.{TypeErrorsAreFinal as UnitsFinal}
+use Rattle.sx_compiling.specs.Laws.{TypeErrorsOfUnitsAreFinal as UnitsFinal}
 use Rattle.sx_compiling.specs.MakeUnit.{MakesUnit}
-use Rattle.sx_compiling.specs.Reached.{HasLanguage}
+use Rattle.sx_compiling.specs.Reached.{HasNamedLanguage}
 use Rattle.sx_closure.specs.Closures.{HaveLanguage}
 use Rattle.sx_headers.specs.ModuleFiles.{module_file}
 use Rattle.sx_closure.specs.ReadImport.{language_differs, ReadsNamed, ReadsImport as ReadsOther}
-use Rattle.sx_closure.specs.ReadImport.{HasLanguage as HasSame}
+use Rattle.sx_closure.specs.ReadImport.{HasSameLanguage as HasSame}
 use Rattle.sx_closure.specs.ReadModules.{imports_of, ReachesModules, ReadsModules}
-use Rattle.sx_build.specs.BuildModules.{Progress, begun, grown, ShowsUnit, MakesWith}
+use Rattle.sx_build.specs.BuildModules.{Progress, none_made, grown, ShowsUnit, MakesWith}
 use Rattle.sx_build.specs.BuildModules.{MakesNext, MakesAfter, whole_plan, language_in, BuildsOver}
 use Rattle.sx_build.specs.BuildModules.{BuildsRead}
-use Rattle.sx_build.specs.Laws.{IsFound, IsTurn, given_at, TypeErrorsAreFinal}
+use Rattle.sx_build.specs.Laws.{IsClosureFound, IsTurnOf, given_at, BuildTypeErrorsAreFinal}
 use Rattle.sx_build.specs.MadeModules.{with_made}
 use Rattle.sx_build.proofs.Languages.{HasBytes, have_language, has_bytes, given_language}
 use Rattle.sx_build.proofs.Turns.{IsAt, at_begin, at_next, turn_of}
@@ -118,11 +118,11 @@ module _ (Q : Stop → Type 0) where
 module _ (units : UnitsFinal) (name : List ℕ) (budgets : Budgets) (auditors : List Meaning)
     (files : Files) where
   abbrev Q : Stop → Type 0
-  Q stop = (t : IsTurn name budgets auditors files) ×
+  Q stop = (t : IsTurnOf name budgets auditors files) ×
       (HasNoType budgets files (given_at t) stop ⊎ HasUnsoundRule budgets files (given_at t) stop)
 
   -- one module
-  with_final : (t : IsTurn name budgets auditors files) → HasLanguage (given_at t) →
+  with_final : (t : IsTurnOf name budgets auditors files) → HasNamedLanguage (given_at t) →
       FinalTrying Q (MakesWith budgets files t.found.language t.progress t.own t.imports)
   with_final t language =
       and_then_final Q (MakesUnit budgets files (given_at t))
@@ -133,7 +133,7 @@ module _ (units : UnitsFinal) (name : List ℕ) (budgets : Budgets) (auditors : 
       (shows_final Q t.found.language t.progress t.own unit))
 
   -- all modules
-  module _ (f : IsFound name files) where
+  module _ (f : IsClosureFound name files) where
     bytes : HasBytes (language_in f.modules) f.language
     bytes = has_bytes (language_in f.modules) files f.language f.states
 
@@ -166,9 +166,9 @@ module _ (units : UnitsFinal) (name : List ℕ) (budgets : Budgets) (auditors : 
 
     over_final : FinalTrying Q (BuildsOver budgets auditors files f.modules f.language)
     over_final =
-        and_then_final Q (MakesAfter budgets files f.language (begun auditors) f.modules)
+        and_then_final Q (MakesAfter budgets files f.language (none_made auditors) f.modules)
         (λ end. Untried (λ result. result ≡ Ok (whole_plan end)))
-        (after_final f.modules (begun auditors) (have_language name files f.modules f.reads)
+        (after_final f.modules (none_made auditors) (have_language name files f.modules f.reads)
         (at_begin name budgets auditors files f))
         (λ end tries made. trying_final Q NoTries (λ result. result ≡ Ok (whole_plan end))
         (λ stop h. absurd (ok_no_err (whole_plan end) stop (sym h))))
@@ -188,8 +188,8 @@ module _ (units : UnitsFinal) (name : List ℕ) (budgets : Budgets) (auditors : 
         states = h.0;
       }))
 
-pub type_errors_are_final : UnitsFinal → TypeErrorsAreFinal
-type_errors_are_final units name budgets auditors files =
+pub build_type_errors_are_final : UnitsFinal → BuildTypeErrorsAreFinal
+build_type_errors_are_final units name budgets auditors files =
     and_then_final (Q units name budgets auditors files) (Untried (ReadsModules name files))
     (BuildsRead budgets auditors files)
     (trying_final (Q units name budgets auditors files) NoTries (ReadsModules name files)

@@ -18,7 +18,7 @@ use Rattle.sx_auditing.specs.Shows.{Shows}
 use Rattle.sx_auditing.specs.Texts.{texts_of}
 use Rattle.sx_headers.specs.ModuleFiles.{module_file}
 use Rattle.sx_closure.specs.ReadModules.{ReadsModules}
-use Rattle.sx_build.specs.MadeModules.{Made, made_of, made_plan, files_of, with_made}
+use Rattle.sx_build.specs.MadeModules.{Made, made_of, made_plan, made_files, with_made}
 
 -- ---- what is made
 
@@ -28,8 +28,8 @@ pub record Progress : Type 0 where
   pub auditors : List Meaning
 
 -- none was made
-abbrev pub begun : List Meaning → Progress
-begun auditors = record { made = []; auditors = auditors }
+abbrev pub none_made : List Meaning → Progress
+none_made auditors = record { made = []; auditors = auditors }
 
 -- the unit of one module more, and the auditors after they were shown it
 abbrev pub grown : Progress → Module → UnitData → List Meaning → Progress
@@ -80,7 +80,7 @@ MakesAfter budgets files l before (m ∷ ms) =
 -- all files in order, then the lines, then the texts of the auditors
 abbrev pub whole_plan : Progress → Plan
 whole_plan end = record {
-  files = files_of end.made;
+  files = made_files end.made;
   lines = flat_map (λ m. (made_plan m).lines) end.made ++ texts_of end.auditors;
 }
 
@@ -88,7 +88,7 @@ whole_plan end = record {
 abbrev pub BuildsOver : Budgets → List Meaning → Files → List Module → Stated →
     Result Plan StepError → ℕ → Type 0
 BuildsOver budgets auditors files ms l =
-    AndThen (MakesAfter budgets files l (begun auditors) ms)
+    AndThen (MakesAfter budgets files l (none_made auditors) ms)
     (λ end. Untried (λ result. result ≡ Ok (whole_plan end)))
 
 -- the language that the first of the modules names

@@ -8,7 +8,7 @@ use Rattle.sx_headers.specs.ReadModule.{Module}
 use Rattle.sx_walking.specs.Opened.{AreOnce}
 use Rattle.sx_walking.specs.Laws.{AllComeAfter}
 use Rattle.sx_closure.specs.Closures.{HaveLanguage}
-use Rattle.sx_closure.specs.ReadModules.{IsStated, name_of, imports_of}
+use Rattle.sx_closure.specs.ReadModules.{IsModuleStated, module_name, imports_of}
 use Rattle.sx_build.specs.BuildModules.{language_in}
 use Rattle.sx_build.specs.declared.made.Made.{Made as MadeOf}
 use Rattle.sx_build.specs.MadeModules.{Made}
@@ -31,8 +31,8 @@ abbrev pub AreAmong : List Made → List (List ℕ) → Type 0
 AreAmong mades names = AllByRecursion (Contains (map (λ m. m.name) mades)) names
 
 -- no two of these have one name
-abbrev pub AreDistinct : List Made → Type 0
-AreDistinct mades = AreOnce (map (λ m. m.name) mades)
+abbrev pub AreNamedApart : List Made → Type 0
+AreNamedApart mades = AreOnce (map (λ m. m.name) mades)
 
 -- one more stands behind these
 pub record AreMore (before after : List Made) : Type 0 where
@@ -40,22 +40,22 @@ pub record AreMore (before after : List Made) : Type 0 where
   pub is : after ≡ before ++ made ∷ []
 
 -- a text states the language, under the name that the module has for it
-pub record HasLanguage (m : Module) (l : LanguageFile) : Type 0 where
+pub record HasStatedLanguage (m : Module) (l : LanguageFile) : Type 0 where
   pub language : IsLanguage l.language
   pub text : HasText m.header.language l.language
 
 -- the module can be made in the language after these: its file states it, and the modules that it
 -- imports are among them
-pub record CanMake (mades : List Made) (m : Module) (l : LanguageFile) : Type 0 where
-  pub stated : IsStated m
-  pub language : HasLanguage m l
-  pub distinct : AreDistinct mades
+pub record CanBuild (mades : List Made) (m : Module) (l : LanguageFile) : Type 0 where
+  pub stated : IsModuleStated m
+  pub language : HasStatedLanguage m l
+  pub distinct : AreNamedApart mades
   pub among : AreAmong mades m.header.imports
 
 -- the modules can be made in the language, one after another in this order
 pub record CanMakeAll (ms : List Module) (l : LanguageFile) : Type 0 where
-  pub stated : AllByRecursion IsStated ms
-  pub order : AllComeAfter name_of imports_of ms
+  pub stated : AllByRecursion IsModuleStated ms
+  pub order : AllComeAfter module_name imports_of ms
   pub fit : IsLanguage l.language
   pub text : HasText (language_in ms) l.language
   pub same : HaveLanguage (language_in ms) ms

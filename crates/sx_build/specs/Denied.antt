@@ -23,8 +23,8 @@ AreWithout names budgets old new l from to [] (x ∷ made) built = ⊥
 
 -- where an auditor with the step of the kind `deny` is among those of a build that keeps its
 -- promise, no list of its modules has one of the rules that it denies
-abbrev pub DeniedAreUnwritten : Type 0
-DeniedAreUnwritten =
+abbrev pub DeniedAreUnbuilt : Type 0
+DeniedAreUnbuilt =
     (name : List ℕ) (budgets : Budgets) (auditors : List Meaning) (old new : Files)
     (lines : List ℕ) (b : BuiltModules name budgets auditors old new lines) →
     (word : List ℕ) (names : List (List ℕ)) → Contains auditors (denying word names) →

@@ -18,14 +18,14 @@ use Rattle.sx_compiling.specs.Given.{Given}
 use Rattle.sx_compiling.specs.Laws.{HasNoType, HasUnsoundRule}
 use Rattle.sx_compiling.specs.Laws.{ShowsFree as ShowsFreeOfUnit}
 use Rattle.sx_closure.specs.ReadModules.{ReadsModules}
-use Rattle.sx_build.specs.BuildModules.{Progress, begun, given_in, language_in, MakesAfter}
+use Rattle.sx_build.specs.BuildModules.{Progress, none_made, given_in, language_in, MakesAfter}
 use Rattle.sx_build.specs.BuildModules.{BuildsModule}
 use Rattle.sx_build.specs.MadeModules.{with_made}
 
 -- ---- what a module is made from
 
 -- the modules of the closure, and their language
-pub record IsFound (name : List ℕ) (files : Files) : Type 0 where
+pub record IsClosureFound (name : List ℕ) (files : Files) : Type 0 where
   pub modules : List Module
   pub reads : ReadsModules name files (Ok modules)
   pub language : Stated
@@ -33,22 +33,23 @@ pub record IsFound (name : List ℕ) (files : Files) : Type 0 where
 
 -- It is the turn of one of the modules: those before it were made, and then the interfaces of its
 -- imports were read, as they are once the files of those were written.
-pub record IsTurn (name : List ℕ) (budgets : Budgets) (auditors : List Meaning) (files : Files) :
+pub record IsTurnOf (name : List ℕ) (budgets : Budgets) (auditors : List Meaning) (files : Files) :
     Type 0 where
-  pub found : IsFound name files
+  pub found : IsClosureFound name files
   pub before : List Module
   pub own : Module
   pub behind : List Module
   pub stands : found.modules ≡ before ++ own ∷ behind
   pub progress : Progress
   pub tries : ℕ
-  pub makes : MakesAfter budgets files found.language (begun auditors) before (Ok progress) tries
+  pub makes : MakesAfter budgets files found.language (none_made auditors) before
+      (Ok progress) tries
   pub imports : List ImportData
   pub imported : ReadsImports (with_made progress.made files) own.header.imports (Ok imports)
 
 -- what the unit of this one is made from
 abbrev pub given_at : {name : List ℕ} {budgets : Budgets} {auditors : List Meaning}
-    {files : Files} → IsTurn name budgets auditors files → Given
+    {files : Files} → IsTurnOf name budgets auditors files → Given
 given_at t = given_in t.found.language t.own t.imports
 
 -- ---- one result
@@ -63,7 +64,7 @@ pub record IsOfLanguage (name : List ℕ) (files : Files) (stop : Stop) : Type 0
 -- language's file, or a text of the unit of one of the modules, of its imports or of its extensions
 abbrev pub ShowsFree : (name : List ℕ) → Budgets → List Meaning → Files → Stop → Type 0
 ShowsFree name budgets auditors files s = IsOfLanguage name files s
-    ⊎ ((t : IsTurn name budgets auditors files) × ShowsFreeOfUnit budgets files (given_at t) s)
+    ⊎ ((t : IsTurnOf name budgets auditors files) × ShowsFreeOfUnit budgets files (given_at t) s)
 
 -- the stops give the same status and the same line, but for the two readings that they show of one
 -- such text
@@ -84,11 +85,11 @@ BuildsAgree =
 
 -- it stops with a type error only where one of the modules, after those before it were made, has no
 -- type by the rules of its dialect, or a rule of one of its extensions is not sound
-abbrev pub TypeErrorsAreFinal : Type 0
-TypeErrorsAreFinal =
+abbrev pub BuildTypeErrorsAreFinal : Type 0
+BuildTypeErrorsAreFinal =
     (name : List ℕ) (budgets : Budgets) (auditors : List Meaning) (files : Files) (stop : Stop)
     (tries : ℕ) → BuildsModule name budgets auditors files (Err (errors.Stopped stop)) tries →
-    IsTypeError stop → (t : IsTurn name budgets auditors files)
+    IsTypeError stop → (t : IsTurnOf name budgets auditors files)
     × (HasNoType budgets files (given_at t) stop ⊎ HasUnsoundRule budgets files (given_at t) stop)
 
 -- ---- tries
@@ -96,10 +97,10 @@ TypeErrorsAreFinal =
 -- Of each module there is at most one walk for each rule of its extensions, which are with the
 -- language's rules at most 4,096, and one for itself; and a walk makes no more tries than it may
 -- spend. There are at most 256 modules.
-pub record WalksAreWithin : Type 0 where
+pub record BuildWalksAreWithin : Type 0 where
   pub built : (name : List ℕ) (budgets : Budgets) (auditors : List Meaning) (files : Files)
       (plan : Plan) (tries : ℕ) → BuildsModule name budgets auditors files (Ok plan) tries →
-      (f : IsFound name files) × (tries ≤ length f.modules * (4097 * budgets.tries))
+      (f : IsClosureFound name files) × (tries ≤ length f.modules * (4097 * budgets.tries))
   pub all : (name : List ℕ) (budgets : Budgets) (auditors : List Meaning) (files : Files)
       (result : Result Plan StepError) (tries : ℕ) →
       BuildsModule name budgets auditors files result tries →

@@ -29,9 +29,9 @@ abbrev pub made_plan : Made → Plan
 made_plan m = built_plan m.name m.base m.list m.interface m.nodes
 
 -- the files of all of these, in order
-abbrev pub files_of : List Made → List File
-files_of mades = flat_map (λ m. (made_plan m).files) mades
+abbrev pub made_files : List Made → List File
+made_files mades = flat_map (λ m. (made_plan m).files) mades
 
 -- the files as they are once those of these modules were written
 abbrev pub with_made : List Made → Files → Files
-with_made mades files = after (files_of mades) files
+with_made mades files = after (made_files mades) files

@@ -7,14 +7,14 @@ use Rattle.sx_interface.specs.InterfaceView.{interface_view}
 use Rattle.sx_outside.specs.Files.{Files}
 use Rattle.sx_steps.specs.Unit.{interface_file}
 use Rattle.sx_interface.specs.declared.import.Import.{Import}
-use Rattle.sx_walking.specs.FileTable.{files_by, IsPut}
+use Rattle.sx_walking.specs.FileTable.{files_by, IsFilePut}
 use Rattle.sx_walking.specs.Reached.{Found}
 use Rattle.sx_build.specs.declared.remembered.Remembered.{Remembered}
 use Rattle.sx_build.specs.MadeModules.{Made}
 
 -- what is remembered under each name
-abbrev pub imports_in : Remembered → Found Import
-imports_in remembered = files_by remembered.imports
+abbrev pub remembered_imports : Remembered → Found Import
+remembered_imports remembered = files_by remembered.imports
 
 -- nothing stands under the name, and under each other name what stood there
 abbrev pub IsGone : List ℕ → (old new : Found Import) → Type 0
@@ -22,8 +22,8 @@ IsGone name old new = (other : List ℕ) →
     new other ≡ (if bytes_eq name other then None else old other)
 
 -- the interface was put under the name of its module, or all is as before
-abbrev pub IsKept : Import → (old new : Found Import) → Type 0
-IsKept i old new = IsPut i.interface.«module» i old new
+abbrev pub IsInterfaceKept : Import → (old new : Found Import) → Type 0
+IsInterfaceKept i old new = IsFilePut i.interface.«module» i old new
     ⊎ ((name : List ℕ) → new name ≡ old name)
 
 -- The interface is that of the module with this name, which is one of these: it is what is read
@@ -38,8 +38,8 @@ pub record IsImportOf (mades : List Made) (name : List ℕ) (i : Import) : Type 
       ReadsImport files name (Ok (import_of i))
 
 -- so under the name that it has
-abbrev pub IsOwn : List Made → Import → Type 0
-IsOwn mades i = IsImportOf mades i.interface.«module» i
+abbrev pub IsOwnImport : List Made → Import → Type 0
+IsOwnImport mades i = IsImportOf mades i.interface.«module» i
 
 -- each interface that is remembered is that of one of these modules
 abbrev pub Remembers : List Made → Found Import → Type 0

@@ -8,12 +8,12 @@ ghost use Rattle.sx_steps.specs.Stop.{Does, OnlyReads};
 ghost use Rattle.sx_steps.specs.Work.{plan_of};
 ghost use Rattle.sx_accepting.specs.ReadLanguage.{stated_of};
 ghost use Rattle.sx_headers.specs.ReadModule.{module_of};
-ghost use Rattle.sx_compiling.specs.KeptFiles.{AreOf};
+ghost use Rattle.sx_compiling.specs.KeptFiles.{AreKeptOf};
 ghost use Rattle.sx_build.specs.BuildModules as spec;
 ghost use Rattle.sx_closure.specs.Closures.{IsClosure};
-ghost use Rattle.sx_closure.specs.ReadModules.{IsStated};
+ghost use Rattle.sx_closure.specs.ReadModules.{IsModuleStated};
 ghost use Rattle.sx_build.specs.Buildings.{mades_view, CanMakeAll};
-ghost use Rattle.sx_build.specs.Remembering.{imports_in, Remembers};
+ghost use Rattle.sx_build.specs.Remembering.{remembered_imports, Remembers};
 
 use crate::asked::Asked;
 use crate::budgeted::Budgeted;
@@ -42,15 +42,15 @@ fn make_all<S: Shelf, L: Ledger>(
 ) -> Result<(), StepError>
     requires can { CanMakeAll (map module_of sources.now) asked.now.language.now }
     requires begun { mades_view building.old.made.items ≡ [] }
-    requires remembers { Remembers [] (imports_in building.old.remembered) }
+    requires remembers { Remembers [] (remembered_imports building.old.remembered) }
     requires kept { WhereTold (S.content shelf.old)
-        (AreOf (clean_files_of building.old.extensions)) }
+        (AreKeptOf (clean_files_of building.old.extensions)) }
     ensures step { WhereTold (S.content shelf.old) (λ files. Does (λ done. record {
       made = mades_view building.new.made.items;
       auditors = map (λ b. meaning b) building.new.auditors.items;
     })
         (spec.MakesAfter asked.now.budgets files (stated_of asked.now.language.now)
-        (spec.begun (map (λ b. meaning b) building.old.auditors.items))
+        (spec.none_made (map (λ b. meaning b) building.old.auditors.items))
         (map module_of sources.now)) result steps.old steps.new) }
     ensures reads { OnlyReads (S.content shelf.old) (S.content shelf.new)
         (S.read_faults shelf.old) (S.read_faults shelf.new)
@@ -109,7 +109,7 @@ fn build_read<S: Shelf, L: Ledger>(
     shelf: &mut S,
     steps: &mut Steps<L>,
 ) -> Result<Work, StepError>
-    requires stated { AllByRecursion IsStated (map module_of sources.now) }
+    requires stated { AllByRecursion IsModuleStated (map module_of sources.now) }
     requires closure { (name : List ℕ) × IsClosure name (map module_of sources.now) }
     ensures step { WhereTold (S.content shelf.old) (λ files. Does plan_of
         (spec.BuildsRead given.now.budgets (map (λ b. meaning b) auditors.items) files

@@ -8,9 +8,10 @@ ghost use Rattle.sx_outside.specs.Files.{Files};
 ghost use Rattle.sx_steps.specs.Stop.{Gives, IsNoFault};
 ghost use Rattle.sx_steps.specs.Unit.{interface_file};
 ghost use Rattle.sx_importing.specs.ReadImports.{import_of, ReadsImport, ReadsImports};
-ghost use Rattle.sx_build.specs.Buildings.{made_view, mades_view, AreAmong, AreDistinct};
+ghost use Rattle.sx_build.specs.Buildings.{made_view, mades_view, AreAmong, AreNamedApart};
 ghost use Rattle.sx_build.specs.MadeModules.{with_made};
-ghost use Rattle.sx_build.specs.Remembering.{imports_in, IsImportOf, IsOwn, Remembers};
+ghost use Rattle.sx_build.specs.Remembering.{remembered_imports, IsImportOf, IsOwnImport};
+ghost use Rattle.sx_build.specs.Remembering.{Remembers};
 
 use crate::made::Made;
 use crate::remembered::Remembered;
@@ -89,13 +90,13 @@ fn import_named(
     remembered: &mut Remembered,
 ) -> Result<Import, StepError>
     requires among { Contains (map (λ m. m.name) (mades_view mades.now)) name.now }
-    requires distinct { AreDistinct (mades_view mades.now) }
-    requires remembers { Remembers (mades_view mades.now) (imports_in remembered.old) }
+    requires distinct { AreNamedApart (mades_view mades.now) }
+    requires remembers { Remembers (mades_view mades.now) (remembered_imports remembered.old) }
     ensures step { (files : Files) → Gives import_of
         (ReadsImport (with_made (mades_view mades.now) files) name.now) result }
     ensures is { IfOk result (IsImportOf (mades_view mades.now) name.now) }
     ensures no_fault { IsNoFault result }
-    ensures remembers { Remembers (mades_view mades.now) (imports_in remembered.new) }
+    ensures remembers { Remembers (mades_view mades.now) (remembered_imports remembered.new) }
 {
     match remembered.take(name) {
         Some(import) => Ok(import),
@@ -121,15 +122,15 @@ pub(crate) fn imports_made(
     remembered: &mut Remembered,
 ) -> Result<Vec<Import>, StepError>
     requires among { AreAmong (mades_view mades.now) names.now }
-    requires distinct { AreDistinct (mades_view mades.now) }
-    requires remembers { Remembers (mades_view mades.now) (imports_in remembered.old) }
+    requires distinct { AreNamedApart (mades_view mades.now) }
+    requires remembers { Remembers (mades_view mades.now) (remembered_imports remembered.old) }
     ensures step { (files : Files) → Gives (λ v. map import_of v.items)
         (ReadsImports (with_made (mades_view mades.now) files) names.now) result }
     ensures short { IfOk result (λ v. AllByRecursion IsShort (interfaces_of v.items)) }
     ensures names { IfOk result (λ v. map (λ it. it.name) (interfaces_of v.items) ≡ names.now) }
-    ensures own { IfOk result (λ v. AllByRecursion (IsOwn (mades_view mades.now)) v.items) }
+    ensures own { IfOk result (λ v. AllByRecursion (IsOwnImport (mades_view mades.now)) v.items) }
     ensures no_fault { IsNoFault result }
-    ensures remembers { Remembers (mades_view mades.now) (imports_in remembered.new) }
+    ensures remembers { Remembers (mades_view mades.now) (remembered_imports remembered.new) }
 {
     let mut imports = Vec::new(alloc);
     for i in 0..names.len() {

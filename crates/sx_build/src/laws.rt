@@ -1,8 +1,8 @@
 //! What is proved of `build NAME`.
 
 ghost use Rattle.sx_build.specs.BuiltModules.{BuildsKeepPromise, BuiltHaveHeadline};
-ghost use Rattle.sx_build.specs.Denied.{DeniedAreUnwritten};
-ghost use Rattle.sx_build.specs.Laws.{BuildsAgree, TypeErrorsAreFinal, WalksAreWithin};
+ghost use Rattle.sx_build.specs.Denied.{DeniedAreUnbuilt};
+ghost use Rattle.sx_build.specs.Laws.{BuildsAgree, BuildTypeErrorsAreFinal, BuildWalksAreWithin};
 
 use sx_auditing::{denied_are_unlisted, denying_stays, shows_once};
 use sx_compiling::{
@@ -42,24 +42,24 @@ pub fn builds_agree()
 
 /// A type error comes only where the goal of one of the modules has no derivation at all, or where
 /// a rule of one of its extensions is not sound; and it names the file of the one or of the other.
-pub fn type_errors_are_final()
-    ensures { TypeErrorsAreFinal }
+pub fn build_type_errors_are_final()
+    ensures { BuildTypeErrorsAreFinal }
 {
     type_errors_of_units_are_final();
 }
 
 /// Each of at most 256 modules takes at most one walk for each rule of its extensions and one for
 /// its goal, and no walk makes more tries than it may spend.
-pub fn walks_are_within()
-    ensures { WalksAreWithin }
+pub fn build_walks_are_within()
+    ensures { BuildWalksAreWithin }
 {
     units_walks_are_within();
 }
 
 /// Where an auditor with the step of the kind `deny` is among those of a build that keeps its
 /// promise, no list that it writes has one of the rules that this denies.
-pub fn denied_are_unwritten()
-    ensures { DeniedAreUnwritten }
+pub fn denied_are_unbuilt()
+    ensures { DeniedAreUnbuilt }
 {
     denied_are_unlisted();
     denying_stays();

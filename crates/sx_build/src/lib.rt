@@ -7,10 +7,10 @@
 //!   units of all these modules, and those of each say of one another what is promised.
 //! - `builds_agree`: by the name, the budgets, the auditors and the files there is one result and
 //!   one number of tries; read faults, out of memory and the readings that a refusal shows aside.
-//!   `walks_are_within`: no walk makes more tries than it may spend.
-//! - `type_errors_are_final`: a type error comes only where the goal of one of the modules has no
-//!   derivation at all, or a rule of one of its extensions is not sound.
-//! - `denied_are_unwritten`: no list that is written has a rule that an auditor denies.
+//!   `build_walks_are_within`: no walk makes more tries than it may spend.
+//! - `build_type_errors_are_final`: a type error comes only where the goal of one of the modules
+//!   has no derivation at all, or a rule of one of its extensions is not sound.
+//! - `denied_are_unbuilt`: no list that is written has a rule that an auditor denies.
 #![tactic(auto)]
 
 mod asked;
@@ -26,6 +26,6 @@ mod whole_work;
 
 pub use build_module::plan_build_module;
 pub use laws::{
-    builds_agree, builds_keep_promise, built_have_headline, denied_are_unwritten,
-    type_errors_are_final, walks_are_within,
+    build_type_errors_are_final, build_walks_are_within, builds_agree, builds_keep_promise,
+    built_have_headline, denied_are_unbuilt,
 };

@@ -10,14 +10,15 @@ ghost use Rattle.sx_steps.specs.Stop.{Gives, Does, OnlyReads, IsNoFault};
 ghost use Rattle.sx_accepting.specs.ReadLanguage.{stated_of};
 ghost use Rattle.sx_headers.specs.ReadModule.{module_of};
 ghost use Rattle.sx_importing.specs.ReadImports.{import_of};
-ghost use Rattle.sx_closure.specs.ReadModules.{IsStated};
-ghost use Rattle.sx_compiling.specs.CanMake.{HasList};
-ghost use Rattle.sx_compiling.specs.KeptFiles.{AreOf};
+ghost use Rattle.sx_closure.specs.ReadModules.{IsModuleStated};
+ghost use Rattle.sx_compiling.specs.CanMake.{HasDerivationList};
+ghost use Rattle.sx_compiling.specs.KeptFiles.{AreKeptOf};
 ghost use Rattle.sx_compiling.specs.MakeUnit.{MakesUnit};
 ghost use Rattle.sx_build.specs.BuildModules as spec;
-ghost use Rattle.sx_build.specs.Buildings.{made_view, mades_view, AreMore, HasLanguage, CanMake};
+ghost use Rattle.sx_build.specs.Buildings.{made_view, mades_view, AreMore, HasStatedLanguage};
+ghost use Rattle.sx_build.specs.Buildings.{CanBuild};
 ghost use Rattle.sx_build.specs.MadeModules.{made_of};
-ghost use Rattle.sx_build.specs.Remembering.{imports_in, Remembers};
+ghost use Rattle.sx_build.specs.Remembering.{remembered_imports, Remembers};
 
 use crate::asked::Asked;
 use crate::building::Building;
@@ -80,17 +81,17 @@ fn make_one<S: Shelf, L: Ledger>(
     shelf: &mut S,
     steps: &mut Steps<L>,
 ) -> Result<Compiled, StepError>
-    requires stated { IsStated (module_of source.now) }
-    requires language { HasLanguage (module_of source.now) asked.now.language.now }
+    requires stated { IsModuleStated (module_of source.now) }
+    requires language { HasStatedLanguage (module_of source.now) asked.now.language.now }
     requires short { AllByRecursion IsShort (interfaces_of imports.now) }
     requires named { map (λ it. it.name) (interfaces_of imports.now) ≡
         source.now.header.imports.items }
-    requires kept { WhereTold (S.content shelf.old) (AreOf (clean_files_of kept.old)) }
+    requires kept { WhereTold (S.content shelf.old) (AreKeptOf (clean_files_of kept.old)) }
     ensures step { WhereTold (S.content shelf.old) (λ files. Does unit_of
         (MakesUnit asked.now.budgets files (spec.given_in (stated_of asked.now.language.now)
         (module_of source.now) (map import_of imports.now))) result steps.old steps.new) }
-    ensures list { IfOk result (HasList asked.now.language.now.language) }
-    ensures kept { WhereTold (S.content shelf.old) (AreOf (clean_files_of kept.new)) }
+    ensures list { IfOk result (HasDerivationList asked.now.language.now.language) }
+    ensures kept { WhereTold (S.content shelf.old) (AreKeptOf (clean_files_of kept.new)) }
     ensures reads { OnlyReads (S.content shelf.old) (S.content shelf.new)
         (S.read_faults shelf.old) (S.read_faults shelf.new)
         (S.write_faults shelf.old) (S.write_faults shelf.new) result }
@@ -118,7 +119,7 @@ fn show_made(
     unit: Compiled,
     building: &mut Building,
 ) -> Result<(), StepError>
-    requires { HasList asked.now.language.now.language unit }
+    requires { HasDerivationList asked.now.language.now.language unit }
     ensures step { Gives (λ done. record {
       made = mades_view building.new.made.items;
       auditors = map (λ b. meaning b) building.new.auditors.items;
@@ -172,13 +173,13 @@ fn make_with<S: Shelf, L: Ledger>(
     shelf: &mut S,
     steps: &mut Steps<L>,
 ) -> Result<(), StepError>
-    requires stated { IsStated (module_of source.now) }
-    requires language { HasLanguage (module_of source.now) asked.now.language.now }
+    requires stated { IsModuleStated (module_of source.now) }
+    requires language { HasStatedLanguage (module_of source.now) asked.now.language.now }
     requires short { AllByRecursion IsShort (interfaces_of imports.now) }
     requires named { map (λ it. it.name) (interfaces_of imports.now) ≡
         source.now.header.imports.items }
     requires kept { WhereTold (S.content shelf.old)
-        (AreOf (clean_files_of building.old.extensions)) }
+        (AreKeptOf (clean_files_of building.old.extensions)) }
     ensures step { WhereTold (S.content shelf.old) (λ files. Does (λ done. record {
       made = mades_view building.new.made.items;
       auditors = map (λ b. meaning b) building.new.auditors.items;
@@ -195,7 +196,7 @@ fn make_with<S: Shelf, L: Ledger>(
         (mades_view building.new.made.items)) }
     ensures remembered { building.new.remembered ≡ building.old.remembered }
     ensures kept { WhereTold (S.content shelf.old)
-        (AreOf (clean_files_of building.new.extensions)) }
+        (AreKeptOf (clean_files_of building.new.extensions)) }
     ensures reads { OnlyReads (S.content shelf.old) (S.content shelf.new)
         (S.read_faults shelf.old) (S.read_faults shelf.new)
         (S.write_faults shelf.old) (S.write_faults shelf.new) result }
@@ -221,12 +222,12 @@ pub(crate) fn make_next<S: Shelf, L: Ledger>(
     shelf: &mut S,
     steps: &mut Steps<L>,
 ) -> Result<(), StepError>
-    requires can { CanMake (mades_view building.old.made.items) (module_of source.now)
+    requires can { CanBuild (mades_view building.old.made.items) (module_of source.now)
         asked.now.language.now }
     requires remembers { Remembers (mades_view building.old.made.items)
-        (imports_in building.old.remembered) }
+        (remembered_imports building.old.remembered) }
     requires kept { WhereTold (S.content shelf.old)
-        (AreOf (clean_files_of building.old.extensions)) }
+        (AreKeptOf (clean_files_of building.old.extensions)) }
     ensures step { WhereTold (S.content shelf.old) (λ files. Does (λ done. record {
       made = mades_view building.new.made.items;
       auditors = map (λ b. meaning b) building.new.auditors.items;
@@ -240,9 +241,9 @@ pub(crate) fn make_next<S: Shelf, L: Ledger>(
         map (λ m. m.name) (mades_view building.old.made.items)
         ++ source.now.header.name ∷ []) }
     ensures remembers { IfOk result (λ done. Remembers (mades_view building.new.made.items)
-        (imports_in building.new.remembered)) }
+        (remembered_imports building.new.remembered)) }
     ensures kept { WhereTold (S.content shelf.old)
-        (AreOf (clean_files_of building.new.extensions)) }
+        (AreKeptOf (clean_files_of building.new.extensions)) }
     ensures reads { OnlyReads (S.content shelf.old) (S.content shelf.new)
         (S.read_faults shelf.old) (S.read_faults shelf.new)
         (S.write_faults shelf.old) (S.write_faults shelf.new) result }

@@ -3,7 +3,8 @@
 ghost use Rattle.std.specs.Prelude.{◌≡◌, ℕ, List, None};
 ghost use Rattle.std.specs.List.{AllByRecursion};
 ghost use Rattle.sx_build.specs.MadeModules.{Made};
-ghost use Rattle.sx_build.specs.Remembering.{imports_in, IsGone, IsKept, IsOwn, Remembers};
+ghost use Rattle.sx_build.specs.Remembering.{remembered_imports, IsGone, IsInterfaceKept};
+ghost use Rattle.sx_build.specs.Remembering.{IsOwnImport, Remembers};
 
 use std::alloc::Global;
 use std::collections::HashMap;
@@ -21,7 +22,7 @@ pub(crate) struct Remembered {
 impl Remembered {
     /// None. It takes no memory.
     pub(crate) fn new(alloc: Global) -> Remembered
-        ensures { (name : List ℕ) → imports_in result name ≡ None }
+        ensures { (name : List ℕ) → remembered_imports result name ≡ None }
     {
         Remembered {
             alloc,
@@ -31,8 +32,9 @@ impl Remembered {
 
     /// Takes out the interface of the module with this name.
     pub(crate) fn take(&mut self, name: &Text) -> Option<Import>
-        ensures value { result ≡ imports_in self.old name.now }
-        ensures others { IsGone name.now (imports_in self.old) (imports_in self.new) }
+        ensures value { result ≡ remembered_imports self.old name.now }
+        ensures others { IsGone name.now (remembered_imports self.old)
+            (remembered_imports self.new) }
     {
         self.imports.remove(name.as_str())
     }
@@ -40,7 +42,8 @@ impl Remembered {
     /// Keeps the interface under the name of its module. Where memory lacks it is let go: then it
     /// is read again.
     pub(crate) fn keep(&mut self, import: Import)
-        ensures { IsKept import (imports_in self.old) (imports_in self.new) }
+        ensures { IsInterfaceKept import (remembered_imports self.old)
+            (remembered_imports self.new) }
     {
         match String::from_str(self.alloc, import.interface.module.as_str()) {
             Ok(name) => {
@@ -52,8 +55,9 @@ impl Remembered {
 
     /// Keeps the interfaces, each under the name of its module.
     pub(crate) fn keep_all(&mut self, imports: Vec<Import>)
-        ensures { (mades : List Made) → Remembers mades (imports_in self.old) →
-            AllByRecursion (IsOwn mades) imports.items → Remembers mades (imports_in self.new) }
+        ensures { (mades : List Made) → Remembers mades (remembered_imports self.old) →
+            AllByRecursion (IsOwnImport mades) imports.items → Remembers mades
+            (remembered_imports self.new) }
     {
         for import in imports {
             self.keep(import);

@@ -5,7 +5,7 @@ ghost use Rattle.std.specs.List.{flat_map};
 ghost use Rattle.sx_steps.specs.Work.{file_of, plan_of};
 ghost use Rattle.sx_build.specs.BuildModules as spec;
 ghost use Rattle.sx_build.specs.Buildings.{made_view, mades_view};
-ghost use Rattle.sx_build.specs.MadeModules.{made_plan, files_of};
+ghost use Rattle.sx_build.specs.MadeModules.{made_plan, made_files};
 
 use crate::building::Building;
 use crate::made::Made;
@@ -67,7 +67,7 @@ fn no_work(alloc: Global) -> Work
 /// All files and lines of the modules that were made.
 fn made_works(alloc: Global, mades: Vec<Made>) -> Result<Work, NoMemory>
     ensures files { IfOk result (λ work. map file_of work.files.items ≡
-        files_of (mades_view mades.items)) }
+        made_files (mades_view mades.items)) }
     ensures lines { IfOk result (λ work. work.lines.items ≡
         flat_map (λ m. (made_plan m).lines) (mades_view mades.items)) }
 {

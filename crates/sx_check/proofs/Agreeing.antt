@@ -18,7 +18,7 @@ use Rattle.sx_uses.specs.ReadExtension.{ReadsFile}
 use Rattle.sx_uses.specs.ReadUses.{ReadsUses}
 use Rattle.sx_uses.proofs.Agreeing.{files_one, uses_by}
 use Rattle.sx_accepting.specs.ExtendedLanguages.{ExtendedData, unextended}
-use Rattle.sx_accepting.specs.Extending.{Extends}
+use Rattle.sx_accepting.specs.Extending.{ExtendsLanguage}
 use Rattle.sx_accepting.specs.Alike.{StopsAtLanguage, SameButReadings}
 use Rattle.sx_accepting.specs.Laws.{LanguagesAgree, ExtendsAgree}
 use Rattle.sx_accepting.specs.ReadLanguage.{Stated, ReadsLanguage, base_in}
@@ -37,7 +37,7 @@ module _ (headers : OneHeaderAnswer) (languages : LanguagesAgree) (extends : Ext
 
   module _ (r : IsReached name files) where
     abbrev Extending : Result ExtendedData StepError → ℕ → Type 0
-    Extending = Extends (base_in r.language) budgets r.extensions (unextended r.language.language)
+    Extending = ExtendsLanguage (base_in r.language) budgets r.extensions (unextended r.language.language)
 
     abbrev SameExtending : Stop → Stop → Type 0
     SameExtending = SameButReadings (StopsAtReached name budgets files r)

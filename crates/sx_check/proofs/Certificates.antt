@@ -9,7 +9,7 @@ use Rattle.sx_rewrite.specs.declared.ext_rule.ExtRule.{ExtRule as ExtRuleOf}
 use Rattle.sx_rewrite.specs.Accepted.{Accepted, Checked, basic, checked}
 use Rattle.sx_rewrite.specs.Stored.{stored_in, certificate_at}
 use Rattle.sx_extcheck.specs.declared.budgets.Budgets.{Budgets}
-use Rattle.sx_extcheck.specs.Accepts.{AreChecked}
+use Rattle.sx_extcheck.specs.Accepts.{AreRulesChecked}
 use Rattle.sx_extcheck.specs.Checks.{Check}
 use Rattle.sx_steps.specs.Steps.{Untried}
 use Rattle.sx_steps.specs.declared.stop.Stop.{Stop}
@@ -17,7 +17,8 @@ use Rattle.sx_steps.proofs.Ones.{ok_same}
 use Rattle.sx_steps.proofs.StepsOn.{went_on}
 use Rattle.sx_uses.specs.ExtensionFile.{Extension, extension_file}
 use Rattle.sx_accepting.specs.ExtendedLanguages.{BaseLanguage, ExtendedData, unextended}
-use Rattle.sx_accepting.specs.Extending.{ReadData, ReadsAfter, HaveChecks, Accepts, ExtendsBy, Extends}
+use Rattle.sx_accepting.specs.Extending.{ReadData, ReadsAfter, HaveChecks, Accepts, ExtendsBy}
+use Rattle.sx_accepting.specs.Extending.{ExtendsLanguage}
 use Rattle.sx_notation.specs.Language.{LanguageData}
 use Rattle.sx_check.specs.CheckedExtension.{HaveCertificates}
 
@@ -50,7 +51,7 @@ begin_counted l =
     let same = length-map l.rules (λ (r : NamedRule). r.rule) in
     record { all = omega (arith, same); last = omega arith }
 
-stored_count : (c : Check) (es : List ExtRuleOf) (stored : List Checked) (tries : ℕ) → AreChecked c es tries (Ok stored) → length es ≡ length stored
+stored_count : (c : Check) (es : List ExtRuleOf) (stored : List Checked) (tries : ℕ) → AreRulesChecked c es tries (Ok stored) → length es ≡ length stored
 stored_count c [] [] tries h = refl
 stored_count c [] (s ∷ stored) tries h = absurd h
 stored_count c (e ∷ es) [] tries h = absurd h
@@ -69,10 +70,10 @@ module _ (l : BaseLanguage) (budgets : Budgets) where
       let before = h.all in
       subst AreCounted (sym accepts.2) (record { all = omega (arith, count, rules, more, before); last = omega (arith, count, more) })
 
-  pub all_counted : (files : List Extension) (x y : ExtendedData) (tries : ℕ) → AreCounted x → Extends l budgets files x (Ok y) tries → AreCounted y
+  pub all_counted : (files : List Extension) (x y : ExtendedData) (tries : ℕ) → AreCounted x → ExtendsLanguage l budgets files x (Ok y) tries → AreCounted y
   all_counted [] x y tries h e = subst AreCounted (sym (ok_same {B = Stop} y x e.0)) h
   all_counted (file ∷ files) x y tries h e =
-      let at = went_on (ExtendsBy l budgets file x) (Extends l budgets files) y tries e in
+      let at = went_on (ExtendsBy l budgets file x) (ExtendsLanguage l budgets files) y tries e in
       let read = went_on (Untried (ReadsAfter l x file)) (Accepts l budgets (extension_file file.header.name) x) at.given at.before at.begins in
       all_counted files at.given y at.after (next_counted (extension_file file.header.name) x at.given read.given read.after h read.goes) at.goes
 

@@ -16,13 +16,14 @@ use Rattle.sx_steps.specs.Steps.{Untried}
 use Rattle.sx_steps.proofs.Ones.{ok_same}
 use Rattle.sx_steps.proofs.StepsOn.{went, went_on}
 use Rattle.sx_uses.specs.ExtensionFile.{Extension, extension_file}
-use Rattle.sx_uses.specs.Laws.{names_of}
+use Rattle.sx_uses.specs.Laws.{use_names}
 use Rattle.sx_uses.specs.ReadExtension.{StatesExtension, ReadsFile, IsFor, ReadsExtension}
 use Rattle.sx_uses.specs.ReadUses.{ReadsUses}
 use Rattle.sx_uses.proofs.Coming.{come_first}
 use Rattle.sx_uses.proofs.Lasting.{come_last}
 use Rattle.sx_accepting.specs.ExtendedLanguages.{BaseLanguage, ExtendedData, ground_of, unextended}
-use Rattle.sx_accepting.specs.Extending.{ReadData, IsStated, ReadsAfter, Accepts, ExtendsBy, Extends}
+use Rattle.sx_accepting.specs.Extending.{ReadData, IsExtensionStated, ReadsAfter, Accepts}
+use Rattle.sx_accepting.specs.Extending.{ExtendsBy, ExtendsLanguage}
 use Rattle.sx_accepting.specs.Laws.{IsAcceptedOver}
 use Rattle.sx_accepting.proofs.AcceptedExtended.{stored_soundly, checks_of, accepted_from}
 use Rattle.sx_check.specs.CheckedExtension.{LastAreSound, ComesLast}
@@ -49,12 +50,12 @@ no_names (n ∷ names) name e = absurd cc
 no_more : (name : List ℕ) (names : List (List ℕ)) → name ∷ names ≡ [] → ⊥
 no_more name names e = absurd cc
 
-last_named : (xs : List Extension) (names : List (List ℕ)) (name : List ℕ) → names_of xs ≡ names ++ name ∷ [] → HasLast name xs
+last_named : (xs : List Extension) (names : List (List ℕ)) (name : List ℕ) → use_names xs ≡ names ++ name ∷ [] → HasLast name xs
 last_named [] names name e = absurd (no_names names name e)
 last_named (x ∷ []) [] name e = record { before = []; this = x; parts = refl; named = head_same x.header.name name [] [] e }
-last_named (x ∷ y ∷ xs) [] name e = absurd (no_more y.header.name (names_of xs) (rest_same x.header.name name (names_of (y ∷ xs)) [] e))
+last_named (x ∷ y ∷ xs) [] name e = absurd (no_more y.header.name (use_names xs) (rest_same x.header.name name (use_names (y ∷ xs)) [] e))
 last_named (x ∷ xs) (n ∷ names) name e =
-    let last = last_named xs names name (rest_same x.header.name n (names_of xs) (names ++ name ∷ []) e) in
+    let last = last_named xs names name (rest_same x.header.name n (use_names xs) (names ++ name ∷ []) e) in
     record { before = x ∷ last.before; this = last.this; parts = ap (λ (ys : List Extension). x ∷ ys) last.parts; named = last.named }
 
 of_last : (P : Extension → Type 0) (before : List Extension) (this : Extension) → AllByRecursion P (before ++ this ∷ []) → P this
@@ -97,7 +98,7 @@ own_is_last file language name files xs reached =
 
 module _ (l : BaseLanguage) (budgets : Budgets) where
   -- the rules of an extension that is read and accepted are sound
-  last_are_sound : (own : Extension) (so_far x : ExtendedData) (read : ReadData) (tries : ℕ) → IsAcceptedOver l so_far → IsStated (ground_of l so_far) own.bytes read →
+  last_are_sound : (own : Extension) (so_far x : ExtendedData) (read : ReadData) (tries : ℕ) → IsAcceptedOver l so_far → IsExtensionStated (ground_of l so_far) own.bytes read →
       Accepts l budgets (extension_file own.header.name) so_far read (Ok x) tries → LastAreSound so_far read x
   last_are_sound own so_far x read tries over stated accepts =
       let stored = accepts.0 in
@@ -117,16 +118,16 @@ module _ (l : BaseLanguage) (budgets : Budgets) where
     middle : ExtendedData
     tries : ℕ
     more : ℕ
-    extends : Extends l budgets before x (Ok middle) tries
+    extends : ExtendsLanguage l budgets before x (Ok middle) tries
     by : ExtendsBy l budgets own middle (Ok y) more
 
-  apart_at : (before : List Extension) (own : Extension) (x y : ExtendedData) (tries : ℕ) → Extends l budgets (before ++ own ∷ []) x (Ok y) tries → Apart before own x y
+  apart_at : (before : List Extension) (own : Extension) (x y : ExtendedData) (tries : ℕ) → ExtendsLanguage l budgets (before ++ own ∷ []) x (Ok y) tries → Apart before own x y
   apart_at [] own x y tries h =
-      let at = went_on (ExtendsBy l budgets own x) (Extends l budgets []) y tries h in
+      let at = went_on (ExtendsBy l budgets own x) (ExtendsLanguage l budgets []) y tries h in
       let same : y ≡ at.given = ok_same {B = Stop} y at.given at.goes.0 in
       record { middle = x; tries = 0; more = at.before; extends = (refl, refl); by = subst (λ (z : ExtendedData). ExtendsBy l budgets own x (Ok z) at.before) (sym same) at.begins }
   apart_at (file ∷ before) own x y tries h =
-      let at = went_on (ExtendsBy l budgets file x) (Extends l budgets (before ++ own ∷ [])) y tries h in
+      let at = went_on (ExtendsBy l budgets file x) (ExtendsLanguage l budgets (before ++ own ∷ [])) y tries h in
       let rest = apart_at before own at.given y at.after at.goes in
       record {
         middle = rest.middle;
@@ -137,9 +138,9 @@ module _ (l : BaseLanguage) (budgets : Budgets) where
       }
 
   pub comes_last : IsAcceptedOver l (unextended l.content) → (own : Extension) (before xs : List Extension) (x : ExtendedData) (tries : ℕ) → xs ≡ before ++ own ∷ [] →
-      Extends l budgets xs (unextended l.content) (Ok x) tries → ComesLast l budgets own xs x
+      ExtendsLanguage l budgets xs (unextended l.content) (Ok x) tries → ComesLast l budgets own xs x
   comes_last begun own before xs x tries parts extends =
-      let at = apart_at before own (unextended l.content) x tries (subst (λ (ys : List Extension). Extends l budgets ys (unextended l.content) (Ok x) tries) parts extends) in
+      let at = apart_at before own (unextended l.content) x tries (subst (λ (ys : List Extension). ExtendsLanguage l budgets ys (unextended l.content) (Ok x) tries) parts extends) in
       let read = went_on (Untried (ReadsAfter l at.middle own)) (Accepts l budgets (extension_file own.header.name) at.middle) x at.more at.by in
       let made = read.goes.2 in
       let over = accepted_from l budgets before (unextended l.content) at.middle at.tries begun at.extends in

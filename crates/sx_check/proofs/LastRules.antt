@@ -7,7 +7,7 @@ use Rattle.sx_steps.specs.declared.stop.Stop.{Stop}
 use Rattle.sx_steps.proofs.StepsOn.{went_on}
 use Rattle.sx_uses.specs.ExtensionFile.{Extension, extension_file}
 use Rattle.sx_accepting.specs.ExtendedLanguages.{BaseLanguage, ExtendedData}
-use Rattle.sx_accepting.specs.Extending.{ReadsAfter, Accepts, ExtendsBy, Extends}
+use Rattle.sx_accepting.specs.Extending.{ReadsAfter, Accepts, ExtendsBy, ExtendsLanguage}
 
 abbrev HasLast : ExtendedData → Type 0
 HasLast x = x.last ≤ length x.set.rules
@@ -21,8 +21,8 @@ by-one l b file so_far x tries e =
     let n = length-append so_far.set.rules w.given.rules in
     subst HasLast (sym w.goes.2) (omega (arith, n))
 
-pub last_among : (l : BaseLanguage) (b : Budgets) (files : List Extension) (so_far x : ExtendedData) (tries : ℕ) → HasLast so_far → Extends l b files so_far (Ok x) tries → HasLast x
+pub last_among : (l : BaseLanguage) (b : Budgets) (files : List Extension) (so_far x : ExtendedData) (tries : ℕ) → HasLast so_far → ExtendsLanguage l b files so_far (Ok x) tries → HasLast x
 last_among l b [] so_far x tries h e = last-here x so_far e.0 h
 last_among l b (file ∷ files) so_far x tries h e =
-    let w = went_on (ExtendsBy l b file so_far) (Extends l b files) x tries e in
+    let w = went_on (ExtendsBy l b file so_far) (ExtendsLanguage l b files) x tries e in
     last_among l b files w.given x w.after (by-one l b file so_far w.given w.before w.begins) w.goes

@@ -9,9 +9,9 @@ use Rattle.sx_steps.proofs.StepsOn.{went, went_on}
 use Rattle.sx_uses.specs.ExtensionFile.{Extension, extension_file}
 use Rattle.sx_uses.specs.ReadUses.{ReadsUses}
 use Rattle.sx_accepting.specs.ExtendedLanguages.{ExtendedData, unextended}
-use Rattle.sx_accepting.specs.Extending.{Extends}
+use Rattle.sx_accepting.specs.Extending.{ExtendsLanguage}
 use Rattle.sx_accepting.specs.LanguageFiles.{language_file}
-use Rattle.sx_accepting.specs.ReadLanguage.{Stated, IsStated, base_in}
+use Rattle.sx_accepting.specs.ReadLanguage.{Stated, IsLanguageStated, base_in}
 use Rattle.sx_accepting.proofs.AcceptedExtended.{accepted_begin}
 use Rattle.sx_accepting.proofs.OneExtended.{extended_is_accepted}
 use Rattle.sx_check.specs.CheckExtension.{check_plan}
@@ -20,9 +20,9 @@ use Rattle.sx_check.proofs.Certificates.{begin_counted, all_counted, have_certif
 use Rattle.sx_check.proofs.ComingLast.{own_is_last, comes_last}
 
 -- the steps came to this language, these extensions and what is accepted of them
-module _ (name language : List ℕ) (budgets : Budgets) (old : Files) (bytes : List ℕ) (l : Stated) (held : old (language_file language) ≡ Some bytes) (stated : IsStated language bytes l)
+module _ (name language : List ℕ) (budgets : Budgets) (old : Files) (bytes : List ℕ) (l : Stated) (held : old (language_file language) ≡ Some bytes) (stated : IsLanguageStated language bytes l)
     (xs : List Extension) (reached : ReadsUses (extension_file name) language (name ∷ []) old (Ok xs))
-    (x : ExtendedData) (tries : ℕ) (extends : Extends (base_in l) budgets xs (unextended l.language) (Ok x) tries) where
+    (x : ExtendedData) (tries : ℕ) (extends : ExtendsLanguage (base_in l) budgets xs (unextended l.language) (Ok x) tries) where
   kept : (plan : Plan) (new : Files) → plan ≡ check_plan name x → new ≡ after plan.files old → CheckedExtension name budgets old new plan.lines
   kept plan new made files_are =
       let last = own_is_last (extension_file name) language name old xs reached in
@@ -37,7 +37,7 @@ module _ (name language : List ℕ) (budgets : Budgets) (old : Files) (bytes : L
         held = last.held;
         headed = last.headed;
         language_held = subst (λ (named : List ℕ). old (language_file named) ≡ Some bytes) as_own held;
-        stated = subst (λ (named : List ℕ). IsStated named bytes l) as_own stated;
+        stated = subst (λ (named : List ℕ). IsLanguageStated named bytes l) as_own stated;
         reached = subst (λ (named : List ℕ). ReadsUses (extension_file name) named (name ∷ []) old (Ok xs)) as_own reached;
         extends = extends;
         accepted = extended_is_accepted language bytes l stated budgets xs x tries extends;

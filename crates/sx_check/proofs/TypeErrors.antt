@@ -13,12 +13,13 @@ use Rattle.sx_uses.specs.ReadExtension.{ReadsFile}
 use Rattle.sx_uses.specs.ReadUses.{ReadsUses}
 use Rattle.sx_uses.proofs.TypeErrors.{reads_final, uses_final}
 use Rattle.sx_accepting.specs.ExtendedLanguages.{unextended}
-use Rattle.sx_accepting.specs.Extending.{Extends}
+use Rattle.sx_accepting.specs.Extending.{ExtendsLanguage}
 use Rattle.sx_accepting.specs.ReadLanguage.{Stated, base_in, ReadsLanguage}
 use Rattle.sx_accepting.proofs.TypeErrors.{reads_language_final}
 use Rattle.sx_accepting.proofs.UnsoundRules.{unsound_is_final}
-use Rattle.sx_check.specs.CheckExtension.{check_plan, ChecksAll, ChecksOver, ChecksFile, ChecksExtension}
-use Rattle.sx_check.specs.Laws.{IsReached, HasUnsoundRule, UnsoundIsFinal}
+use Rattle.sx_check.specs.CheckExtension.{check_plan, ChecksAll, ChecksOver, ChecksFile}
+use Rattle.sx_check.specs.CheckExtension.{ChecksExtension}
+use Rattle.sx_check.specs.Laws.{IsReached, HasUnsoundRule, UnsoundChecksAreFinal}
 
 module _ (name : List ℕ) (budgets : Budgets) (files : Files) where
   abbrev Q : Stop → Type 0
@@ -27,7 +28,7 @@ module _ (name : List ℕ) (budgets : Budgets) (files : Files) where
   all_final : (r : IsReached name files) → FinalTrying Q (ChecksAll name budgets (base_in r.language) r.extensions)
   all_final r =
       let at = went _ _ _ r.states in
-      and_then_final Q (Extends (base_in r.language) budgets r.extensions (unextended r.language.language)) (λ x. Untried (λ result. result ≡ Ok (check_plan name x)))
+      and_then_final Q (ExtendsLanguage (base_in r.language) budgets r.extensions (unextended r.language.language)) (λ x. Untried (λ result. result ≡ Ok (check_plan name x)))
       (λ stop tries stops error. record { from = r; unsound = unsound_is_final r.read.header.language at.given r.language at.goes budgets r.extensions stop tries stops error })
       (λ x count extends. trying_final Q NoTries (λ result. result ≡ Ok (check_plan name x)) (λ stop h error. absurd (ok_no_err (check_plan name x) stop (sym h))))
 
@@ -49,5 +50,5 @@ module _ (name : List ℕ) (budgets : Budgets) (files : Files) where
       (trying_final Q NoTries (ReadsFile files name) (reads_final Q files name))
       (λ file count held. file_final file held.0)
 
-pub check_errors_are_final : UnsoundIsFinal
+pub check_errors_are_final : UnsoundChecksAreFinal
 check_errors_are_final name budgets files = command_final name budgets files

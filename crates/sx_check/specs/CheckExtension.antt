@@ -9,7 +9,7 @@ use Rattle.sx_uses.specs.ExtensionFile.{Extension, extension_file}
 use Rattle.sx_uses.specs.ReadExtension.{ReadsFile}
 use Rattle.sx_uses.specs.ReadUses.{ReadsUses}
 use Rattle.sx_accepting.specs.ExtendedLanguages.{BaseLanguage, ExtendedData, SetData, unextended}
-use Rattle.sx_accepting.specs.Extending.{Extends}
+use Rattle.sx_accepting.specs.Extending.{ExtendsLanguage}
 use Rattle.sx_accepting.specs.ReadLanguage.{Stated, base_in, ReadsLanguage}
 use Rattle.sx_check.specs.CheckText.{Shown, check_text}
 
@@ -32,7 +32,7 @@ check_plan name x = plan_with name x.set x.last
 abbrev pub ChecksAll : List ℕ → Budgets → BaseLanguage → List Extension →
     Result Plan StepError → ℕ → Type 0
 ChecksAll name budgets l xs =
-    AndThen (Extends l budgets xs (unextended l.content))
+    AndThen (ExtendsLanguage l budgets xs (unextended l.content))
     (λ x. Untried (λ result. result ≡ Ok (check_plan name x)))
 
 -- the extensions that are reached by `use` lines from the one with this name, which comes last, and

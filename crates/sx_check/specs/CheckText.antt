@@ -17,8 +17,8 @@ pub record Shown : Type 0 where
   pub rules : List NamedRule
 
 -- the view of an accepted set
-abbrev pub shown : AcceptedOf → Shown
-shown a = record { set = accepted a; base = rules_in a.base; rules = rules_in a.rules }
+abbrev pub shown_set : AcceptedOf → Shown
+shown_set a = record { set = accepted a; base = rules_in a.base; rules = rules_in a.rules }
 
 -- the line of the certificate, where there is one
 abbrev pub line_with : Shown → (name : List ℕ) → Option Proof → List ℕ

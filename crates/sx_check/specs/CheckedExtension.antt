@@ -15,10 +15,10 @@ use Rattle.sx_steps.specs.Work.{Plan}
 use Rattle.sx_uses.specs.ExtensionFile.{Extension, extension_file}
 use Rattle.sx_uses.specs.ReadUses.{ReadsUses}
 use Rattle.sx_accepting.specs.ExtendedLanguages.{BaseLanguage, ExtendedData, SetData, unextended}
-use Rattle.sx_accepting.specs.Extending.{ReadData, bodies_in, ReadsAfter, Extends}
+use Rattle.sx_accepting.specs.Extending.{ReadData, bodies_in, ReadsAfter, ExtendsLanguage}
 use Rattle.sx_accepting.specs.LanguageFiles.{language_file}
 use Rattle.sx_accepting.specs.Laws.{IsAcceptedOver}
-use Rattle.sx_accepting.specs.ReadLanguage.{Stated, IsStated, base_in}
+use Rattle.sx_accepting.specs.ReadLanguage.{Stated, IsLanguageStated, base_in}
 use Rattle.sx_check.specs.CheckExtension.{ChecksExtension, shown_in}
 use Rattle.sx_check.specs.CheckText.{check_text}
 
@@ -47,7 +47,7 @@ pub record ComesLast (l : BaseLanguage) (budgets : Budgets) (own : Extension)
   pub parts : extensions ≡ before ++ own ∷ []
   pub so_far : ExtendedData
   pub tries : ℕ
-  pub extends : Extends l budgets before (unextended l.content) (Ok so_far) tries
+  pub extends : ExtendsLanguage l budgets before (unextended l.content) (Ok so_far) tries
   pub read : ReadData
   pub reads : ReadsAfter l so_far own (Ok read)
   pub rules : x.set.rules ≡ so_far.set.rules ++ read.rules
@@ -71,10 +71,10 @@ pub record CheckedExtension (name : List ℕ) (budgets : Budgets) (old new : Fil
   pub held : old (extension_file name) ≡ Some own.bytes
   pub headed : IsHeaderAnswer name own.bytes (Ok own.header)
   pub language_held : old (language_file own.header.language) ≡ Some language_bytes
-  pub stated : IsStated own.header.language language_bytes language
+  pub stated : IsLanguageStated own.header.language language_bytes language
   pub reached :
       ReadsUses (extension_file name) own.header.language (name ∷ []) old (Ok extensions)
-  pub extends : Extends (base_in language) budgets extensions (unextended language.language)
+  pub extends : ExtendsLanguage (base_in language) budgets extensions (unextended language.language)
       (Ok extended) tries
   pub accepted : IsAcceptedOver (base_in language) extended
   pub last : ComesLast (base_in language) budgets own extensions extended

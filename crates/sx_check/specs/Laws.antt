@@ -73,8 +73,8 @@ pub record HasUnsoundRule (name : List ℕ) (budgets : Budgets) (files : Files) 
     pub unsound : StopsAtUnsound (base_in from.language) budgets from.extensions stop
 
 -- a check stops with a type error only where the rule that the stop is about is not sound
-abbrev pub UnsoundIsFinal : Type 0
-UnsoundIsFinal =
+abbrev pub UnsoundChecksAreFinal : Type 0
+UnsoundChecksAreFinal =
     (name : List ℕ) (budgets : Budgets) (files : Files) (stop : Stop) (tries : ℕ) →
     ChecksExtension name budgets files (Err (errors.Stopped stop)) tries → IsTypeError stop →
     HasUnsoundRule name budgets files stop

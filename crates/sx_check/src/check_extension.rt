@@ -6,7 +6,7 @@ ghost use Rattle.sx_notation.specs.Language.{IsLanguage};
 ghost use Rattle.sx_outside.specs.Told.{WhereTold};
 ghost use Rattle.sx_steps.specs.Stop.{OnlyReads, IsNoFault, Does};
 ghost use Rattle.sx_steps.specs.Work.{plan_of};
-ghost use Rattle.sx_uses.specs.ExtensionFile.{extension_of, extension_file, IsStated};
+ghost use Rattle.sx_uses.specs.ExtensionFile.{extension_of, extension_file, IsHeaderStated};
 ghost use Rattle.sx_uses.specs.ReadExtension.{ReadsFile};
 ghost use Rattle.sx_accepting.specs.ExtendedLanguages.{base_of};
 ghost use Rattle.sx_accepting.specs.ReadLanguage.{stated_of, HasText};
@@ -34,7 +34,7 @@ fn check_all<L: Ledger>(
 ) -> Result<Work, StepError>
     requires language { IsLanguage language.now }
     requires text { (name : List ℕ) × HasText name language.now }
-    requires files { AllByRecursion IsStated (map extension_of files.now) }
+    requires files { AllByRecursion IsHeaderStated (map extension_of files.now) }
     requires few { length files.now ≤ 256 }
     ensures step { Does plan_of (spec.ChecksAll asked.now.name.now asked.now.budgets
         (base_of language.now) (map extension_of files.now)) result steps.old steps.new }
@@ -73,7 +73,7 @@ fn check_reached<S: Shelf, L: Ledger>(
     requires file { asked.now.file.now ≡ extension_file asked.now.name.now }
     requires language { IsLanguage language.now }
     requires text { (name : List ℕ) × HasText name language.now }
-    requires stated { IsStated (extension_of held) }
+    requires stated { IsHeaderStated (extension_of held) }
     requires held { WhereTold (S.content shelf.now) (λ files.
         ReadsFile files held.header.name (Ok (extension_of held))) }
     requires roots { sought.roots.items ≡ asked.now.name.now ∷ [] }
@@ -118,7 +118,7 @@ fn check_over<S: Shelf, L: Ledger>(
     requires file { asked.now.file.now ≡ extension_file asked.now.name.now }
     requires language { IsLanguage language.now.language }
     requires text { (name : List ℕ) × HasText name language.now.language }
-    requires stated { IsStated (extension_of held) }
+    requires stated { IsHeaderStated (extension_of held) }
     requires held { WhereTold (S.content shelf.now) (λ files.
         ReadsFile files held.header.name (Ok (extension_of held))) }
     ensures step { WhereTold (S.content shelf.old)
@@ -145,7 +145,7 @@ fn check_file<S: Shelf, L: Ledger>(
     steps: &mut Steps<L>,
 ) -> Result<Work, StepError>
     requires file { asked.now.file.now ≡ extension_file asked.now.name.now }
-    requires stated { IsStated (extension_of held) }
+    requires stated { IsHeaderStated (extension_of held) }
     requires held { WhereTold (S.content shelf.now) (λ files.
         ReadsFile files held.header.name (Ok (extension_of held))) }
     ensures step { WhereTold (S.content shelf.old)

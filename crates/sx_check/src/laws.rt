@@ -1,7 +1,7 @@
 //! What is proved of the check of an extension.
 
 ghost use Rattle.sx_check.specs.CheckedExtension.{ChecksKeepPromise};
-ghost use Rattle.sx_check.specs.Laws.{ChecksAgree, UnsoundIsFinal};
+ghost use Rattle.sx_check.specs.Laws.{ChecksAgree, UnsoundChecksAreFinal};
 
 use sx_outline::one_extension_header;
 
@@ -22,6 +22,6 @@ pub fn checks_agree()
 
 /// A check stops with a type error only where the rule that the stop is about, in the file that it
 /// names, is not sound.
-pub fn unsound_is_final()
-    ensures { UnsoundIsFinal }
+pub fn unsound_checks_are_final()
+    ensures { UnsoundChecksAreFinal }
 {}

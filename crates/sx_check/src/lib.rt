@@ -16,4 +16,4 @@ mod rule_lines;
 mod sought;
 
 pub use check_extension::plan_check;
-pub use laws::{checks_agree, checks_keep_promise, unsound_is_final};
+pub use laws::{checks_agree, checks_keep_promise, unsound_checks_are_final};

@@ -11,7 +11,7 @@ use sx_term::{NoMemory, Text};
 /// Appends the line of the certificate of the rule with this number, where it has one.
 fn put_rule(alloc: Global, set: &Accepted, number: u32, into: &mut Vec<u8>) -> Result<(), NoMemory>
     ensures { OnOk result (into.new.items ≡ into.old.items
-        ++ text.rule_line (text.shown set.now) number) }
+        ++ text.rule_line (text.shown_set set.now) number) }
 {
     match set.certificate(number) {
         Some(proof) => {
@@ -32,7 +32,7 @@ fn put_rules(
 ) -> Result<(), NoMemory>
     requires { first + count < 2 ^ 32 }
     ensures { OnOk result (into.new.items ≡ into.old.items
-        ++ text.rule_lines (text.shown set.now) first count) }
+        ++ text.rule_lines (text.shown_set set.now) first count) }
 {
     for i in 0..count {
         put_rule(alloc, set, first + i, into)?;
@@ -65,7 +65,7 @@ pub(crate) fn check_lines(
 ) -> Result<Vec<u8>, NoMemory>
     requires { first + count < 2 ^ 32 }
     ensures { IfOk result (λ lines. lines.items
-        ≡ text.check_text (text.shown set.now) name.now first count) }
+        ≡ text.check_text (text.shown_set set.now) name.now first count) }
 {
     let mut lines = Vec::new(alloc);
     put_rules(alloc, set, first, count, &mut lines)?;

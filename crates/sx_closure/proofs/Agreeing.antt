@@ -14,7 +14,7 @@ use Rattle.sx_headers.specs.ReadModule.{Module}
 use Rattle.sx_headers.proofs.OneHeaders.{reads_module_one}
 use Rattle.sx_closure.specs.Laws.{ModulesAgree}
 use Rattle.sx_headers.specs.ModuleFiles.{module_file}
-use Rattle.sx_closure.specs.ReadImport.{ReadsNamed, HasLanguage, ReadsImport}
+use Rattle.sx_closure.specs.ReadImport.{ReadsNamed, HasSameLanguage, ReadsImport}
 use Rattle.sx_closure.specs.ReadModules.{imports_of, ReachesModules, ReadsModules}
 
 -- ---- the file of a module
@@ -23,7 +23,7 @@ pub named_one : (files : Files) (name : Name) → IsOne (ReadsNamed files name)
 named_one files name = reads_module_one (module_file name) name files
 
 language_one : (language : List ℕ) (name : Name) (given : Module) →
-    IsOne (HasLanguage language name given)
+    IsOne (HasSameLanguage language name given)
 language_one language name given (Ok x) (Ok y) h k n m = ap Ok (h.1 ∙ sym k.1)
 language_one language name given (Ok x) (Err t) h k n m = absurd (k.0 h.0)
 language_one language name given (Err s) (Ok y) h k n m = absurd (h.0 k.0)
@@ -32,7 +32,7 @@ language_one language name given (Err s) (Err t) h k n m = ap Err (h.1 ∙ sym k
 import_one : (language : List ℕ) (files : Files) (name : Name) →
     IsOne (ReadsImport language files name)
 import_one language files name =
-    then_one (ReadsNamed files name) (HasLanguage language name) (named_one files name)
+    then_one (ReadsNamed files name) (HasSameLanguage language name) (named_one files name)
     (λ given reads. language_one language name given)
 
 -- ---- the closure

@@ -11,13 +11,13 @@ use Rattle.sx_steps.specs.Stop.{Gives}
 use Rattle.sx_steps.specs.declared.stop.Stop.{Stop}
 use Rattle.sx_steps.specs.declared.step_error.StepError.{StepError}
 use Rattle.sx_steps.proofs.StepsOn.{went}
-use Rattle.sx_walking.specs.Kinds.{Fits, Visits, ReachesBy}
+use Rattle.sx_walking.specs.Kinds.{FileFits, Visits, ReachesBy}
 use Rattle.sx_walking.proofs.Reaching.{gives_as}
 use Rattle.sx_walking.proofs.Tables.{unlike}
 use Rattle.sx_headers.specs.ReadModule.{Module, HasHeader, StatesModule}
 use Rattle.sx_headers.specs.ModuleFiles.{module_file}
 use Rattle.sx_closure.specs.ModuleKind.{modules_with}
-use Rattle.sx_closure.specs.ReadImport.{ReadsNamed, HasLanguage, ReadsImport}
+use Rattle.sx_closure.specs.ReadImport.{ReadsNamed, HasSameLanguage, ReadsImport}
 use Rattle.sx_closure.specs.ReadModules.{imports_of, ReachesModules}
 
 -- ---- what was read
@@ -45,7 +45,7 @@ module _ (language : List ℕ) (files : Files) (name : Name) (m : Module)
   -- the import is read from its file
   pub import_read : ReadsNamed files name (Ok m)
   import_read =
-      let w = went (ReadsNamed files name) (HasLanguage language name) m reads in
+      let w = went (ReadsNamed files name) (HasSameLanguage language name) m reads in
       subst (λ (n : Module). ReadsNamed files name (Ok n)) (sym w.goes.1) w.begins
 
   pub import_named : m.header.name ≡ name
@@ -54,19 +54,19 @@ module _ (language : List ℕ) (files : Files) (name : Name) (m : Module)
   -- and has the language
   pub import_language : m.header.language ≡ language
   import_language =
-      let w = went (ReadsNamed files name) (HasLanguage language name) m reads in
+      let w = went (ReadsNamed files name) (HasSameLanguage language name) m reads in
       ap (λ (n : Module). n.header.language) w.goes.1 ∙ w.goes.0
 
 -- ---- the walk
 
 module _ (language : List ℕ) where
   has_as : (name : Name) (given : Module) (r : Result Module Stop) →
-      Fits (modules_with language) name given r → HasLanguage language name given r
+      FileFits (modules_with language) name given r → HasSameLanguage language name given r
   has_as name given (Ok m) h = ((bytes_eq-Decides given.header.language language).0 h.0, h.1)
   has_as name given (Err stop) h = (unlike given.header.language language h.0, h.1)
 
   goes_as : (name : Name) (given r : Result Module Stop) →
-      Goes (Fits (modules_with language) name) given r → Goes (HasLanguage language name) given r
+      Goes (FileFits (modules_with language) name) given r → Goes (HasSameLanguage language name) given r
   goes_as name (Ok m) r h = has_as name m r h
   goes_as name (Err stop) r h = h
 

@@ -8,7 +8,7 @@ use Rattle.sx_steps.specs.declared.step_error.StepError.{StepError}
 use Rattle.sx_walking.specs.Laws.{AnswerAlike}
 use Rattle.sx_headers.specs.ReadModule.{Module}
 use Rattle.sx_closure.specs.ReadImport.{ReadsNamed}
-use Rattle.sx_closure.specs.ReadModules.{name_of, ReadsModules}
+use Rattle.sx_closure.specs.ReadModules.{module_name, ReadsModules}
 use Rattle.sx_closure.specs.Closures.{IsClosure}
 
 -- by the name and the files there is one result, but for read faults and out of memory: the same
@@ -20,7 +20,7 @@ ModulesAgree = (name : List ℕ) (files : Files) (x y : Result (List Module) Ste
 
 -- each of these was read from its file
 abbrev pub AreRead : Files → List Module → Type 0
-AreRead files ms = AllByRecursion (λ m. ReadsNamed files (name_of m) (Ok m)) ms
+AreRead files ms = AllByRecursion (λ m. ReadsNamed files (module_name m) (Ok m)) ms
 
 -- the modules that were read are a closure of the one with this name, and those of their files
 abbrev pub ModulesAreClosure : Type 0

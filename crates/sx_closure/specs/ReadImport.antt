@@ -19,11 +19,11 @@ abbrev pub ReadsNamed : Files → List ℕ → Result Module Stop → Type 0
 ReadsNamed files name = ReadsModule (module_file name) name files
 
 -- the module with this name has the language, and any other is refused
-abbrev pub HasLanguage : (language name : List ℕ) → Module → Result Module Stop → Type 0
-HasLanguage language name given (Ok m) = (given.header.language ≡ language) × (m ≡ given)
-HasLanguage language name given (Err stop) = (given.header.language ≢ language) ×
+abbrev pub HasSameLanguage : (language name : List ℕ) → Module → Result Module Stop → Type 0
+HasSameLanguage language name given (Ok m) = (given.header.language ≡ language) × (m ≡ given)
+HasSameLanguage language name given (Err stop) = (given.header.language ≢ language) ×
     (stop ≡ language_differs (module_file name) given.header.language)
 
 -- the file of the module with this name, which is to have the language
 abbrev pub ReadsImport : (language : List ℕ) → Files → List ℕ → Result Module Stop → Type 0
-ReadsImport language files name = Then (ReadsNamed files name) (HasLanguage language name)
+ReadsImport language files name = Then (ReadsNamed files name) (HasSameLanguage language name)

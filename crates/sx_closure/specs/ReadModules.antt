@@ -16,15 +16,15 @@ abbrev pub modules_of : Vec ModuleFile → List Module
 modules_of ms = map module_of ms.items
 
 -- the name of a module
-abbrev pub name_of : Module → List ℕ
-name_of m = m.header.name
+abbrev pub module_name : Module → List ℕ
+module_name m = m.header.name
 
 -- the names of the modules that it imports, in order
 abbrev pub imports_of : Module → List (List ℕ)
 imports_of m = m.header.imports
 
 -- the bytes are no more than a file may have, and state the header under the name that it has
-pub record IsStated (m : Module) : Type 0 where
+pub record IsModuleStated (m : Module) : Type 0 where
   pub short : length m.bytes ≤ most_bytes
   pub headed : HasHeader m.header.name m.bytes m
 

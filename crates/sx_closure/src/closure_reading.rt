@@ -8,7 +8,8 @@ ghost use Rattle.sx_headers.specs.ReadModule.{module_of};
 ghost use Rattle.sx_closure.specs.Closures.{IsClosure};
 ghost use Rattle.sx_headers.specs.ModuleFiles.{module_file};
 ghost use Rattle.sx_closure.specs.ReadImport.{ReadsNamed};
-ghost use Rattle.sx_closure.specs.ReadModules.{IsStated, ReachesModules, ReadsModules, modules_of};
+ghost use Rattle.sx_closure.specs.ReadModules.{IsModuleStated, ReachesModules, ReadsModules};
+ghost use Rattle.sx_closure.specs.ReadModules.{modules_of};
 
 use crate::module_kind::ModuleKind;
 use crate::named_module::read_named;
@@ -53,12 +54,12 @@ fn read_sought<S: Shelf>(
 ) -> Result<Vec<ModuleFile>, StepError>
     requires roots { sought.roots.items ≡ root.header.name ∷ [] }
     requires file { sought.file ≡ module_file root.header.name }
-    requires stated { IsStated (module_of root) }
+    requires stated { IsModuleStated (module_of root) }
     requires held { WhereTold (S.content shelf.now)
         (λ files. ReadsNamed files root.header.name (Ok (module_of root))) }
     ensures step { WhereTold (S.content shelf.old) (λ files. Gives modules_of
         (ReachesModules sought.language root.header.name files) result) }
-    ensures stated { IfOk result (λ ms. AllByRecursion IsStated (modules_of ms)) }
+    ensures stated { IfOk result (λ ms. AllByRecursion IsModuleStated (modules_of ms)) }
     ensures closure { IfOk result (λ ms. IsClosure root.header.name (modules_of ms)) }
     ensures reads { OnlyReads (S.content shelf.old) (S.content shelf.new)
         (S.read_faults shelf.old) (S.read_faults shelf.new)
@@ -84,12 +85,12 @@ fn read_from<S: Shelf>(
     root: ModuleFile,
     shelf: &mut S,
 ) -> Result<Vec<ModuleFile>, StepError>
-    requires stated { IsStated (module_of root) }
+    requires stated { IsModuleStated (module_of root) }
     requires held { WhereTold (S.content shelf.now)
         (λ files. ReadsNamed files root.header.name (Ok (module_of root))) }
     ensures step { WhereTold (S.content shelf.old) (λ files. Gives modules_of
         (ReachesModules root.header.language root.header.name files) result) }
-    ensures stated { IfOk result (λ ms. AllByRecursion IsStated (modules_of ms)) }
+    ensures stated { IfOk result (λ ms. AllByRecursion IsModuleStated (modules_of ms)) }
     ensures closure { IfOk result (λ ms. IsClosure root.header.name (modules_of ms)) }
     ensures reads { OnlyReads (S.content shelf.old) (S.content shelf.new)
         (S.read_faults shelf.old) (S.read_faults shelf.new)
@@ -118,7 +119,7 @@ pub fn read_modules<S: Shelf>(
 ) -> Result<Vec<ModuleFile>, StepError>
     ensures step { WhereTold (S.content shelf.old)
         (λ files. Gives modules_of (ReadsModules name.now files) result) }
-    ensures stated { IfOk result (λ ms. AllByRecursion IsStated (modules_of ms)) }
+    ensures stated { IfOk result (λ ms. AllByRecursion IsModuleStated (modules_of ms)) }
     ensures closure { IfOk result (λ ms. IsClosure name.now (modules_of ms)) }
     ensures reads { OnlyReads (S.content shelf.old) (S.content shelf.new)
         (S.read_faults shelf.old) (S.read_faults shelf.new)

@@ -5,7 +5,7 @@ ghost use Rattle.sx_outside.specs.Told.{WhereTold};
 ghost use Rattle.sx_steps.specs.Stop.{Gives, OnlyReads};
 ghost use Rattle.sx_headers.specs.ReadModule.{module_of};
 ghost use Rattle.sx_closure.specs.ReadImport.{ReadsNamed};
-ghost use Rattle.sx_closure.specs.ReadModules.{IsStated};
+ghost use Rattle.sx_closure.specs.ReadModules.{IsModuleStated};
 
 use std::alloc::Global;
 use sx_headers::{ModuleFile, read_module};
@@ -24,7 +24,7 @@ pub fn read_named<S: Shelf>(
     ensures step { WhereTold (S.content shelf.old)
         (λ files. Gives module_of (ReadsNamed files name.now) result) }
     ensures named { IfOk result (λ m. m.header.name ≡ name.now) }
-    ensures stated { IfOk result (λ m. IsStated (module_of m)) }
+    ensures stated { IfOk result (λ m. IsModuleStated (module_of m)) }
     ensures reads { OnlyReads (S.content shelf.old) (S.content shelf.new)
         (S.read_faults shelf.old) (S.read_faults shelf.new)
         (S.write_faults shelf.old) (S.write_faults shelf.new) result }

@@ -34,7 +34,7 @@ use Rattle.sx_headers.specs.ModuleFiles.{module_file}
 use Rattle.sx_compile.specs.AuditedPlans.{audited_plan, AuditsUnit}
 use Rattle.sx_compile.specs.CompileModule.{given_in, CompilesGiven, CompilesOver, CompilesFew}
 use Rattle.sx_compile.specs.CompileModule.{CompilesOthers, CompilesRead}
-use Rattle.sx_compile.specs.Found.{IsModule, IsFound, given_from}
+use Rattle.sx_compile.specs.Found.{IsModule, IsModuleFound, given_from}
 use Rattle.sx_compile.specs.Imports.{ImportsOthers, ImportsFew}
 use Rattle.sx_compile.specs.Laws.{SameButShown, CompilesAgree}
 use Rattle.sx_compile.proofs.FoundModules.{language_of}
@@ -78,7 +78,7 @@ module _ (units : UnitsAgree) (once : ShowsOnce) (name : List ℕ) (budgets : Bu
   alike s = same_alike s s refl
 
   -- the unit
-  module _ (f : IsFound name files) where
+  module _ (f : IsModuleFound name files) where
     of_unit : (s t : Stop) → UnitShown budgets files (given_from f) s t → Related s t
     of_unit s t (inl same) = inl same
     of_unit s t (inr (are, free)) = inr (are, inr (f, free))

@@ -8,7 +8,7 @@ use Rattle.sx_steps.specs.Work.{Plan}
 use Rattle.sx_accepting.specs.ReadLanguage.{Stated, ReadsLanguage}
 use Rattle.sx_headers.specs.ReadModule.{ReadsModule}
 use Rattle.sx_importing.specs.ReadImports.{ImportData, ReadsImports}
-use Rattle.sx_compiling.specs.Laws.{WalksAreWithin as UnitsWithin}
+use Rattle.sx_compiling.specs.Laws.{UnitsWalksAreWithin as UnitsWithin}
 use Rattle.sx_compiling.specs.MakeUnit.{MakesUnit}
 use Rattle.sx_headers.specs.ModuleFiles.{module_file}
 use Rattle.sx_compiling.specs.Reached.{HasDialect}
@@ -17,9 +17,9 @@ use Rattle.sx_compiling.proofs.StepTries.{began}
 use Rattle.sx_compile.specs.AuditedPlans.{AuditsUnit}
 use Rattle.sx_compile.specs.CompileModule.{given_in, CompilesGiven, CompilesOver, CompilesFew}
 use Rattle.sx_compile.specs.CompileModule.{CompilesOthers, CompilesRead, CompilesModule}
-use Rattle.sx_compile.specs.Found.{IsModule, IsFound, given_from}
+use Rattle.sx_compile.specs.Found.{IsModule, IsModuleFound, given_from}
 use Rattle.sx_compile.specs.Imports.{ImportsOthers, ImportsFew}
-use Rattle.sx_compile.specs.Laws.{WalksAreWithin}
+use Rattle.sx_compile.specs.Laws.{CompileWalksAreWithin}
 use Rattle.sx_compile.proofs.FoundModules.{language_of}
 
 module _ (units : UnitsWithin) (name : List ℕ) (budgets : Budgets) (auditors : List Meaning)
@@ -27,7 +27,7 @@ module _ (units : UnitsWithin) (name : List ℕ) (budgets : Budgets) (auditors :
   abbrev most : ℕ
   most = 4097 * budgets.tries
 
-  given_most : (f : IsFound name files) →
+  given_most : (f : IsModuleFound name files) →
       Most (CompilesGiven name budgets auditors files (given_from f)) most
   given_most f =
       most_untried (MakesUnit budgets files (given_from f))
@@ -38,7 +38,7 @@ module _ (units : UnitsWithin) (name : List ℕ) (budgets : Budgets) (auditors :
   -- what is found so
   abbrev found_so : (m : IsModule name files) (l : Stated) →
       ReadsLanguage m.read.header.language files (Ok l) → (imports : List ImportData) →
-      ReadsImports files m.read.header.imports (Ok imports) → IsFound name files
+      ReadsImports files m.read.header.imports (Ok imports) → IsModuleFound name files
   found_so m l states imports imported = record {
     from = m;
     language = l;
@@ -67,7 +67,7 @@ module _ (units : UnitsWithin) (name : List ℕ) (budgets : Budgets) (auditors :
 
   compiled_within : (plan : Plan) (tries : ℕ) →
       CompilesModule name budgets auditors files (Ok plan) tries →
-      (f : IsFound name files) × (d : HasDialect budgets files (given_from f))
+      (f : IsModuleFound name files) × (d : HasDialect budgets files (given_from f))
       × (tries ≤ suc (length d.extended.set.kept.more) * budgets.tries)
   compiled_within plan tries compiled =
       let read = passed (ReadsModule (module_file name) name files)
@@ -83,7 +83,7 @@ module _ (units : UnitsWithin) (name : List ℕ) (budgets : Budgets) (auditors :
       let imports = passed (ReadsImports files m.header.imports)
       (λ imports. CompilesGiven name budgets auditors files (given_in name m l imports)) plan tries
       over.goes in
-      let f : IsFound name files = record {
+      let f : IsModuleFound name files = record {
         from = record {
           read = m;
           reads = read.begins;
@@ -101,8 +101,8 @@ module _ (units : UnitsWithin) (name : List ℕ) (budgets : Budgets) (auditors :
       (language_of name files f) made.begins in
       (f, within.0, within.1)
 
-pub walks_are_within : UnitsWithin → WalksAreWithin
-walks_are_within units = record {
+pub compile_walks_are_within : UnitsWithin → CompileWalksAreWithin
+compile_walks_are_within units = record {
   compiled = compiled_within units;
   all = all_most units;
 }

@@ -11,14 +11,14 @@ use Rattle.sx_accepting.specs.LanguageFiles.{language_file}
 use Rattle.sx_accepting.specs.ReadLanguage.{StatesLanguage}
 use Rattle.sx_headers.specs.ReadModule.{StatesModule}
 use Rattle.sx_headers.specs.ModuleFiles.{module_file}
-use Rattle.sx_compiling.specs.Reached.{HasLanguage, HasModule}
+use Rattle.sx_compiling.specs.Reached.{HasNamedLanguage, HasModule}
 use Rattle.sx_compiling.proofs.NamedImports.{imports_named}
-use Rattle.sx_compile.specs.Found.{IsFound, given_from}
+use Rattle.sx_compile.specs.Found.{IsModuleFound, given_from}
 
 -- ---- the module and its language
 
-module _ (name : List ℕ) (files : Files) (f : IsFound name files) where
-  pub language_of : HasLanguage (given_from f)
+module _ (name : List ℕ) (files : Files) (f : IsModuleFound name files) where
+  pub language_of : HasNamedLanguage (given_from f)
   language_of =
       let stated = went (Held most_bytes (language_file f.from.read.header.language) files)
       (StatesLanguage f.from.read.header.language) f.language f.states in

@@ -24,13 +24,13 @@ use Rattle.sx_compile.specs.CompiledModule.{CompiledModule, CompilesKeepPromise}
 use Rattle.sx_compile.specs.CompiledModule.{CompiledHasHeadline}
 use Rattle.sx_compile.specs.CompileModule.{given_in, CompilesGiven, CompilesOver, CompilesFew}
 use Rattle.sx_compile.specs.CompileModule.{CompilesOthers, CompilesRead}
-use Rattle.sx_compile.specs.Found.{IsFound, given_from}
+use Rattle.sx_compile.specs.Found.{IsModuleFound, given_from}
 use Rattle.sx_compile.specs.Imports.{ImportsOthers, ImportsFew}
 use Rattle.sx_compile.proofs.FoundModules.{language_of, module_of}
 
 module _ (name : List ℕ) (budgets : Budgets) (auditors : List Meaning) (old new : Files) where
   -- where the plan is that of the unit, to which no auditor objects
-  kept_by : (plan : Plan) (f : IsFound name old) (unit : UnitData) (kept : List Meaning) →
+  kept_by : (plan : Plan) (f : IsModuleFound name old) (unit : UnitData) (kept : List Meaning) →
       HasUnit budgets old (given_from f) unit →
       Shows (module_file name) f.language.language.rules auditors unit.list (Ok kept) →
       plan ≡ audited_plan name unit kept → new ≡ after plan.files old →
@@ -75,7 +75,7 @@ compiles_keep_promise name budgets auditors old new plan tries compiled files_ar
     imports.goes in
     let shown = went (Shows file l.language.rules auditors made.given.list)
     (λ kept result. result ≡ Ok (audited_plan name made.given kept)) plan made.goes.0 in
-    let f : IsFound name old = record {
+    let f : IsModuleFound name old = record {
       from = record {
         read = m;
         reads = read.begins.0;

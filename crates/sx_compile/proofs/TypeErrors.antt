@@ -32,15 +32,15 @@ use Rattle.sx_headers.specs.ReadModule.{Module, StatesModule, ReadsModule}
 use Rattle.sx_importing.specs.Each.{GivesNext, GivesAfter}
 use Rattle.sx_importing.specs.ReadImports.{ImportData, ReadsImport, ReadsImports}
 use Rattle.sx_compiling.specs.Laws.{HasNoType, HasUnsoundRule}
-use Rattle.sx_compiling.specs.Laws.{TypeErrorsAreFinal as UnitsFinal}
+use Rattle.sx_compiling.specs.Laws.{TypeErrorsOfUnitsAreFinal as UnitsFinal}
 use Rattle.sx_compiling.specs.MakeUnit.{MakesUnit}
 use Rattle.sx_headers.specs.ModuleFiles.{module_file}
 use Rattle.sx_compile.specs.AuditedPlans.{audited_plan, AuditsUnit}
 use Rattle.sx_compile.specs.CompileModule.{given_in, CompilesGiven, CompilesOver, CompilesFew}
 use Rattle.sx_compile.specs.CompileModule.{CompilesOthers, CompilesRead}
-use Rattle.sx_compile.specs.Found.{IsModule, IsFound, given_from}
+use Rattle.sx_compile.specs.Found.{IsModule, IsModuleFound, given_from}
 use Rattle.sx_compile.specs.Imports.{ImportsOthers, ImportsFew}
-use Rattle.sx_compile.specs.Laws.{TypeErrorsAreFinal}
+use Rattle.sx_compile.specs.Laws.{CompileTypeErrorsAreFinal}
 use Rattle.sx_compile.proofs.FoundModules.{language_of}
 
 -- ---- steps
@@ -110,11 +110,11 @@ module _ (Q : Stop → Type 0) where
 module _ (units : UnitsFinal) (name : List ℕ) (budgets : Budgets) (auditors : List Meaning)
     (files : Files) where
   abbrev Q : Stop → Type 0
-  Q stop = (f : IsFound name files) ×
+  Q stop = (f : IsModuleFound name files) ×
       (HasNoType budgets files (given_from f) stop
       ⊎ HasUnsoundRule budgets files (given_from f) stop)
 
-  given_final : (f : IsFound name files) →
+  given_final : (f : IsModuleFound name files) →
       FinalTrying Q (CompilesGiven name budgets auditors files (given_from f))
   given_final f =
       and_then_final Q (MakesUnit budgets files (given_from f))
@@ -174,8 +174,8 @@ module _ (units : UnitsFinal) (name : List ℕ) (budgets : Budgets) (auditors : 
         (others_final Q (module_file name) name m.header))
         (λ done before h. many_final h.0)
 
-pub type_errors_are_final : UnitsFinal → TypeErrorsAreFinal
-type_errors_are_final units name budgets auditors files =
+pub compile_type_errors_are_final : UnitsFinal → CompileTypeErrorsAreFinal
+compile_type_errors_are_final units name budgets auditors files =
     and_then_final (Q units name budgets auditors files)
     (Untried (ReadsModule (module_file name) name files)) (CompilesRead name budgets auditors files)
     (trying_final (Q units name budgets auditors files) NoTries

@@ -12,7 +12,7 @@ use Rattle.sx_auditing.specs.Texts.{texts_of}
 use Rattle.sx_compiling.specs.Headline.{HasUnit, HasHeadline}
 use Rattle.sx_headers.specs.ModuleFiles.{module_file}
 use Rattle.sx_compile.specs.CompileModule.{CompilesModule}
-use Rattle.sx_compile.specs.Found.{IsFound, given_from}
+use Rattle.sx_compile.specs.Found.{IsModuleFound, given_from}
 
 -- The three files hold the texts of the unit of the module NAME.mod in its dialect, in the
 -- environment of its imports by their interfaces. The auditors are shown its list, and no one
@@ -20,7 +20,7 @@ use Rattle.sx_compile.specs.Found.{IsFound, given_from}
 -- nodes, and behind it stands the text of each auditor.
 pub record CompiledModule (name : List ℕ) (budgets : Budgets) (auditors : List Meaning)
     (old new : Files) (lines : List ℕ) : Type 0 where
-  pub found : IsFound name old
+  pub found : IsModuleFound name old
   pub unit : UnitData
   pub compiled : HasUnit budgets old (given_from found) unit
   pub kept : List Meaning

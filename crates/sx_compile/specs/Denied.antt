@@ -14,8 +14,8 @@ abbrev pub IsWithout : {name : List ℕ} {budgets : Budgets} {auditors : List Me
 IsWithout names c = AllByRecursion (IsByOther c.found.language.language.rules names) c.unit.list
 
 -- so it is where an auditor with the step of the kind `deny` denies these
-abbrev pub DeniedAreUnwritten : Type 0
-DeniedAreUnwritten =
+abbrev pub DeniedAreUncompiled : Type 0
+DeniedAreUncompiled =
     (name : List ℕ) (budgets : Budgets) (auditors : List Meaning) (old new : Files)
     (lines : List ℕ) (c : CompiledModule name budgets auditors old new lines) →
     (word : List ℕ) (names : List (List ℕ)) → Contains auditors (denying word names) →

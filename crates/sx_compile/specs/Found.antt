@@ -16,7 +16,7 @@ pub record IsModule (name : List ℕ) (files : Files) : Type 0 where
   pub few : length read.header.imports ≤ 255
 
 -- the language that its header names, and the interfaces of its imports, in the order of its header
-pub record IsFound (name : List ℕ) (files : Files) : Type 0 where
+pub record IsModuleFound (name : List ℕ) (files : Files) : Type 0 where
   pub from : IsModule name files
   pub language : Stated
   pub states : ReadsLanguage from.read.header.language files (Ok language)
@@ -24,5 +24,5 @@ pub record IsFound (name : List ℕ) (files : Files) : Type 0 where
   pub imported : ReadsImports files from.read.header.imports (Ok imports)
 
 -- what its unit is made from
-abbrev pub given_from : {name : List ℕ} {files : Files} → IsFound name files → Given
+abbrev pub given_from : {name : List ℕ} {files : Files} → IsModuleFound name files → Given
 given_from {name = name} f = given_in name f.from.read f.language f.imports

@@ -15,7 +15,7 @@ pub use Rattle.sx_compiling.specs.Laws.{HasNoType, HasUnsoundRule}
 use Rattle.sx_compiling.specs.Laws.{ShowsFree as ShowsFreeOfUnit}
 use Rattle.sx_compiling.specs.Reached.{HasDialect}
 use Rattle.sx_compile.specs.CompileModule.{CompilesModule}
-use Rattle.sx_compile.specs.Found.{IsModule, IsFound, given_from}
+use Rattle.sx_compile.specs.Found.{IsModule, IsModuleFound, given_from}
 
 -- ---- one result
 
@@ -28,7 +28,7 @@ pub record IsOfLanguage (name : List ℕ) (files : Files) (stop : Stop) : Type 0
 -- language's file, or a text of the unit's module, of its imports or of its extensions
 abbrev pub ShowsFree : (name : List ℕ) → Budgets → Files → Stop → Type 0
 ShowsFree name budgets files s = IsOfLanguage name files s
-    ⊎ ((f : IsFound name files) × ShowsFreeOfUnit budgets files (given_from f) s)
+    ⊎ ((f : IsModuleFound name files) × ShowsFreeOfUnit budgets files (given_from f) s)
 
 -- the stops give the same status and the same line, but for the two readings that they show of one
 -- such text
@@ -49,11 +49,11 @@ CompilesAgree =
 
 -- it stops with a type error only where the module has no type by the rules of its dialect, or a
 -- rule of one of its extensions is not sound
-abbrev pub TypeErrorsAreFinal : Type 0
-TypeErrorsAreFinal =
+abbrev pub CompileTypeErrorsAreFinal : Type 0
+CompileTypeErrorsAreFinal =
     (name : List ℕ) (budgets : Budgets) (auditors : List Meaning) (files : Files) (stop : Stop)
     (tries : ℕ) → CompilesModule name budgets auditors files (Err (errors.Stopped stop)) tries →
-    IsTypeError stop → (f : IsFound name files)
+    IsTypeError stop → (f : IsModuleFound name files)
     × (HasNoType budgets files (given_from f) stop
     ⊎ HasUnsoundRule budgets files (given_from f) stop)
 
@@ -61,10 +61,10 @@ TypeErrorsAreFinal =
 
 -- There is at most one walk for each rule of the extensions, which are with the language's rules at
 -- most 4,096, and one for the module; and a walk makes no more tries than it may spend.
-pub record WalksAreWithin : Type 0 where
+pub record CompileWalksAreWithin : Type 0 where
   pub compiled : (name : List ℕ) (budgets : Budgets) (auditors : List Meaning) (files : Files)
       (plan : Plan) (tries : ℕ) → CompilesModule name budgets auditors files (Ok plan) tries →
-      (f : IsFound name files) × (d : HasDialect budgets files (given_from f))
+      (f : IsModuleFound name files) × (d : HasDialect budgets files (given_from f))
       × (tries ≤ suc (length d.extended.set.kept.more) * budgets.tries)
   pub all : (name : List ℕ) (budgets : Budgets) (auditors : List Meaning) (files : Files)
       (result : Result Plan StepError) (tries : ℕ) →

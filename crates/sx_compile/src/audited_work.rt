@@ -4,7 +4,7 @@ ghost use Rattle.std.specs.Prelude.{◌≡◌, IfOk, map};
 ghost use Rattle.sx_unit.specs.Written.{unit_of};
 ghost use Rattle.sx_steps.specs.Stop.{Gives, IsNoFault};
 ghost use Rattle.sx_steps.specs.Work.{plan_of};
-ghost use Rattle.sx_compiling.specs.CanMake.{HasList, given_of};
+ghost use Rattle.sx_compiling.specs.CanMake.{HasDerivationList, given_of};
 ghost use Rattle.sx_headers.specs.ModuleFiles.{module_file};
 ghost use Rattle.sx_compile.specs.AuditedPlans.{AuditsUnit, audited_plan};
 
@@ -45,7 +45,7 @@ pub(crate) fn audit_unit(
     auditors: &mut Vec<Box<dyn Auditor>>,
 ) -> Result<Work, StepError>
     requires file { given.now.file.now ≡ module_file asked.now.name.now }
-    requires list { HasList given.now.language.now.language unit }
+    requires list { HasDerivationList given.now.language.now.language unit }
     ensures step { Gives plan_of (AuditsUnit asked.now.name.now
         (given_of given.now).language.language.rules (map (λ b. meaning b) auditors.old.items)
         (unit_of unit)) result }

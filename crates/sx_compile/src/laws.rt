@@ -1,8 +1,9 @@
 //! What is proved of `compile NAME`.
 
 ghost use Rattle.sx_compile.specs.CompiledModule.{CompilesKeepPromise, CompiledHasHeadline};
-ghost use Rattle.sx_compile.specs.Denied.{DeniedAreUnwritten};
-ghost use Rattle.sx_compile.specs.Laws.{CompilesAgree, TypeErrorsAreFinal, WalksAreWithin};
+ghost use Rattle.sx_compile.specs.Denied.{DeniedAreUncompiled};
+ghost use Rattle.sx_compile.specs.Laws.{CompilesAgree, CompileTypeErrorsAreFinal};
+ghost use Rattle.sx_compile.specs.Laws.{CompileWalksAreWithin};
 
 use sx_auditing::{denied_are_unlisted, shows_once};
 use sx_compiling::{
@@ -39,24 +40,24 @@ pub fn compiles_agree()
 
 /// A type error comes only where the body's goal has no derivation at all, or where a rule of an
 /// extension is not sound; and it names the file of the one or of the other.
-pub fn type_errors_are_final()
-    ensures { TypeErrorsAreFinal }
+pub fn compile_type_errors_are_final()
+    ensures { CompileTypeErrorsAreFinal }
 {
     type_errors_of_units_are_final();
 }
 
 /// A module takes at most one walk for each rule of the extensions and one for its goal, and no
 /// walk makes more tries than it may spend.
-pub fn walks_are_within()
-    ensures { WalksAreWithin }
+pub fn compile_walks_are_within()
+    ensures { CompileWalksAreWithin }
 {
     units_walks_are_within();
 }
 
 /// Where an auditor with the step of the kind `deny` is among those of the command, the list that
 /// it writes has none of the rules that this denies.
-pub fn denied_are_unwritten()
-    ensures { DeniedAreUnwritten }
+pub fn denied_are_uncompiled()
+    ensures { DeniedAreUncompiled }
 {
     denied_are_unlisted();
 }

@@ -32,14 +32,14 @@ use Rattle.sx_uses.specs.ReadUses.{ReadsUses}
 use Rattle.sx_uses.proofs.Agreeing.{uses_by}
 use Rattle.sx_accepting.specs.Alike.{StopsAtExtension, SameButReadings}
 use Rattle.sx_accepting.specs.ExtendedLanguages.{unextended}
-use Rattle.sx_accepting.specs.Extending.{Extends}
+use Rattle.sx_accepting.specs.Extending.{ExtendsLanguage}
 use Rattle.sx_accepting.specs.ReadLanguage.{base_in}
 use Rattle.sx_accepting.proofs.OneExtended.{extends_agree}
 use Rattle.sx_accepting.proofs.SameRefusals.{not_lacking, same_refusal, readings_as}
 use Rattle.sx_headers.specs.FreeImports.{HasFreeImports}
 use Rattle.sx_headers.specs.TextStops.{unread_text}
 use Rattle.sx_headers.proofs.OneHeaders.{free_imports_one}
-use Rattle.sx_importing.specs.ImportStops.{file_of}
+use Rattle.sx_importing.specs.ImportStops.{import_file}
 use Rattle.sx_importing.specs.Laws.{SameButRows}
 use Rattle.sx_importing.specs.MakeEnvironment.{SeesImports}
 use Rattle.sx_importing.proofs.OneImports.{sees}
@@ -47,7 +47,7 @@ use Rattle.sx_compiling.specs.ModuleStops.{module_stop}
 use Rattle.sx_compiling.specs.CompileModule.{Compiles, CompilingTries}
 use Rattle.sx_compiling.specs.Given.{Given, interfaces_in, seen_in}
 use Rattle.sx_compiling.specs.MakeUnit.{MakesIn, MakesSeeing, MakesExtended, MakesReached}
-use Rattle.sx_compiling.specs.Reached.{HasLanguage, IsReached, HasDialect}
+use Rattle.sx_compiling.specs.Reached.{HasNamedLanguage, IsReached, HasDialect}
 use Rattle.sx_compiling.specs.Reached.{HasGround, seen_over, module_over}
 use Rattle.sx_compiling.specs.Laws.{ShowsOfThree, SameButShown, UnitsAgree}
 use Rattle.sx_compiling.proofs.MadeUnits.{dialect_by, dialect_is}
@@ -88,7 +88,7 @@ module _ (file : List ℕ) (m : ModuleData) (b : Budgets) where
 
 -- the file of an import is that of its interface
 file_is : (its : List InterfaceParts) (import : ℕ) (it : InterfaceParts) →
-    slice_get its import ≡ Some it → file_of its import ≡ interface_file it.name
+    slice_get its import ≡ Some it → import_file its import ≡ interface_file it.name
 file_is its import it is =
     ap interface_file (get_or_from_slice_get (map (λ it. it.name) its) import it.name []
     (slice_get-map (λ it. it.name) its import ∙ ap (option_map (λ it. it.name)) is))
@@ -96,7 +96,7 @@ file_is its import it is =
 -- ---- the steps
 
 module _ (headers : OneHeaderAnswer) (budgets : Budgets) (files : Files) (g : Given)
-    (l : HasLanguage g) where
+    (l : HasNamedLanguage g) where
   abbrev Related : Stop → Stop → Type 0
   Related = SameButShown budgets files g
 
@@ -193,7 +193,7 @@ module _ (headers : OneHeaderAnswer) (budgets : Budgets) (files : Files) (g : Gi
     all_by : IsOneBy Related (MakesExtended budgets g r.extensions)
     all_by =
         and_then_by Related
-        (Extends (base_in g.language) budgets r.extensions (unextended g.language.language))
+        (ExtendsLanguage (base_in g.language) budgets r.extensions (unextended g.language.language))
         (λ x. MakesSeeing budgets g (seen_in g r.extensions x))
         (λ a b m n h k p q.
         let one = extends_agree g.read.header.language l.bytes g.language l.states budgets

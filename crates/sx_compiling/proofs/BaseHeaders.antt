@@ -13,8 +13,8 @@ use Rattle.sx_lines.proofs.LineLaws.{first_line}
 use Rattle.sx_lines.proofs.TextLaws.{IsPlain, IsPlain-append, plain_text, plain_from_test}
 use Rattle.sx_lines.proofs.TextLaws.{name_no_blank, no_blank_plain, all_inner}
 use Rattle.sx_interface.specs.Headers.{HeaderParts}
-use Rattle.sx_interface.specs.StatedHeader.{AreNames, row_lines, header_lines, StatesHeader}
-use Rattle.sx_unit.specs.Texts.{base_of}
+use Rattle.sx_interface.specs.StatedHeader.{ArePlainNames, row_lines, header_lines, StatesHeader}
+use Rattle.sx_unit.specs.Texts.{base_bytes}
 
 -- a text that stands on a line of its own and is no blank line and no comment
 record StandsOnLine (text : List ℕ) : Type 0 where
@@ -81,7 +81,7 @@ end_line = record {
   told = refl;
 }
 
-rows_stand : (names : List (List ℕ)) → AreNames names →
+rows_stand : (names : List (List ℕ)) → ArePlainNames names →
     AllByRecursion StandsOnLine (row_lines (codes "import ") names)
 rows_stand [] h = tt
 rows_stand (name ∷ names) h = (import_line name h.0, rows_stand names h.1)
@@ -103,7 +103,7 @@ base_header h body number = record {
 -- the base file of a module states the header of the module without its `use` lines
 pub base_states : (name : List ℕ) (lines : Lines) (h : HeaderParts) (shown : List ℕ) →
     is_name false name ≡ true → StatesHeader name lines h → (number : ℕ) ×
-    StatesHeader name (kept (lines_from 1 (base_of h shown)))
+    StatesHeader name (kept (lines_from 1 (base_bytes h shown)))
     (base_header h (shown ++ 10 ∷ []) number)
 base_states name lines h shown is_a_name states =
     let body = shown ++ 10 ∷ [] in
@@ -114,7 +114,7 @@ base_states name lines h shown is_a_name states =
       module_line h.name named,
       (language_line h.language states.language, rows_stand h.imports states.imports),
     ) in
-    let parts : base_of h shown ≡ written front ++ ended =
+    let parts : base_bytes h shown ≡ written front ++ ended =
     ap (λ (b : List ℕ). b ++ body)
     (flat_map-append (λ (text : List ℕ). text ++ 10 ∷ []) front (codes "---" ∷ []))
     ∙ append_assoc (written front) (codes "---" ++ 10 ∷ []) body in (

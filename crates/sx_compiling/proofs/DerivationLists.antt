@@ -18,16 +18,17 @@ use Rattle.sx_rewrite.proofs.Lowerings.{lowered_are_derivations}
 use Rattle.sx_audit.specs.Preorder.{IsDerivationList}
 use Rattle.sx_extcheck.specs.declared.budgets.Budgets.{Budgets}
 use Rattle.sx_typing.specs.Dialects.{DialectData, IsDialect}
-use Rattle.sx_typing.specs.Goals.{dialect_rules, goal}
-use Rattle.sx_typing.specs.Outcomes.{bare, no_hypotheses}
+use Rattle.sx_typing.specs.Goals.{dialect_rules, goal_with}
+use Rattle.sx_typing.specs.Outcomes.{nameless}
+use Rattle.sx_rules.specs.Rules.{no_hypotheses}
 use Rattle.sx_typing.specs.Refused.{HasTyping}
 use Rattle.sx_typing.proofs.Walks.{typings_are_first}
 use Rattle.sx_unit.specs.Modules.{ModuleData}
-use Rattle.sx_unit.specs.Unit.{IsMade}
+use Rattle.sx_unit.specs.Unit.{IsUnitMade}
 use Rattle.sx_unit.specs.Written.{UnitData}
 
 module _ (m : ModuleData) (is : IsDialect m.source.dialect) (b : Budgets) (u : UnitData)
-    (made : IsMade m b u) where
+    (made : IsUnitMade m b u) where
   abbrev d : DialectData
   d = m.source.dialect
 
@@ -41,7 +42,7 @@ module _ (m : ModuleData) (is : IsDialect m.source.dialect) (b : Budgets) (u : U
   moded = good_moded (shapes_of d.parts) d.language.forms [] d.rules is.rule_set.1
 
   first : IsFirst (modes_of d.language.forms) (dialect_rules d) no_hypotheses
-      (goal m.source typing.body.subject) None typing.answer
+      (goal_with m.source typing.body.subject) None typing.answer
   first =
       typings_are_first m.source b.tries typing.body.subject typing.output typing.answer moded
       typing.typed
@@ -55,7 +56,7 @@ module _ (m : ModuleData) (is : IsDialect m.source.dialect) (b : Budgets) (u : U
       is.rules_are first.derives.3) made.lowering.rewriting.0).0
 
   -- by the rules without their names
-  listed : IsDerivationList (bare d.language.rules) u.list low.proof
+  listed : IsDerivationList (nameless d.language.rules) u.list low.proof
   listed =
       let counted = lowered_are_counted (signature_of d.language.forms) d.set no_hypotheses
       typing.answer.0 low.proof low.judgement made.lowering.rewriting.0 in
@@ -69,7 +70,7 @@ module _ (m : ModuleData) (is : IsDialect m.source.dialect) (b : Budgets) (u : U
         height = omega (arith, height, low_enough);
       }
 
-  bare_same : (rs : List RuleOf) → bare (map named rs) ≡ map rule rs
+  bare_same : (rs : List RuleOf) → nameless (map named rs) ≡ map rule rs
   bare_same [] = refl
   bare_same (r ∷ rs) = ap (λ (xs : List Rule). rule r ∷ xs) (bare_same rs)
 
@@ -79,5 +80,5 @@ module _ (m : ModuleData) (is : IsDialect m.source.dialect) (b : Budgets) (u : U
   list_derives set same = (
     low.proof,
     subst (λ (rules : List Rule). IsDerivationList rules u.list low.proof)
-        (ap bare same ∙ bare_same set.rules.items) listed,
+        (ap nameless same ∙ bare_same set.rules.items) listed,
   )

@@ -18,7 +18,7 @@ use Rattle.sx_steps.proofs.Ones.{ok_no_err}
 use Rattle.sx_uses.specs.ExtensionFile.{Extension}
 use Rattle.sx_uses.specs.ReadUses.{ReadsUses}
 use Rattle.sx_accepting.specs.ExtendedLanguages.{ExtendedData, unextended}
-use Rattle.sx_accepting.specs.Extending.{Extends}
+use Rattle.sx_accepting.specs.Extending.{ExtendsLanguage}
 use Rattle.sx_accepting.specs.ReadLanguage.{base_in}
 use Rattle.sx_headers.specs.FreeImports.{HasFreeImports}
 use Rattle.sx_importing.specs.MakeEnvironment.{SeesImports}
@@ -26,8 +26,8 @@ use Rattle.sx_compiling.specs.CompileModule.{Compiles, CompilingTries}
 use Rattle.sx_compiling.specs.Given.{Given, interfaces_in, seen_in, module_seen}
 use Rattle.sx_compiling.specs.MakeUnit.{MakesIn, MakesSeeing, MakesExtended, MakesReached}
 use Rattle.sx_compiling.specs.MakeUnit.{MakesUnit}
-use Rattle.sx_compiling.specs.Reached.{HasLanguage, IsReached, HasDialect}
-use Rattle.sx_compiling.specs.Laws.{WalksAreWithin}
+use Rattle.sx_compiling.specs.Reached.{HasNamedLanguage, IsReached, HasDialect}
+use Rattle.sx_compiling.specs.Laws.{UnitsWalksAreWithin}
 use Rattle.sx_compiling.proofs.MadeUnits.{dialect_by}
 use Rattle.sx_compiling.proofs.RuleTries.{sum_within, one_budget, more_within, Within}
 use Rattle.sx_compiling.proofs.RuleTries.{last_none, extends_within, kept_within}
@@ -41,7 +41,7 @@ within_budget s budget tries (inl walked) =
     omega arith
 within_budget s budget tries (inr none) = let is = none.1 in omega arith
 
-module _ (budgets : Budgets) (files : Files) (g : Given) (l : HasLanguage g) where
+module _ (budgets : Budgets) (files : Files) (g : Given) (l : HasNamedLanguage g) where
   seeing_most : (s : SeenFrom) → Most (MakesSeeing budgets g s) budgets.tries
   seeing_most s =
       untried_most (SeesImports g.file s (interfaces_in g)) (MakesIn budgets g s) budgets.tries
@@ -69,7 +69,7 @@ module _ (budgets : Budgets) (files : Files) (g : Given) (l : HasLanguage g) whe
 
   module _ (r : IsReached files g) where
     abbrev extending : Result ExtendedData StepError → ℕ → Type 0
-    extending = Extends (base_in g.language) budgets r.extensions start
+    extending = ExtendsLanguage (base_in g.language) budgets r.extensions start
 
     -- after them
     abbrev next : ExtendedData → Result UnitData StepError → ℕ → Type 0
@@ -140,7 +140,7 @@ module _ (budgets : Budgets) (files : Files) (g : Given) (l : HasLanguage g) whe
       (MakesExtended budgets g) unit tries free.goes in
       made_most (reached_so free.begins reached.given reached.begins) unit tries reached.goes
 
-pub walks_are_within : WalksAreWithin
+pub walks_are_within : UnitsWalksAreWithin
 walks_are_within = record {
   made = λ budgets files g unit tries l. made_within budgets files g l unit tries;
   all = λ budgets files g result tries l. all_most_from budgets files g l result tries;

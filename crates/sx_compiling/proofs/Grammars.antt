@@ -7,11 +7,11 @@ use Rattle.sx_steps.proofs.Ones.{ok_same}
 use Rattle.sx_steps.proofs.StepsOn.{went_on}
 use Rattle.sx_uses.specs.ExtensionFile.{Extension}
 use Rattle.sx_accepting.specs.ExtendedLanguages.{BaseLanguage, ExtendedData}
-use Rattle.sx_accepting.specs.Extending.{ExtendsBy, Extends}
-use Rattle.sx_accepting.specs.ReadLanguage.{Stated, IsStated}
+use Rattle.sx_accepting.specs.Extending.{ExtendsBy, ExtendsLanguage}
+use Rattle.sx_accepting.specs.ReadLanguage.{Stated, IsLanguageStated}
 
 -- a language that a text states has one
-pub language_grammar : (name bytes : List ℕ) (l : Stated) → IsStated name bytes l →
+pub language_grammar : (name bytes : List ℕ) (l : Stated) → IsLanguageStated name bytes l →
     IsGrammar l.language.parts
 language_grammar name bytes l s =
     subst IsGrammar (sym (ap (λ d. d.parts) s.language ∙ ap (λ g. g.parts) s.states.grammar))
@@ -28,7 +28,7 @@ module _ (l : BaseLanguage) (budgets : Budgets) where
       ∙ ap (λ r. r.grammar.parts) stated.is ∙ made.parts)) made.is_grammar
 
   pub grammar_after : (files : List Extension) (x y : ExtendedData) (tries : ℕ) →
-      IsGrammar x.grammar.parts → Extends l budgets files x (Ok y) tries →
+      IsGrammar x.grammar.parts → ExtendsLanguage l budgets files x (Ok y) tries →
       IsGrammar y.grammar.parts
   grammar_after [] x y tries h steps =
       subst (λ (z : ExtendedData). IsGrammar z.grammar.parts) (sym (ok_same y x steps.0)) h

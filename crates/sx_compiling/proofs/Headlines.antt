@@ -12,7 +12,7 @@ use Rattle.sx_grammar.specs.Parts.{Parts, numbered}
 use Rattle.sx_grammar.specs.Reading.{ReadsWhole}
 use Rattle.sx_grammar.specs.Told.{shapes_of}
 use Rattle.sx_earley.specs.Tokens.{plain_tokens}
-use Rattle.sx_earley.specs.Completed.{number_of}
+use Rattle.sx_earley.specs.Completed.{sort_number}
 use Rattle.sx_rules.specs.Derivations.{Derives}
 use Rattle.sx_rules.specs.First.{DerivesGoal}
 use Rattle.sx_rules.specs.Modes.{goal_of}
@@ -28,11 +28,12 @@ use Rattle.sx_interface.specs.StatedHeader.{StatesHeader}
 use Rattle.sx_typing.specs.Body.{ReadsOnly}
 use Rattle.sx_typing.specs.Dialects.{DialectData, IsDialect}
 use Rattle.sx_typing.specs.MainGoals.{main_goal}
-use Rattle.sx_typing.specs.Outcomes.{bare, no_hypotheses}
+use Rattle.sx_typing.specs.Outcomes.{nameless}
+use Rattle.sx_rules.specs.Rules.{no_hypotheses}
 use Rattle.sx_typing.specs.BodySource.{main_sort}
 use Rattle.sx_typing.proofs.OneBody.{one_cut}
 use Rattle.sx_unit.specs.Modules.{ModuleData}
-use Rattle.sx_unit.specs.Texts.{print_text, print_line, base_text, interface_of}
+use Rattle.sx_unit.specs.Texts.{print_text, print_line, base_text, written_interface}
 use Rattle.sx_unit.specs.Texts.{derivation_text}
 use Rattle.sx_unit.specs.Unit.{IsUnit}
 use Rattle.sx_unit.specs.Written.{UnitData}
@@ -61,7 +62,7 @@ one_way p sort text t only =
           let same : others ≡ tokens = one_cut p text others tokens by.cut read.cut in (
             same,
             read.answer.1.1 other (subst (λ (ts : List Token). ReadsWhole (numbered p)
-                (plain_tokens [] ts) (number_of sort) other) same by.reads),
+                (plain_tokens [] ts) (sort_number sort) other) same by.reads),
           );
     }
 
@@ -98,7 +99,7 @@ module _ (m : ModuleData) (is : IsDialect m.source.dialect) (u : UnitData) (unit
       forms d.language.main.form is.main.form _ is.main.is is.main.typed first_judgement
       unit.judgement unit.first.derives.1 lowered.1.same_form lowered.1.images unit.are.subject
 
-  derived : DerivesGoal (modes_of forms) (bare d.language.rules) no_hypotheses
+  derived : DerivesGoal (modes_of forms) (nameless d.language.rules) no_hypotheses
       (main_goal forms d.language.main.form environment unit.terms.subject)
       (unit.proof, unit.terms.signature ∷ [])
   derived = (
@@ -149,7 +150,7 @@ units_have_headline within name budgets files g u is_a_name l stated made =
       base_headed = subst (λ (b : List ℕ). StatesHeader name (kept (lines_from 1 b))
           (base_header g.read.header (print_line d.parts t.subject) back.0)) (sym w.base) back.1;
       plain = record { name = refl; language = refl; uses = refl; imports = refl };
-      interface = interface_of m (base_text m t) (print_text d.parts t.signature)
+      interface = written_interface m (base_text m t) (print_text d.parts t.signature)
           (print_text m.source.dialect.parts t.stated);
       interface_text = interface_stated name budgets files g u is_a_name l stated made within;
       marked = record {

@@ -4,7 +4,7 @@ use Rattle.std.specs.List.{AllByRecursion}
 use Rattle.sx_grammar.specs.Grammar.{Text}
 use Rattle.sx_interface.specs.Interfaces.{InterfaceParts, Mark}
 use Rattle.sx_interface.specs.InterfaceView.{interface_view}
-use Rattle.sx_interface.specs.StatedHeader.{AreNames}
+use Rattle.sx_interface.specs.StatedHeader.{ArePlainNames}
 use Rattle.sx_interface.specs.declared.import.Import.{Import}
 use Rattle.sx_interface.specs.FreeNames.{AreFree}
 use Rattle.sx_unit.specs.Modules.{mark}
@@ -25,7 +25,7 @@ parts_same (i ∷ imports) =
 
 -- names that are free are those of imports that can be seen
 pub named_free : (literals : List Text) (its : List InterfaceParts) →
-    AreNames (map (λ it. it.name) its) → AreFree literals (map (λ it. it.name) its) →
+    ArePlainNames (map (λ it. it.name) its) → AreFree literals (map (λ it. it.name) its) →
     AllByRecursion (HasFreeName literals) its
 named_free literals [] named free = tt
 named_free literals (it ∷ its) named free =

@@ -14,7 +14,7 @@ use Rattle.sx_lines.specs.Words.{is_name}
 use Rattle.sx_grammar.proofs.Finding.{is_head, past_head}
 use Rattle.sx_interface.specs.Interfaces.{Mark}
 use Rattle.sx_interface.specs.Stated.{IsDigest, IsMark}
-use Rattle.sx_interface.specs.StatedHeader.{AreNames}
+use Rattle.sx_interface.specs.StatedHeader.{ArePlainNames}
 use Rattle.sx_outline.specs.declared.outline_error.OutlineError.{OutlineError}
 use Rattle.sx_outline.specs.declared.outline_error.OutlineError.TheVariants.{Notation}
 use Rattle.sx_outline.specs.Headers.{HeaderData, IsHeaderOf}
@@ -25,7 +25,7 @@ use Rattle.sx_term.specs.Limits.{most_bytes}
 use Rattle.sx_steps.proofs.Ones.{ok_no_err}
 use Rattle.sx_steps.proofs.StepsOn.{went}
 use Rattle.sx_uses.specs.ExtensionFile.{Extension, extension_file}
-use Rattle.sx_uses.specs.Laws.{names_of, StandsAfterUses, AreRead}
+use Rattle.sx_uses.specs.Laws.{use_names, StandsAfterUses, AreRead}
 use Rattle.sx_uses.specs.ReadExtension.{StatesExtension, ReadsFile, IsFor, ReadsExtension}
 use Rattle.sx_importing.specs.ReadImports.{ImportData, mark_of}
 use Rattle.sx_compiling.specs.Given.{use_mark}
@@ -72,15 +72,15 @@ other_name : (one other : List ℕ) → (one ≡ other → ⊥) → bytes_eq one
 other_name one other differ =
     false_from_ne_true (bytes_eq one other) (λ same. differ ((bytes_eq-Decides one other).0 same))
 
-use_is_new : (before : List Extension) (name : List ℕ) → ¬ (Contains (names_of before) name) →
+use_is_new : (before : List Extension) (name : List ℕ) → ¬ (Contains (use_names before) name) →
     has_key (λ m. m.name) (map use_mark before) name ≡ false
 unfolding has_key
 use_is_new [] name none = refl
 use_is_new (x ∷ before) name none =
     let here = other_name x.header.name name (λ same. none (subst (λ (n : List ℕ).
-    Contains (names_of (x ∷ before)) n) same (is_head x.header.name (names_of before)))) in
+    Contains (use_names (x ∷ before)) n) same (is_head x.header.name (use_names before)))) in
     let later = use_is_new before name
-    (λ has. none (past_head x.header.name (names_of before) name has)) in
+    (λ has. none (past_head x.header.name (use_names before) name has)) in
     rw (here, later) refl
 
 -- of extensions that each stand once
@@ -129,7 +129,7 @@ module _ (names : List (List ℕ)) where
       imports_after [] imports
       (subst (λ (ns : List (List ℕ)). EachNew (λ x. x) [] ns) (sym is) new)
 
-  marks_of : (imports : List ImportData) → AreNames (map name_of imports) →
+  marks_of : (imports : List ImportData) → ArePlainNames (map name_of imports) →
       AllByRecursion (λ i. IsDigest i.digest) imports →
       AllByRecursion IsMark (map mark_of imports)
   marks_of [] named digests = tt
@@ -137,7 +137,7 @@ module _ (names : List (List ℕ)) where
       (record { name = named.0; digest = digests.0 }, marks_of imports named.1 digests.1)
 
   pub imports_are_marks : (imports : List ImportData) → map (λ i. i.parts.name) imports ≡ names →
-      AreNames names → AllByRecursion (λ i. IsDigest i.digest) imports →
+      ArePlainNames names → AllByRecursion (λ i. IsDigest i.digest) imports →
       AllByRecursion IsMark (map mark_of imports)
   imports_are_marks imports is named =
-      marks_of imports (subst AreNames (sym is) named)
+      marks_of imports (subst ArePlainNames (sym is) named)

@@ -10,7 +10,7 @@ use Rattle.std.proofs.lemmas.Str.{IsUtf8-from_ascii, IsUtf8-nil, IsUtf8-append}
 use Rattle.hex.specs.Hex.{encode_lower, encode_with, lower_digits}
 use Rattle.sx_term.specs.declared.sort.Sort.{Sort}
 use Rattle.sx_term.specs.Tree.{Tree}
-use Rattle.sx_lines.specs.Lines.{lines_from, texts, IsLineText}
+use Rattle.sx_lines.specs.Lines.{lines_from, line_texts, IsLineText}
 use Rattle.sx_lines.specs.Reading.{written}
 use Rattle.sx_lines.specs.Words.{is_name}
 use Rattle.sx_lines.proofs.Utf8Laws.{name_utf8}
@@ -30,8 +30,8 @@ use Rattle.sx_typing.specs.Dialects.{IsDialect}
 use Rattle.sx_typing.proofs.ReadSorted.{read_good}
 use Rattle.sx_words.specs.declared.print_defect.PrintedPart.TheVariants.{Signature, Stated}
 use Rattle.sx_unit.specs.Modules.{ModuleData}
-use Rattle.sx_unit.specs.PrintedParts.{PrintedData, sort_of}
-use Rattle.sx_unit.specs.Texts.{printed, print_text, base_text, interface_of, interface_text}
+use Rattle.sx_unit.specs.PrintedParts.{PrintedData, part_sort_of}
+use Rattle.sx_unit.specs.Texts.{printed, print_text, base_text, written_interface, interface_text}
 use Rattle.sx_unit.specs.Written.{UnitData, IsWritten}
 use Rattle.sx_unit.proofs.PartSorts.{part_is_sort}
 use Rattle.sx_unit.proofs.Shown.{sorted_fit}
@@ -128,7 +128,7 @@ interface_utf8 it named h s t =
 -- the interface of a module whose signatures are printed so
 abbrev pub parts_from : ModuleData → PrintedData → InterfaceParts
 parts_from m t =
-    interface_of m (base_text m t) (print_text m.source.dialect.language.parts t.signature)
+    written_interface m (base_text m t) (print_text m.source.dialect.language.parts t.signature)
     (print_text m.source.dialect.parts t.stated)
 
 module _ (within : InterfacesAreWithin) (m : ModuleData) (t : PrintedData) (q : Proof)
@@ -140,16 +140,16 @@ module _ (within : InterfacesAreWithin) (m : ModuleData) (t : PrintedData) (q : 
 
     signature_line : IsLineText it.signature
     signature_line =
-        print_is_line m.source.dialect.language.parts (sort_of m.source.dialect Signature)
+        print_is_line m.source.dialect.language.parts (part_sort_of m.source.dialect Signature)
         t.signature base (part_is_sort m.source.dialect is Signature) w.signature_good.read
 
     stated_line : IsLineText it.stated
     stated_line =
-        print_is_line m.source.dialect.parts (sort_of m.source.dialect Stated) t.stated all
+        print_is_line m.source.dialect.parts (part_sort_of m.source.dialect Stated) t.stated all
         (part_is_sort m.source.dialect is Stated) w.stated_good.read
 
     module _ (named : is_name false it.name ≡ true) (h : IsInterface it.name it) where
-      states : StatesInterface it.name (texts (lines_from 1 (written (interface_lines it)))) it
+      states : StatesInterface it.name (line_texts (lines_from 1 (written (interface_lines it)))) it
       states =
           interface_found it.name (lines_from 1 (written (interface_lines it))) it
           (interface_round it named h signature_line stated_line)
@@ -161,7 +161,7 @@ module _ (within : InterfacesAreWithin) (m : ModuleData) (t : PrintedData) (q : 
       interface_told = record {
         is = w.interface;
         utf8 = subst IsUtf8 (sym w.interface) text_utf8;
-        states = subst (λ (b : List ℕ). StatesInterface it.name (texts (lines_from 1 b)) it)
+        states = subst (λ (b : List ℕ). StatesInterface it.name (line_texts (lines_from 1 b)) it)
             (sym w.interface) states;
         within = within 262144 it.name (interface_text m t) it w.stated_good.short states;
         digest = digest_is u.interface;

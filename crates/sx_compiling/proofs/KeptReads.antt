@@ -22,12 +22,13 @@ use Rattle.sx_uses.specs.ReadExtension.{StatesExtension, ReadsFile, IsFor, Reads
 use Rattle.sx_uses.specs.ReadUses.{ReadsUses}
 use Rattle.sx_uses.proofs.Coming.{come_first}
 use Rattle.sx_uses.proofs.Walks.{uses_as}
-use Rattle.sx_compiling.specs.KeptFiles.{AreOf, or_else, beside, extensions_beside, StandsIn}
+use Rattle.sx_compiling.specs.KeptFiles.{AreKeptOf, or_else, beside, extensions_beside}
+use Rattle.sx_compiling.specs.KeptFiles.{StandsInFile}
 use Rattle.sx_compiling.proofs.SameSteps.{IsAlso, then_as, held_as}
 
 -- ---- what is kept are the files
 
-pub none_kept : (kept files : Files) → kept ≡ no_files → AreOf kept files
+pub none_kept : (kept files : Files) → kept ≡ no_files → AreKeptOf kept files
 unfolding no_files
 none_kept kept files same name bytes h =
     absurd (none_some bytes (sym (ap (λ (k : Files). k name) same) ∙ h))
@@ -37,7 +38,7 @@ or_same : (o p : Option (List ℕ)) → ((bytes : List ℕ) → o ≡ Some bytes
 or_same (Some bytes) p h = sym (h bytes refl)
 or_same None p h = refl
 
-pub beside_same : (kept files : Files) → AreOf kept files → beside kept files ≡ files
+pub beside_same : (kept files : Files) → AreKeptOf kept files → beside kept files ≡ files
 beside_same kept files are = λ i name. or_same (kept name) (files name) (are name) i
 
 pub beside_kept : (kept files : Files) (name : List ℕ) (o : Option (List ℕ)) → kept name ≡ o →
@@ -46,7 +47,7 @@ beside_kept kept files name o h = ap (λ (k : Option (List ℕ)). or_else k (fil
 
 -- ---- one file more
 
-module _ (old files : Files) (name bytes : List ℕ) (are : AreOf old files)
+module _ (old files : Files) (name bytes : List ℕ) (are : AreKeptOf old files)
     (stands : files name ≡ Some bytes) where
   put_so : (other found : List ℕ) (b : Bool) → bytes_eq name other ≡ b →
       (if b then Some bytes else old other) ≡ Some found → files other ≡ Some found
@@ -54,15 +55,15 @@ module _ (old files : Files) (name bytes : List ℕ) (are : AreOf old files)
       subst (λ (n : List ℕ). files n ≡ Some found) ((bytes_eq-Decides name other).0 e) (stands ∙ h)
   put_so other found false e h = are other found h
 
-  are_put : AreOf (put old name bytes) files
+  are_put : AreKeptOf (put old name bytes) files
   unfolding put
   are_put other found h = put_so other found (bytes_eq name other) refl h
 
   pub are_after : (r : Result (Unit {0}) NoMemory) (new : Files) →
-      OnOk r (new ≡ put old name bytes) → OnErr r (new ≡ old) → AreOf new files
+      OnOk r (new ≡ put old name bytes) → OnErr r (new ≡ old) → AreKeptOf new files
   are_after (Ok done) new same stays =
-      subst (λ (k : Files). AreOf k files) (sym same) are_put
-  are_after (Err e) new same stays = subst (λ (k : Files). AreOf k files) (sym stays) are
+      subst (λ (k : Files). AreKeptOf k files) (sym same) are_put
+  are_after (Err e) new same stays = subst (λ (k : Files). AreKeptOf k files) (sym stays) are
 
 pub put_stands : (old new : Files) (name file bytes found : List ℕ) → new ≡ put old name bytes →
     name ≡ file → bytes ≡ found → new file ≡ Some found
@@ -127,7 +128,7 @@ reads_nothing files reads writes result none = record {
 -- ---- the extensions of a walk
 
 pub uses_beside : {X : Type 0} (view : X → List Extension) (kept files : Files)
-    (language file : List ℕ) (roots : List (List ℕ)) (r : Result X StepError) → AreOf kept files →
+    (language file : List ℕ) (roots : List (List ℕ)) (r : Result X StepError) → AreKeptOf kept files →
     Gives view (ReachesBy (extensions_beside kept language) file roots files) r →
     Gives view (ReadsUses file language roots files) r
 uses_beside view kept files language file roots r are h =
@@ -135,7 +136,7 @@ uses_beside view kept files language file roots r are h =
     (beside_same kept files are) (uses_as language view file roots (beside kept files) r h)
 
 read_stands : (language : List ℕ) (files : Files) (x : Extension) →
-    ReadsExtension language files x.header.name (Ok x) → StandsIn files x
+    ReadsExtension language files x.header.name (Ok x) → StandsInFile files x
 read_stands language files x reads =
     let w = went (ReadsFile files x.header.name) (IsFor language x.header.name) x reads in
     let v = went (Held most_bytes (extension_file x.header.name) files)
@@ -145,7 +146,7 @@ read_stands language files x reads =
     (sym v.goes.same ∙ ap (λ (y : Extension). y.bytes) (sym w.goes.1))
 
 all_stand : (language : List ℕ) (files : Files) (xs : List Extension) →
-    AreRead language files xs → AllByRecursion (StandsIn files) xs
+    AreRead language files xs → AllByRecursion (StandsInFile files) xs
 all_stand language files [] all = tt
 all_stand language files (x ∷ xs) all =
     (read_stands language files x all.0, all_stand language files xs all.1)
@@ -153,6 +154,6 @@ all_stand language files (x ∷ xs) all =
 -- those that were read stand in their files
 pub uses_stand : (file language : List ℕ) (roots : List (List ℕ)) (files : Files)
     (xs : List Extension) → ReadsUses file language roots files (Ok xs) →
-    AllByRecursion (StandsIn files) xs
+    AllByRecursion (StandsInFile files) xs
 uses_stand file language roots files xs reads =
     all_stand language files xs (come_first file language roots files xs reads).1

@@ -9,7 +9,7 @@ use Rattle.sx_steps.specs.Steps.{Untried}
 use Rattle.sx_steps.proofs.StepsOn.{went_on}
 use Rattle.sx_uses.specs.ReadUses.{ReadsUses}
 use Rattle.sx_accepting.specs.ExtendedLanguages.{ExtendedData, unextended}
-use Rattle.sx_accepting.specs.Extending.{Extends}
+use Rattle.sx_accepting.specs.Extending.{ExtendsLanguage}
 use Rattle.sx_accepting.specs.ReadLanguage.{base_in}
 use Rattle.sx_accepting.proofs.OneExtended.{extended_is_accepted}
 use Rattle.sx_dialects.specs.Dialects.{dialect_in}
@@ -19,10 +19,10 @@ use Rattle.sx_importing.specs.MakeEnvironment.{SeesImports}
 use Rattle.sx_compiling.specs.Given.{Given, interfaces_in, seen_in}
 use Rattle.sx_compiling.specs.Headline.{UnitsKeepPromise}
 use Rattle.sx_compiling.specs.MakeUnit.{MakesIn, MakesSeeing, MakesExtended, MakesReached}
-use Rattle.sx_compiling.specs.Reached.{HasLanguage, IsReached, ExtendsReached, HasDialect}
+use Rattle.sx_compiling.specs.Reached.{HasNamedLanguage, IsReached, ExtendsReached, HasDialect}
 
 -- what is reached and accepted gives a dialect
-abbrev pub dialect_by : (budgets : Budgets) (files : Files) (g : Given) → HasLanguage g →
+abbrev pub dialect_by : (budgets : Budgets) (files : Files) (g : Given) → HasNamedLanguage g →
     (r : IsReached files g) (x : ExtendedData) (tries : ℕ) →
     ExtendsReached budgets files g r (Ok x) tries → HasDialect budgets files g
 dialect_by budgets files g l r x tries extends = record {
@@ -35,7 +35,7 @@ dialect_by budgets files g l r x tries extends = record {
 }
 
 -- the dialect of a module is one
-pub dialect_is : (budgets : Budgets) (files : Files) (g : Given) → HasLanguage g →
+pub dialect_is : (budgets : Budgets) (files : Files) (g : Given) → HasNamedLanguage g →
     (d : HasDialect budgets files g) → IsDialect (dialect_in g.language.language d.extended)
 dialect_is budgets files g l d =
     extended_is_dialect g.read.header.language l.bytes g.language l.states budgets d.from.extensions
@@ -51,7 +51,7 @@ units_keep_promise budgets files g unit tries l made =
     (MakesExtended budgets g) unit free.after free.goes in
     let xs = reached.given in
     let extended = went_on
-    (Extends (base_in g.language) budgets xs (unextended g.language.language))
+    (ExtendsLanguage (base_in g.language) budgets xs (unextended g.language.language))
     (λ x. MakesSeeing budgets g (seen_in g xs x)) unit reached.after reached.goes in
     let s = seen_in g xs extended.given in
     let seen = went_on (Untried (SeesImports g.file s (interfaces_in g))) (MakesIn budgets g s) unit

@@ -13,7 +13,7 @@ use Rattle.sx_rewrite.specs.ExtensionView.{ext_rule}
 use Rattle.sx_extcheck.specs.declared.accept_error.AcceptError.{AcceptError}
 use Rattle.sx_extcheck.specs.declared.accept_error.AcceptError.TheVariants.{Memory, Rule}
 use Rattle.sx_extcheck.specs.declared.budgets.Budgets.{Budgets}
-use Rattle.sx_extcheck.specs.Accepts.{AreChecked}
+use Rattle.sx_extcheck.specs.Accepts.{AreRulesChecked}
 use Rattle.sx_extcheck.specs.Checks.{Check, search_for, over_for, tries_for}
 use Rattle.sx_extcheck.specs.Searches.{tries_in}
 use Rattle.sx_steps.specs.declared.stop.Stop.{Stop}
@@ -24,7 +24,7 @@ use Rattle.sx_steps.proofs.Ones.{ok_same}
 use Rattle.sx_uses.specs.ExtensionFile.{Extension, extension_file}
 use Rattle.sx_accepting.specs.ExtendedLanguages.{BaseLanguage, ExtendedData}
 use Rattle.sx_accepting.specs.Extending.{ReadData, ReadsAfter, check_after, HaveChecks}
-use Rattle.sx_accepting.specs.Extending.{Accepts, ExtendsBy, Extends}
+use Rattle.sx_accepting.specs.Extending.{Accepts, ExtendsBy, ExtendsLanguage}
 
 -- ---- so many walks of so many tries
 
@@ -75,7 +75,7 @@ module _ (c : Check) where
       tries_within (Some s.wanted) c.tries (events s.modes s.rules s.hyps s.goal 1)))
 
   stored_within : (es : List ExtRuleOf) (ss : List Checked) (count : ℕ) →
-      AreChecked c es count (Ok ss) → (count ≤ length es * c.tries) × (length ss ≡ length es)
+      AreRulesChecked c es count (Ok ss) → (count ≤ length es * c.tries) × (length ss ≡ length es)
   stored_within [] [] count h =
       (subst (λ (n : ℕ). n ≤ 0 * c.tries) (sym h) (no_budget c.tries), refl)
   stored_within [] (s ∷ ss) count h = absurd h
@@ -89,7 +89,7 @@ module _ (c : Check) where
       )
 
   refused_within : (es : List ExtRuleOf) (e : AcceptError) (count : ℕ) →
-      AreChecked c es count (Err e) → count ≤ length es * c.tries
+      AreRulesChecked c es count (Err e) → count ≤ length es * c.tries
   refused_within [] Memory count h =
       subst (λ (n : ℕ). n ≤ 0 * c.tries) (sym h) (no_budget c.tries)
   refused_within [] (Rule name what) count h = absurd h
@@ -234,7 +234,7 @@ module _ (l : BaseLanguage) (budgets : Budgets) where
 
   pub extends_within : (files : List Extension) (x : ExtendedData)
       (result : Result ExtendedData StepError) (tries : ℕ) → length x.set.rules ≤ 4096 →
-      Extends l budgets files x result tries → Within budgets.tries x result tries
+      ExtendsLanguage l budgets files x result tries → Within budgets.tries x result tries
   extends_within [] x (Ok y) tries few h =
       subst (λ (z : ExtendedData). Within budgets.tries x (Ok z) tries) (sym (ok_same y x h.0)) (
         0,
@@ -251,10 +251,10 @@ module _ (l : BaseLanguage) (budgets : Budgets) where
       h.after h.begins h.goes h.sum
     where
       from : ((y : ExtendedData) (count : ℕ) → length y.set.rules ≤ 4096 →
-          Extends l budgets files y result count → Within budgets.tries y result count) →
+          ExtendsLanguage l budgets files y result count → Within budgets.tries y result count) →
           (given : Result ExtendedData StepError) (before after : ℕ) →
           ExtendsBy l budgets file x given before →
-          GoesOn (Extends l budgets files) given result after →
+          GoesOn (ExtendsLanguage l budgets files) given result after →
           tries ≡ before + after → Within budgets.tries x result tries
       from again (Ok y) before after begins goes sum =
           let one = by_within file x (Ok y) before few begins in

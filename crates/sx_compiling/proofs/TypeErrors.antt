@@ -32,7 +32,7 @@ use Rattle.sx_steps.proofs.TypeErrors.{trying_final, and_then_final}
 use Rattle.sx_uses.specs.ReadUses.{ReadsUses}
 use Rattle.sx_uses.proofs.TypeErrors.{uses_final}
 use Rattle.sx_accepting.specs.ExtendedLanguages.{unextended}
-use Rattle.sx_accepting.specs.Extending.{Extends}
+use Rattle.sx_accepting.specs.Extending.{ExtendsLanguage}
 use Rattle.sx_accepting.specs.ReadLanguage.{base_in}
 use Rattle.sx_accepting.proofs.UnsoundRules.{unsound_is_final}
 use Rattle.sx_headers.specs.FreeImports.{HasFreeImports}
@@ -40,15 +40,15 @@ use Rattle.sx_headers.specs.HeaderRows.{row_line, import_row}
 use Rattle.sx_headers.specs.HeaderStops.{bad_header}
 use Rattle.sx_headers.specs.ReadModule.{Module}
 use Rattle.sx_headers.specs.TextStops.{uncut_text, unread_text}
-use Rattle.sx_importing.specs.ImportStops.{file_of, import_stop}
+use Rattle.sx_importing.specs.ImportStops.{import_file, import_stop}
 use Rattle.sx_importing.specs.MakeEnvironment.{SeesImports}
 use Rattle.sx_compiling.specs.ModuleStops.{untyped, module_stop}
 use Rattle.sx_compiling.specs.CompileModule.{Compiles, CompilingTries}
 use Rattle.sx_compiling.specs.Given.{Given, interfaces_in, seen_in}
 use Rattle.sx_compiling.specs.MakeUnit.{MakesIn, MakesSeeing, MakesExtended, MakesReached}
-use Rattle.sx_compiling.specs.Reached.{HasLanguage, IsReached, HasDialect, HasGround}
+use Rattle.sx_compiling.specs.Reached.{HasNamedLanguage, IsReached, HasDialect, HasGround}
 use Rattle.sx_compiling.specs.Reached.{seen_over, module_over}
-use Rattle.sx_compiling.specs.Laws.{HasNoType, HasUnsoundRule, TypeErrorsAreFinal}
+use Rattle.sx_compiling.specs.Laws.{HasNoType, HasUnsoundRule, TypeErrorsOfUnitsAreFinal}
 use Rattle.sx_compiling.proofs.MadeUnits.{dialect_by, dialect_is}
 
 -- the rules of a dialect can be followed
@@ -108,9 +108,9 @@ module _ (Q : Stop → Type 0) where
     no_import (import_error.LanguageDiffers import language) = λ h. absurd h
     no_import (import_error.Differs import kept found) = λ h. absurd h
     no_import (import_error.Token import line column e) =
-        text_uncut (file_of its import) line column e
+        text_uncut (import_file its import) line column e
     no_import (import_error.Read import line column u) =
-        text_unread (file_of its import) line column u
+        text_unread (import_file its import) line column u
     no_import (import_error.StatedDiffers import kept found) = λ h. absurd h
     no_import (import_error.TooDeep depth) = λ h. absurd h
 
@@ -119,7 +119,7 @@ module _ (Q : Stop → Type 0) where
 
 -- ---- all of them
 
-module _ (budgets : Budgets) (files : Files) (g : Given) (l : HasLanguage g) where
+module _ (budgets : Budgets) (files : Files) (g : Given) (l : HasNamedLanguage g) where
   abbrev Q : Stop → Type 0
   Q stop = HasNoType budgets files g stop ⊎ HasUnsoundRule budgets files g stop
 
@@ -148,7 +148,7 @@ module _ (budgets : Budgets) (files : Files) (g : Given) (l : HasLanguage g) whe
   all_final : (r : IsReached files g) → FinalTrying Q (MakesExtended budgets g r.extensions)
   all_final r =
       and_then_final Q
-      (Extends (base_in g.language) budgets r.extensions (unextended g.language.language))
+      (ExtendsLanguage (base_in g.language) budgets r.extensions (unextended g.language.language))
       (λ x. MakesSeeing budgets g (seen_in g r.extensions x))
       (λ stop tries h error. inr (record {
         from = r;
@@ -171,7 +171,7 @@ module _ (budgets : Budgets) (files : Files) (g : Given) (l : HasLanguage g) whe
         reached = reached.0;
       }))
 
-pub type_errors_are_final : TypeErrorsAreFinal
+pub type_errors_are_final : TypeErrorsOfUnitsAreFinal
 type_errors_are_final budgets files g stop tries l h error =
     and_then_final (Q budgets files g l)
     (Untried (HasFreeImports g.file (literals_of g.language.language.parts) g.read))

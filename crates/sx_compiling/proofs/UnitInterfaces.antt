@@ -12,7 +12,7 @@ use Rattle.sx_accepting.specs.ExtendedLanguages.{unextended}
 use Rattle.sx_accepting.specs.ReadLanguage.{base_in}
 use Rattle.sx_compiling.specs.Given.{Given}
 use Rattle.sx_compiling.specs.Headline.{HasUnit, IsInterfaceText}
-use Rattle.sx_compiling.specs.Reached.{HasLanguage, HasModule, HasGround, module_over}
+use Rattle.sx_compiling.specs.Reached.{HasNamedLanguage, HasModule, HasGround, module_over}
 use Rattle.sx_compiling.proofs.Digests.{digest_is}
 use Rattle.sx_compiling.proofs.Grammars.{language_grammar, grammar_after}
 use Rattle.sx_compiling.proofs.InterfaceMarks.{uses_are_marks, uses_are_new, imports_are_marks}
@@ -21,7 +21,7 @@ use Rattle.sx_compiling.proofs.InterfaceTexts.{parts_from, interface_told}
 use Rattle.sx_compiling.proofs.MadeUnits.{dialect_is}
 
 module _ (name : List ℕ) (budgets : Budgets) (files : Files) (g : Given) (u : UnitData)
-    (is_a_name : is_name false name ≡ true) (l : HasLanguage g) (h : HasModule name g)
+    (is_a_name : is_name false name ≡ true) (l : HasNamedLanguage g) (h : HasModule name g)
     (made : HasUnit budgets files g u) where
   abbrev ground : HasGround budgets files g
   ground = made.ground

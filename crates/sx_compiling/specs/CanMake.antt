@@ -36,5 +36,6 @@ pub record CanMake (g : GivenOf) : Type 0 where
   pub within : AllByRecursion IsShort (interfaces_of g.imports.now)
 
 -- its list is that of a derivation by the rules of the language
-abbrev pub HasList : Language → Compiled → Type 0
-HasList l c = (p : Proof) × IsDerivationList (bare_rules_in l.rules) (entries c.list.items) p
+abbrev pub HasDerivationList : Language → Compiled → Type 0
+HasDerivationList l c = (p : Proof) × IsDerivationList (bare_rules_in l.rules)
+    (entries c.list.items) p

@@ -5,7 +5,7 @@ use Rattle.sx_typing.specs.Refused.{HasWalked}
 use Rattle.sx_unit.specs.declared.module_error.ModuleError.{ModuleError}
 use Rattle.sx_unit.specs.Modules.{ModuleData}
 use Rattle.sx_unit.specs.Refused.{IsBadModule}
-use Rattle.sx_unit.specs.Unit.{IsUnit, IsMade}
+use Rattle.sx_unit.specs.Unit.{IsUnit, IsUnitMade}
 use Rattle.sx_unit.specs.Written.{UnitData}
 use Rattle.sx_steps.specs.declared.stop.Stop.{Stop}
 use Rattle.sx_steps.specs.declared.step_error.StepError.{StepError}
@@ -21,7 +21,7 @@ pub record IsUncompiled (file : List ℕ) (m : ModuleData) (b : Budgets) (stop :
 -- the unit of the module, which the walk and the lowering within the budgets make
 pub record GivesUnit (m : ModuleData) (b : Budgets) (unit : UnitData) : Type 0 where
   pub is : IsUnit m unit
-  pub made : IsMade m b unit
+  pub made : IsUnitMade m b unit
 
 -- the unit of the module, or its refusal
 abbrev pub Compiles : List ℕ → Budgets → ModuleData → Result UnitData Stop → Type 0

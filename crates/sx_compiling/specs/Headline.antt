@@ -5,7 +5,7 @@ use Rattle.sha2.specs.Sha256.{sha256}
 use Rattle.sx_term.specs.declared.role.Role.TheVariants.{Sub, Out}
 use Rattle.sx_term.specs.declared.sort.Sort.{Sort}
 use Rattle.sx_term.specs.Tree.{Tree}
-use Rattle.sx_lines.specs.Lines.{lines_from, texts}
+use Rattle.sx_lines.specs.Lines.{lines_from, line_texts}
 use Rattle.sx_lines.specs.Reading.{kept, written}
 use Rattle.sx_lines.specs.Words.{is_name}
 use Rattle.sx_token.specs.declared.token.Token.{Token}
@@ -14,7 +14,7 @@ use Rattle.sx_grammar.specs.Parts.{Parts, numbered}
 use Rattle.sx_grammar.specs.Print.{term_of}
 use Rattle.sx_grammar.specs.Reading.{Reading, ReadsWhole}
 use Rattle.sx_earley.specs.Tokens.{plain_tokens}
-use Rattle.sx_earley.specs.Completed.{number_of}
+use Rattle.sx_earley.specs.Completed.{sort_number}
 use Rattle.sx_rules.specs.Derivations.{Proof}
 use Rattle.sx_rules.specs.First.{DerivesGoal, IsFirst}
 use Rattle.sx_rules.specs.Orders.{order_of}
@@ -29,20 +29,22 @@ use Rattle.sx_interface.specs.Stated.{StatesInterface, IsDigest, IsWithin}
 use Rattle.sx_interface.specs.StatedHeader.{StatesHeader}
 use Rattle.sx_notation.specs.Language.{LanguageData}
 use Rattle.sx_typing.specs.Body.{IsCut}
-use Rattle.sx_typing.specs.Goals.{dialect_rules, goal}
+use Rattle.sx_typing.specs.Goals.{dialect_rules, goal_with}
 use Rattle.sx_typing.specs.MainGoals.{main_goal}
-use Rattle.sx_typing.specs.Outcomes.{bare, no_hypotheses}
+use Rattle.sx_typing.specs.Outcomes.{nameless}
+use Rattle.sx_rules.specs.Rules.{no_hypotheses}
 use Rattle.sx_typing.specs.BodySource.{BodySource, main_sort}
 use Rattle.sx_unit.specs.Modules.{ModuleData}
 use Rattle.sx_unit.specs.Texts.{derivation_text}
 use Rattle.sx_unit.specs.Unit.{IsUnit}
 use Rattle.sx_unit.specs.Written.{UnitData}
-use Rattle.sx_environment.specs.BaseEnvironment.{base_of}
+use Rattle.sx_environment.specs.BaseEnvironment.{base_seen}
 use Rattle.sx_environment.specs.Environments.{IsEnvironment}
 use Rattle.sx_outside.specs.Files.{Files}
 use Rattle.sx_compiling.specs.Given.{Given, interfaces_in}
 use Rattle.sx_compiling.specs.MakeUnit.{MakesUnit}
-use Rattle.sx_compiling.specs.Reached.{HasLanguage, HasModule, HasGround, seen_over, module_over}
+use Rattle.sx_compiling.specs.Reached.{HasNamedLanguage, HasModule, HasGround, seen_over}
+use Rattle.sx_compiling.specs.Reached.{module_over}
 use Rattle.sx_term.specs.Limits.{most_bytes}
 
 -- ---- the unit
@@ -55,7 +57,7 @@ pub record HasUnit (budgets : Budgets) (files : Files) (g : Given) (unit : UnitD
 -- where the steps end with a unit, it is that
 abbrev pub UnitsKeepPromise : Type 0
 UnitsKeepPromise = (budgets : Budgets) (files : Files) (g : Given) (unit : UnitData) (tries : ℕ) →
-    HasLanguage g → MakesUnit budgets files g (Ok unit) tries → HasUnit budgets files g unit
+    HasNamedLanguage g → MakesUnit budgets files g (Ok unit) tries → HasUnit budgets files g unit
 
 -- ---- texts that read in one way
 
@@ -63,7 +65,7 @@ UnitsKeepPromise = (budgets : Budgets) (files : Files) (g : Given) (unit : UnitD
 pub record ReadsBy (p : Parts) (sort : Sort) (text : Text) (tokens : List Token)
     (reading : Reading) : Type 0 where
   pub cut : IsCut p text tokens
-  pub reads : ReadsWhole (numbered p) (plain_tokens [] tokens) (number_of sort) reading
+  pub reads : ReadsWhole (numbered p) (plain_tokens [] tokens) (sort_number sort) reading
 
 -- the text reads as the sort in exactly one way, as this term
 pub record ReadsOneWay (p : Parts) (sort : Sort) (text : Text) (t : Tree) : Type 0 where
@@ -86,7 +88,7 @@ pub record HasDerivation (d : LanguageData) (environment : Tree) (header : Heade
   pub proof : Proof
   pub body : ReadsOneWay d.parts (main_sort d Sub) header.body subject
   pub signed : ReadsOneWay d.parts (main_sort d Out) parts.signature signature
-  pub derives : DerivesGoal (modes_of d.forms) (bare d.rules) no_hypotheses
+  pub derives : DerivesGoal (modes_of d.forms) (nameless d.rules) no_hypotheses
       (main_goal d.forms d.main.form environment subject) (proof, signature ∷ [])
   pub listed : list ≡ derivation_text d.rules (order_of proof)
 
@@ -102,7 +104,7 @@ pub record IsDesugared (s : BodySource) (stated : Text) (lowered : Proof) (j : J
   pub proof : Proof
   pub body : ReadsOneWay s.dialect.parts (main_sort s.dialect.language Sub) s.header.body subject
   pub first : IsFirst (modes_of s.dialect.language.forms) (dialect_rules s.dialect) no_hypotheses
-      (goal s subject) None (proof, output ∷ [])
+      (goal_with s subject) None (proof, output ∷ [])
   pub lowers : Lowers s.dialect.set (subjects_in s.dialect.language.forms) no_hypotheses proof
       lowered j
   pub signed : ReadsOneWay s.dialect.parts (main_sort s.dialect.language Out) stated output
@@ -129,7 +131,7 @@ pub record IsInterfaceOf (m : ModuleData) (base : List ℕ) (parts : InterfacePa
 pub record IsInterfaceText (name text : List ℕ) (parts : InterfaceParts) : Type 0 where
   pub is : text ≡ written (interface_lines parts)
   pub utf8 : IsUtf8 text
-  pub states : StatesInterface name (texts (lines_from 1 text)) parts
+  pub states : StatesInterface name (line_texts (lines_from 1 text)) parts
   pub within : IsWithin most_bytes parts
   pub digest : IsDigest (sha256 text)
 
@@ -147,7 +149,8 @@ pub record HasHeadline (name : List ℕ) (budgets : Budgets) (files : Files) (g 
   pub interface_text : IsInterfaceText name unit.interface interface
   pub marked : IsInterfaceOf (module_over ground) unit.base interface
   pub environment : Tree
-  pub by_signatures : IsEnvironment (base_of (seen_over ground.over)) (interfaces_in g) environment
+  pub by_signatures : IsEnvironment (base_seen (seen_over ground.over))
+      (interfaces_in g) environment
   pub image_is : environment ≡ image (seen_over ground.over).dialect.set.table ground.environment
   pub derivation : HasDerivation g.language.language environment base_header interface
       unit.derivation
@@ -157,5 +160,5 @@ pub record HasHeadline (name : List ℕ) (budgets : Budgets) (files : Files) (g 
 -- a unit of a module has the headline
 abbrev pub UnitsHaveHeadline : Type 0
 UnitsHaveHeadline = (name : List ℕ) (budgets : Budgets) (files : Files) (g : Given)
-    (unit : UnitData) → is_name false name ≡ true → HasLanguage g → HasModule name g →
+    (unit : UnitData) → is_name false name ≡ true → HasNamedLanguage g → HasModule name g →
     HasUnit budgets files g unit → HasHeadline name budgets files g unit

@@ -7,8 +7,8 @@ use Rattle.sx_uses.specs.ExtensionKind.{extensions_for}
 use Rattle.sx_uses.specs.ReadExtension.{ReadsFile}
 
 -- what is kept are these files, as far as it goes
-abbrev pub AreOf : (kept files : Files) → Type 0
-AreOf kept files = (name bytes : List ℕ) → kept name ≡ Some bytes → files name ≡ Some bytes
+abbrev pub AreKeptOf : (kept files : Files) → Type 0
+AreKeptOf kept files = (name bytes : List ℕ) → kept name ≡ Some bytes → files name ≡ Some bytes
 
 -- these bytes, and else those
 abbrev pub or_else : Option (List ℕ) → Option (List ℕ) → Option (List ℕ)
@@ -25,5 +25,5 @@ extensions_beside kept language =
     record (extensions_for language) { Reads = λ files. ReadsFile (beside kept files) }
 
 -- the bytes of the extension stand in its file
-abbrev pub StandsIn : Files → Extension → Type 0
-StandsIn files x = files (extension_file x.header.name) ≡ Some x.bytes
+abbrev pub StandsInFile : Files → Extension → Type 0
+StandsInFile files x = files (extension_file x.header.name) ≡ Some x.bytes

@@ -27,7 +27,7 @@ use Rattle.sx_accepting.specs.Laws.{StopsAtUnsound}
 use Rattle.sx_accepting.specs.ReadLanguage.{base_in}
 use Rattle.sx_compiling.specs.Given.{Given, interfaces_in}
 use Rattle.sx_compiling.specs.MakeUnit.{MakesUnit}
-use Rattle.sx_compiling.specs.Reached.{HasLanguage, IsReached, HasDialect}
+use Rattle.sx_compiling.specs.Reached.{HasNamedLanguage, IsReached, HasDialect}
 use Rattle.sx_compiling.specs.Reached.{HasGround, seen_over, module_over}
 
 -- ---- one result
@@ -80,7 +80,7 @@ SameButShown budgets files g s t =
 abbrev pub UnitsAgree : Type 0
 UnitsAgree =
     (budgets : Budgets) (files : Files) (g : Given) (a b : Result UnitData StepError) (m n : ℕ) →
-    HasLanguage g → MakesUnit budgets files g a m → MakesUnit budgets files g b n →
+    HasNamedLanguage g → MakesUnit budgets files g a m → MakesUnit budgets files g b n →
     IsSure a → IsSure b → AnswersBy (SameButShown budgets files g) a b × (m ≡ n)
 
 -- ---- type errors
@@ -100,9 +100,9 @@ pub record HasUnsoundRule (budgets : Budgets) (files : Files) (g : Given) (stop 
 
 -- there is a type error only where the module has no type by the rules of its dialect, or a rule of
 -- one of its extensions is not sound
-abbrev pub TypeErrorsAreFinal : Type 0
-TypeErrorsAreFinal =
-    (budgets : Budgets) (files : Files) (g : Given) (stop : Stop) (tries : ℕ) → HasLanguage g →
+abbrev pub TypeErrorsOfUnitsAreFinal : Type 0
+TypeErrorsOfUnitsAreFinal =
+    (budgets : Budgets) (files : Files) (g : Given) (stop : Stop) (tries : ℕ) → HasNamedLanguage g →
     MakesUnit budgets files g (Err (errors.Stopped stop)) tries → IsTypeError stop →
     HasNoType budgets files g stop ⊎ HasUnsoundRule budgets files g stop
 
@@ -110,11 +110,11 @@ TypeErrorsAreFinal =
 
 -- There is at most one walk for each rule of the extensions, which are with the language's rules at
 -- most 4,096, and one for the module; and a walk makes no more tries than it may spend.
-pub record WalksAreWithin : Type 0 where
+pub record UnitsWalksAreWithin : Type 0 where
   pub made : (budgets : Budgets) (files : Files) (g : Given) (unit : UnitData) (tries : ℕ) →
-      HasLanguage g → MakesUnit budgets files g (Ok unit) tries →
+      HasNamedLanguage g → MakesUnit budgets files g (Ok unit) tries →
       (d : HasDialect budgets files g)
       × (tries ≤ suc (length d.extended.set.kept.more) * budgets.tries)
   pub all : (budgets : Budgets) (files : Files) (g : Given) (result : Result UnitData StepError)
-      (tries : ℕ) → HasLanguage g → MakesUnit budgets files g result tries →
+      (tries : ℕ) → HasNamedLanguage g → MakesUnit budgets files g result tries →
       tries ≤ 4097 * budgets.tries

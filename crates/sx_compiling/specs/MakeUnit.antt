@@ -11,7 +11,7 @@ use Rattle.sx_steps.specs.Steps.{Untried, AndThen}
 use Rattle.sx_uses.specs.ExtensionFile.{Extension}
 use Rattle.sx_uses.specs.ReadUses.{ReadsUses}
 use Rattle.sx_accepting.specs.ExtendedLanguages.{unextended}
-use Rattle.sx_accepting.specs.Extending.{Extends}
+use Rattle.sx_accepting.specs.Extending.{ExtendsLanguage}
 use Rattle.sx_accepting.specs.ReadLanguage.{base_in}
 use Rattle.sx_headers.specs.FreeImports.{HasFreeImports}
 use Rattle.sx_importing.specs.MakeEnvironment.{SeesImports}
@@ -31,7 +31,7 @@ MakesSeeing budgets g s =
 -- the extensions are read and accepted in order, each after all before it, and then the environment
 abbrev pub MakesExtended : Budgets → Given → List Extension → Result UnitData StepError → ℕ → Type 0
 MakesExtended budgets g xs =
-    AndThen (Extends (base_in g.language) budgets xs (unextended g.language.language))
+    AndThen (ExtendsLanguage (base_in g.language) budgets xs (unextended g.language.language))
     (λ x. MakesSeeing budgets g (seen_in g xs x))
 
 -- the extensions that are reached by the `use` lines of the header, and then all of these

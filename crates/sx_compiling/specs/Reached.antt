@@ -17,18 +17,18 @@ use Rattle.sx_steps.specs.declared.step_error.StepError.{StepError}
 use Rattle.sx_uses.specs.ExtensionFile.{Extension}
 use Rattle.sx_uses.specs.ReadUses.{ReadsUses}
 use Rattle.sx_accepting.specs.ExtendedLanguages.{ExtendedData, unextended}
-use Rattle.sx_accepting.specs.Extending.{Extends}
+use Rattle.sx_accepting.specs.Extending.{ExtendsLanguage}
 use Rattle.sx_accepting.specs.Laws.{IsAcceptedOver}
-use Rattle.sx_accepting.specs.ReadLanguage.{IsStated, base_in}
+use Rattle.sx_accepting.specs.ReadLanguage.{IsLanguageStated, base_in}
 use Rattle.sx_compiling.specs.Given.{Given, interfaces_in, seen_in, module_in}
 use Rattle.sx_term.specs.Limits.{most_depth}
 
 -- ---- what is given
 
 -- some text states the language under the name that the header has for it
-pub record HasLanguage (g : Given) : Type 0 where
+pub record HasNamedLanguage (g : Given) : Type 0 where
   pub bytes : List ℕ
-  pub states : IsStated g.read.header.language bytes g.language
+  pub states : IsLanguageStated g.read.header.language bytes g.language
 
 -- The bytes state the header of a module with this name; the imports are those that it names, in
 -- its order, each with the digest of its file.
@@ -50,7 +50,8 @@ pub record IsReached (files : Files) (g : Given) : Type 0 where
 abbrev pub ExtendsReached : (budgets : Budgets) (files : Files) (g : Given) → IsReached files g →
     Result ExtendedData StepError → ℕ → Type 0
 ExtendsReached budgets files g r answer tries =
-    Extends (base_in g.language) budgets r.extensions (unextended g.language.language) answer tries
+    ExtendsLanguage (base_in g.language) budgets r.extensions
+    (unextended g.language.language) answer tries
 
 -- They are read and accepted in order, each after all before it, and this is what the language
 -- becomes by them: each of their rules has a certificate by the language's rules alone.

@@ -2,10 +2,10 @@
 
 ghost use Rattle.std.specs.Prelude.{IfOk};
 ghost use Rattle.sx_typing.specs.BodySource.{CanType};
-ghost use Rattle.sx_unit.specs.Modules.{module_of};
+ghost use Rattle.sx_unit.specs.Modules.{module_data};
 ghost use Rattle.sx_unit.specs.Written.{unit_of};
 ghost use Rattle.sx_steps.specs.Stop.{Does, IsNoFault};
-ghost use Rattle.sx_compiling.specs.CanMake.{HasList};
+ghost use Rattle.sx_compiling.specs.CanMake.{HasDerivationList};
 ghost use Rattle.sx_compiling.specs.CompileModule.{CompilesTrying};
 
 use crate::module_stops::bad_module;
@@ -25,9 +25,9 @@ pub(crate) fn compile_module<L: Ledger>(
     steps: &mut Steps<L>,
 ) -> Result<Compiled, StepError>
     requires { CanType given.now.source }
-    ensures step { Does unit_of (CompilesTrying file.now budgets (module_of given.now)) result
+    ensures step { Does unit_of (CompilesTrying file.now budgets (module_data given.now)) result
         steps.old steps.new }
-    ensures list { IfOk result (HasList given.now.source.dialect.language.now) }
+    ensures list { IfOk result (HasDerivationList given.now.source.dialect.language.now) }
     ensures no_fault { IsNoFault result }
 {
     match compile(alloc, given, budgets, steps) {

@@ -6,9 +6,9 @@ ghost use Rattle.sx_outside.specs.Files.{Files};
 ghost use Rattle.sx_outside.specs.Told.{WhereTold};
 ghost use Rattle.sx_outside.specs.Views.{clean_files_of};
 ghost use Rattle.sx_steps.specs.Stop.{Gives, OnlyReads};
-ghost use Rattle.sx_uses.specs.ExtensionFile.{extension_of, extensions_of, IsStated};
+ghost use Rattle.sx_uses.specs.ExtensionFile.{extension_of, extensions_of, IsHeaderStated};
 ghost use Rattle.sx_uses.specs.ReadUses.{ReadsUses};
-ghost use Rattle.sx_compiling.specs.KeptFiles.{AreOf, StandsIn};
+ghost use Rattle.sx_compiling.specs.KeptFiles.{AreKeptOf, StandsInFile};
 
 use crate::given::Given;
 use crate::kept_extensions::KeptExtensions;
@@ -27,11 +27,11 @@ fn reach_extensions<S: Shelf>(
     kept: &CleanShelf,
     shelf: &mut S,
 ) -> Result<Vec<ExtensionFile>, StepError>
-    requires { WhereTold (S.content shelf.old) (AreOf (clean_files_of kept.now)) }
+    requires { WhereTold (S.content shelf.old) (AreKeptOf (clean_files_of kept.now)) }
     ensures step { WhereTold (S.content shelf.old) (λ files. Gives extensions_of
         (ReadsUses given.now.file.now given.now.source.now.header.language
         given.now.source.now.header.uses.items files) result) }
-    ensures stated { IfOk result (λ xs. AllByRecursion IsStated (extensions_of xs)) }
+    ensures stated { IfOk result (λ xs. AllByRecursion IsHeaderStated (extensions_of xs)) }
     ensures few { IfOk result (λ xs. length xs.items ≤ 256) }
     ensures reads { OnlyReads (S.content shelf.old) (S.content shelf.new)
         (S.read_faults shelf.old) (S.read_faults shelf.new)
@@ -54,8 +54,9 @@ fn keep_extension(
     extension: &ExtensionFile,
     kept: &mut CleanShelf,
 ) -> Result<(), NoMemory>
-    ensures { (files : Files) → AreOf (clean_files_of kept.old) files →
-        StandsIn files (extension_of extension.now) → AreOf (clean_files_of kept.new) files }
+    ensures { (files : Files) → AreKeptOf (clean_files_of kept.old) files →
+        StandsInFile files (extension_of extension.now) → AreKeptOf
+        (clean_files_of kept.new) files }
 {
     let file = with_suffix(alloc, &extension.header.name, ".ext")?;
     if kept.get(&file).is_some() {
@@ -71,9 +72,9 @@ fn keep_extensions(
     extensions: &[ExtensionFile],
     kept: &mut CleanShelf,
 ) -> Result<(), NoMemory>
-    ensures { (files : Files) → AreOf (clean_files_of kept.old) files →
-        AllByRecursion (StandsIn files) (map extension_of extensions.now) →
-        AreOf (clean_files_of kept.new) files }
+    ensures { (files : Files) → AreKeptOf (clean_files_of kept.old) files →
+        AllByRecursion (StandsInFile files) (map extension_of extensions.now) →
+        AreKeptOf (clean_files_of kept.new) files }
 {
     for i in 0..extensions.len() {
         let extension = &extensions[i];
@@ -90,13 +91,13 @@ pub(crate) fn read_extensions<S: Shelf>(
     kept: &mut CleanShelf,
     shelf: &mut S,
 ) -> Result<Vec<ExtensionFile>, StepError>
-    requires { WhereTold (S.content shelf.old) (AreOf (clean_files_of kept.old)) }
+    requires { WhereTold (S.content shelf.old) (AreKeptOf (clean_files_of kept.old)) }
     ensures step { WhereTold (S.content shelf.old) (λ files. Gives extensions_of
         (ReadsUses given.now.file.now given.now.source.now.header.language
         given.now.source.now.header.uses.items files) result) }
-    ensures stated { IfOk result (λ xs. AllByRecursion IsStated (extensions_of xs)) }
+    ensures stated { IfOk result (λ xs. AllByRecursion IsHeaderStated (extensions_of xs)) }
     ensures few { IfOk result (λ xs. length xs.items ≤ 256) }
-    ensures kept { WhereTold (S.content shelf.old) (AreOf (clean_files_of kept.new)) }
+    ensures kept { WhereTold (S.content shelf.old) (AreKeptOf (clean_files_of kept.new)) }
     ensures reads { OnlyReads (S.content shelf.old) (S.content shelf.new)
         (S.read_faults shelf.old) (S.read_faults shelf.new)
         (S.write_faults shelf.old) (S.write_faults shelf.new) result }

@@ -4,7 +4,8 @@ ghost use Rattle.std.specs.Prelude.{◌≡◌, IfOk, Some};
 ghost use Rattle.sx_outside.specs.Files.{Files};
 ghost use Rattle.sx_outside.specs.Views.{clean_files_of};
 ghost use Rattle.sx_steps.specs.Stop.{Gives, IsNoFault};
-ghost use Rattle.sx_uses.specs.ExtensionFile.{Extension, extension_of, extension_file, IsStated};
+ghost use Rattle.sx_uses.specs.ExtensionFile.{Extension, extension_of, extension_file};
+ghost use Rattle.sx_uses.specs.ExtensionFile.{IsHeaderStated};
 ghost use Rattle.sx_uses.specs.ReadExtension.{ReadsFile};
 ghost use Rattle.sx_compiling.specs.KeptFiles.{extensions_beside};
 
@@ -46,7 +47,7 @@ fn state_again(
     ensures step { (files : Files) → files (extension_file name.now) ≡ Some bytes.now →
         Gives extension_of (ReadsFile files name.now) result }
     ensures named { IfOk result (λ x. x.header.name ≡ name.now) }
-    ensures stated { IfOk result (λ x. IsStated (extension_of x)) }
+    ensures stated { IfOk result (λ x. IsHeaderStated (extension_of x)) }
     ensures no_fault { IsNoFault result }
 {
     match shelf_of(alloc, file, bytes) {

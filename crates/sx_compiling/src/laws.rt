@@ -1,7 +1,8 @@
 //! What is proved of the units of modules.
 
 ghost use Rattle.sx_compiling.specs.Headline.{UnitsKeepPromise, UnitsHaveHeadline};
-ghost use Rattle.sx_compiling.specs.Laws.{UnitsAgree, TypeErrorsAreFinal, WalksAreWithin};
+ghost use Rattle.sx_compiling.specs.Laws.{UnitsAgree, TypeErrorsOfUnitsAreFinal};
+ghost use Rattle.sx_compiling.specs.Laws.{UnitsWalksAreWithin};
 
 use sx_interface::interfaces_are_within;
 use sx_outline::one_extension_header;
@@ -25,7 +26,7 @@ pub fn units_agree()
 /// A type error comes only where the body's goal has no derivation at all, or where a rule of an
 /// extension is not sound; and it names the file of the one or of the other.
 pub fn type_errors_of_units_are_final()
-    ensures { TypeErrorsAreFinal }
+    ensures { TypeErrorsOfUnitsAreFinal }
 {}
 
 /// The three texts of a unit. Read without the source: the header of the base text is that of the
@@ -43,5 +44,5 @@ pub fn units_have_headline()
 /// A unit takes at most one walk for each rule of the extensions and one for the module, and no
 /// walk makes more tries than it may spend.
 pub fn units_walks_are_within()
-    ensures { WalksAreWithin }
+    ensures { UnitsWalksAreWithin }
 {}

@@ -14,12 +14,12 @@ ghost use Rattle.sx_environment.specs.SeenFrom.{seen_from};
 ghost use Rattle.sx_outside.specs.Told.{WhereTold};
 ghost use Rattle.sx_outside.specs.Views.{clean_files_of};
 ghost use Rattle.sx_steps.specs.Stop.{OnlyReads, IsNoFault, Does};
-ghost use Rattle.sx_uses.specs.ExtensionFile.{extension_of, IsStated};
+ghost use Rattle.sx_uses.specs.ExtensionFile.{extension_of, IsHeaderStated};
 ghost use Rattle.sx_accepting.specs.ExtendedLanguages.{extended_data};
 ghost use Rattle.sx_dialects.specs.Dialects.{HasHistory};
-ghost use Rattle.sx_compiling.specs.CanMake.{CanMake, HasList, given_of};
+ghost use Rattle.sx_compiling.specs.CanMake.{CanMake, HasDerivationList, given_of};
 ghost use Rattle.sx_compiling.specs.Given.{seen_in};
-ghost use Rattle.sx_compiling.specs.KeptFiles.{AreOf};
+ghost use Rattle.sx_compiling.specs.KeptFiles.{AreKeptOf};
 ghost use Rattle.sx_compiling.specs.MakeUnit as spec;
 ghost use Rattle.sx_term.specs.Limits.{most_bytes};
 
@@ -56,7 +56,7 @@ fn make_in<L: Ledger>(
     requires environment { IsTermFor (seen_from seen.now).dialect In (tree environment.now) }
     ensures step { Does unit_of (spec.MakesIn budgets (given_of given.now) (seen_from seen.now)
         (tree environment.now)) result steps.old steps.new }
-    ensures list { IfOk result (HasList seen.now.dialect.language.now) }
+    ensures list { IfOk result (HasDerivationList seen.now.dialect.language.now) }
     ensures no_fault { IsNoFault result }
 {
     let module = ModuleSource {
@@ -89,7 +89,7 @@ fn make_seen<L: Ledger>(
         given.now.source.now.header.imports.items }
     ensures step { Does unit_of (spec.MakesSeeing budgets (given_of given.now)
         (seen_from seen.now)) result steps.old steps.new }
-    ensures list { IfOk result (HasList seen.now.dialect.language.now) }
+    ensures list { IfOk result (HasDerivationList seen.now.dialect.language.now) }
     ensures no_fault { IsNoFault result }
 {
     match make_environment(alloc, given.file, seen, given.imports) {
@@ -120,7 +120,7 @@ fn make_extended<L: Ledger>(
         (seen_in (given_of given.now) (map extension_of files.now)
         (extended_data given.now.language.now.language extended.now))) result
         steps.old steps.new }
-    ensures list { IfOk result (HasList given.now.language.now.language) }
+    ensures list { IfOk result (HasDerivationList given.now.language.now.language) }
     ensures no_fault { IsNoFault result }
 {
     let uses = match use_marks(alloc, files) {
@@ -148,11 +148,11 @@ fn make_with<L: Ledger>(
     requires can { CanMake given.now }
     requires free { AreFree (literals_of (given_of given.now).language.language.parts)
         given.now.source.now.header.imports.items }
-    requires files { AllByRecursion IsStated (map extension_of files.now) }
+    requires files { AllByRecursion IsHeaderStated (map extension_of files.now) }
     requires few { length files.now ≤ 256 }
     ensures step { Does unit_of (spec.MakesExtended budgets (given_of given.now)
         (map extension_of files.now)) result steps.old steps.new }
-    ensures list { IfOk result (HasList given.now.language.now.language) }
+    ensures list { IfOk result (HasDerivationList given.now.language.now.language) }
     ensures no_fault { IsNoFault result }
 {
     match extend_language(alloc, &given.language.language, files, budgets, steps) {
@@ -177,11 +177,11 @@ fn make_reached<S: Shelf, L: Ledger>(
     requires can { CanMake given.now }
     requires free { AreFree (literals_of (given_of given.now).language.language.parts)
         given.now.source.now.header.imports.items }
-    requires kept { WhereTold (S.content shelf.old) (AreOf (clean_files_of kept.old)) }
+    requires kept { WhereTold (S.content shelf.old) (AreKeptOf (clean_files_of kept.old)) }
     ensures step { WhereTold (S.content shelf.old) (λ files. Does unit_of
         (spec.MakesReached budgets files (given_of given.now)) result steps.old steps.new) }
-    ensures list { IfOk result (HasList given.now.language.now.language) }
-    ensures kept { WhereTold (S.content shelf.old) (AreOf (clean_files_of kept.new)) }
+    ensures list { IfOk result (HasDerivationList given.now.language.now.language) }
+    ensures kept { WhereTold (S.content shelf.old) (AreKeptOf (clean_files_of kept.new)) }
     ensures reads { OnlyReads (S.content shelf.old) (S.content shelf.new)
         (S.read_faults shelf.old) (S.read_faults shelf.new)
         (S.write_faults shelf.old) (S.write_faults shelf.new) result }
@@ -207,11 +207,11 @@ pub fn make_unit_of_several<S: Shelf, L: Ledger>(
     steps: &mut Steps<L>,
 ) -> Result<Compiled, StepError>
     requires can { CanMake given.now }
-    requires kept { WhereTold (S.content shelf.old) (AreOf (clean_files_of kept.old)) }
+    requires kept { WhereTold (S.content shelf.old) (AreKeptOf (clean_files_of kept.old)) }
     ensures step { WhereTold (S.content shelf.old) (λ files. Does unit_of
         (spec.MakesUnit budgets files (given_of given.now)) result steps.old steps.new) }
-    ensures list { IfOk result (HasList given.now.language.now.language) }
-    ensures kept { WhereTold (S.content shelf.old) (AreOf (clean_files_of kept.new)) }
+    ensures list { IfOk result (HasDerivationList given.now.language.now.language) }
+    ensures kept { WhereTold (S.content shelf.old) (AreKeptOf (clean_files_of kept.new)) }
     ensures reads { OnlyReads (S.content shelf.old) (S.content shelf.new)
         (S.read_faults shelf.old) (S.read_faults shelf.new)
         (S.write_faults shelf.old) (S.write_faults shelf.new) result }
@@ -246,7 +246,7 @@ pub fn make_unit<S: Shelf, L: Ledger>(
     requires { CanMake given.now }
     ensures step { WhereTold (S.content shelf.old) (λ files. Does unit_of
         (spec.MakesUnit budgets files (given_of given.now)) result steps.old steps.new) }
-    ensures list { IfOk result (HasList given.now.language.now.language) }
+    ensures list { IfOk result (HasDerivationList given.now.language.now.language) }
     ensures reads { OnlyReads (S.content shelf.old) (S.content shelf.new)
         (S.read_faults shelf.old) (S.read_faults shelf.new)
         (S.write_faults shelf.old) (S.write_faults shelf.new) result }

@@ -3,7 +3,7 @@ use Rattle.std.proofs.Common.{◌≡◌, ℕ, ◌<◌, ◌≤◌, List, length, 
 use Rattle.std.specs.Prelude.{Some, ◌⊎◌}
 use Rattle.std.specs.List.{flat_map}
 use Rattle.sx_lines.specs.Lines.{Lines, over, line}
-use Rattle.sx_lines.specs.Takes.{Takes, number_of}
+use Rattle.sx_lines.specs.Takes.{Takes, line_number}
 use Rattle.sx_term.specs.Tree.{Tree, depth_of}
 use Rattle.sx_term.specs.Core.{core}
 use Rattle.sx_term.specs.Read.{StandsAt}
@@ -14,14 +14,18 @@ use Rattle.sx_rules.specs.Views.{FormData, places_at, modes_of, sorts_of}
 use Rattle.sx_core.specs.File.{JudgementRow, CoreFile}
 use Rattle.sx_core.specs.Statements.{IsFormRead}
 use Rattle.sx_core.specs.TermsText.{terms_text, HaveCores, IsDeepRow}
-use Rattle.sx_core.specs.Table.{Row, row, row_text, declaration_row, rule_rows, rows_of, parts_text, IsKeyword, NoKeyword, Has}
-use Rattle.sx_core.specs.Fitting.{Context, Fits, IsFitting, IsDeep, IsDeepLine}
-use Rattle.sx_core.specs.Order.{IsFront, Phase, at_start, at_declarations, at_rules, at_premises, at_conclusion, at_end, step}
-use Rattle.sx_core.specs.CoreRead.{IsBadLine, IsTooDeep, IsOpen, IsMissing, IsBadAt, IsDeepAt}
+use Rattle.sx_core.specs.Table.{Row, row, row_text, declaration_row, rule_rows, rows_of, parts_text}
+use Rattle.sx_core.specs.Table.{IsKeyword, NoKeyword, Has}
+use Rattle.sx_core.specs.Fitting.{Context, PartsFit, IsFitting, IsDeep, IsDeepLine}
+use Rattle.sx_core.specs.Order.{IsFront, Phase, at_start, at_declarations, at_rules, at_premises}
+use Rattle.sx_core.specs.Order.{at_conclusion, at_end, step}
+use Rattle.sx_core.specs.CoreRead.{IsBadLine, IsTooDeep, IsRuleOpen, IsMissing, IsBadAt, IsDeepAt}
 use Rattle.sx_core.specs.declared.keyword.Keyword.{Keyword}
-use Rattle.sx_core.specs.declared.keyword.Keyword.TheVariants.{Head, Sort, Con, Form, Rule, If, Not, Then, End, Goal}
+use Rattle.sx_core.specs.declared.keyword.Keyword.TheVariants.{Head, Sort, Con, Form, Rule, If, Not}
+use Rattle.sx_core.specs.declared.keyword.Keyword.TheVariants.{Then, End, Goal}
 use Rattle.sx_lines.specs.declared.kind.Kind.{Kind}
-use Rattle.sx_lines.specs.declared.kind.Kind.TheVariants.{Head as BadHead, Directive, Shape, Order, Unfinished, Main, Variable}
+use Rattle.sx_lines.specs.declared.kind.Kind.TheVariants.{Head as BadHead, Directive, Shape, Order}
+use Rattle.sx_lines.specs.declared.kind.Kind.TheVariants.{Unfinished, Main, Variable}
 use Rattle.sx_core.proofs.TermsLaws.{tail_is, digits_after, one_only, stands_one}
 use Rattle.sx_core.proofs.Wording.{name_space, one_word}
 use Rattle.sx_core.proofs.TableLaws.{row_keyword, one_keyword}
@@ -59,7 +63,7 @@ line_keyword text r e = subst (λ (z : List ℕ). IsKeyword z r.keyword (parts_t
 
 -- ---- a line that goes on is not bad
 
-module _ (c : Context) (rows : List Row) (r : Row) (more : List Row) (text : List ℕ) (is : text ≡ row_text r) (fit : Fits c r.keyword r.parts) (front : IsFront (rows ++ r ∷ more)) where
+module _ (c : Context) (rows : List Row) (r : Row) (more : List Row) (text : List ℕ) (is : text ≡ row_text r) (fit : PartsFit c r.keyword r.parts) (front : IsFront (rows ++ r ∷ more)) where
   pub not_bad : (kind : Kind) → IsBadLine c rows text kind → ⊥
   not_bad BadHead h = h.1 (is ∙ ap row_text (head_first rows r more front h.0))
   not_bad Directive h = h.1 r.keyword (parts_text r.keyword r.parts) (line_keyword text r is)
@@ -221,12 +225,12 @@ has_more k [] ys h = absurd h
 has_more k (x ∷ xs) ys (inl e) = inl e
 has_more k (x ∷ xs) ys (inr h) = inr (has_more k xs ys h)
 
-not_between : (rows f g mid : List Row) (o : IsOpen rows f) (p : IsOpen rows g) → IsFront rows → g ≡ f ++ o.rule ∷ mid → o.inside ≡ mid ++ p.rule ∷ p.inside → ⊥
+not_between : (rows f g mid : List Row) (o : IsRuleOpen rows f) (p : IsRuleOpen rows g) → IsFront rows → g ≡ f ++ o.rule ∷ mid → o.inside ≡ mid ++ p.rule ∷ p.inside → ⊥
 not_between rows f g mid o p h e q =
     between f mid p.inside o.rule p.rule o.begins p.begins (λ k. o.not_ended (subst (Has End) (sym q) (has_more End mid (p.rule ∷ p.inside) k)))
     (subst IsFront (p.parts ∙ ap (λ (z : List Row). z ++ p.rule ∷ p.inside) e) h)
 
-one_open : (rows f g : List Row) → IsOpen rows f → IsOpen rows g → IsFront rows → f ≡ g
+one_open : (rows f g : List Row) → IsRuleOpen rows f → IsRuleOpen rows g → IsFront rows → f ≡ g
 one_open rows f g o p h =
     elim (parted f g o.rule p.rule o.inside p.inside (sym o.parts ∙ p.parts)) [
       | inl e ↦ e
@@ -241,7 +245,7 @@ has_last [] g = inl refl
 has_last (x ∷ xs) g = inr (has_last xs g)
 
 module _ (lines : Lines) (rows : List Row) (end : ℕ) where
-  nothing_open : (front : List Row) → rows ≡ [] → IsOpen rows front → ⊥
+  nothing_open : (front : List Row) → rows ≡ [] → IsRuleOpen rows front → ⊥
   nothing_open front e o = no_row front o.rule o.inside (sym e ∙ o.parts)
 
   one_missing : (n m : ℕ) (k l : Kind) → IsFront rows → IsMissing lines rows end n k → IsMissing lines rows end m l → (n ≡ m) × (k ≡ l)
@@ -264,7 +268,7 @@ module _ (lines : Lines) (rows : List Row) (end : ℕ) where
   one_missing n m Unfinished Unfinished f h j =
       let e = one_open rows h.0 j.0 h.2 j.2 f in
       let q = one_rest (map row_text j.0) lines h.1 j.1 (subst (λ (z : List Row). Takes (map row_text z) lines h.1) e h.3) j.3 in
-      (h.4 ∙ ap number_of q ∙ sym j.4, refl)
+      (h.4 ∙ ap line_number q ∙ sym j.4, refl)
   one_missing n m Unfinished Main f h j = absurd (j.1 h.0 h.2)
   one_missing n m Main Directive f h j = absurd j
   one_missing n m Main Shape f h j = absurd j

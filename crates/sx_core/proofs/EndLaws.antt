@@ -2,24 +2,29 @@
 use Rattle.std.proofs.Common.{◌≡◌, ℕ, List, [], ◌∷◌, ◌++◌, inl, inr, map, refl, sym, ap, ◌∙◌, subst, append_assoc, append-nil}
 use Rattle.std.specs.Prelude.{Contains, ◌⊎◌}
 use Rattle.std.specs.List.{flat_map}
-use Rattle.sx_lines.specs.Lines.{Lines, over, line, texts}
+use Rattle.sx_lines.specs.Lines.{Lines, over, line, line_texts}
 use Rattle.sx_lines.specs.Takes.{Takes}
 use Rattle.sx_term.specs.Shapes.{shapes}
 use Rattle.sx_rules.specs.Views.{goal, named as named_rule}
 use Rattle.sx_rules.specs.declared.rule.Goal.{Goal as GoalOf}
-use Rattle.sx_core.specs.File.{SortRow, JudgementRow, Declaration, sort_line, con_line, form_line, PremiseRow, if_line, not_line, RuleRows, CoreFile}
+use Rattle.sx_core.specs.File.{SortRow, JudgementRow, Declaration, sort_line, con_line, form_line}
+use Rattle.sx_core.specs.File.{PremiseRow, if_line, not_line, RuleRows, CoreFile}
 use Rattle.sx_core.specs.Problem.{Problem}
-use Rattle.sx_core.specs.Stated.{IsName, AreNames, AreCons, AreForms, AreRules, sort_rows, con_rows, form_rows, Says}
+use Rattle.sx_core.specs.Stated.{IsName, AreStatedNames, AreCons, AreForms, AreRules, sort_rows}
+use Rattle.sx_core.specs.Stated.{con_rows, form_rows, Says}
 use Rattle.sx_core.specs.Resolving.{sort_names, rows_in}
 use Rattle.sx_core.specs.Statements.{known_in}
-use Rattle.sx_core.specs.Table.{Parts, parts_text, Row, row, row_text, declaration_row, premise_row, rule_rows, IsKeyword}
-use Rattle.sx_core.specs.Fitting.{Context, Fits, sorts_at, cons_at, forms_at, sorts_among, cons_among, forms_among, AllFit, AreSorts}
+use Rattle.sx_core.specs.Table.{Parts, parts_text, Row, row, row_text, declaration_row, premise_row}
+use Rattle.sx_core.specs.Table.{rule_rows, IsKeyword}
+use Rattle.sx_core.specs.Fitting.{Context, PartsFit, sorts_at, cons_at, forms_at, sorts_among}
+use Rattle.sx_core.specs.Fitting.{cons_among, forms_among, AllFit, AreSorts}
 use Rattle.sx_core.specs.CoreRead.{AreLinesOf}
 use Rattle.sx_core.specs.declared.reader.Reader.{Reader}
 use Rattle.sx_core.specs.declared.stage.Stage.{Stage}
 use Rattle.sx_core.specs.declared.stage.Stage.TheVariants.{Over}
 use Rattle.sx_core.specs.declared.keyword.Keyword.{Keyword}
-use Rattle.sx_core.specs.declared.keyword.Keyword.TheVariants.{Head, Sort, Con, Form, Rule, If, Not, Then, End, Goal}
+use Rattle.sx_core.specs.declared.keyword.Keyword.TheVariants.{Head, Sort, Con, Form, Rule, If, Not}
+use Rattle.sx_core.specs.declared.keyword.Keyword.TheVariants.{Then, End, Goal}
 use Rattle.sx_core.proofs.PartLaws.{sort_same}
 use Rattle.sx_core.proofs.TableLaws.{row_keyword, only_row}
 use Rattle.sx_core.proofs.ReaderLaws.{among_snoc, front_rows, Stands, IsAt}
@@ -100,8 +105,8 @@ only_sort text x n e r f named =
     only_row text Sort (parts_text Sort x) (subst (λ (t : List ℕ). IsKeyword t Sort (parts_text Sort x)) (sym e) (row_keyword (row Sort x)))
     (λ (z : Row). ((y : SortRow) → z ≡ row Sort y → IsName y.name) → z ≡ row Sort x) (λ y q h. ap (row Sort) (sort_same y x (h y refl) n (sym q))) r f named
 
-sort_fits : (c : Context) (r : Row) (y : SortRow) → Fits c r.keyword r.parts → r ≡ row Sort y → IsName y.name × (Contains c.taken y.name → ⊥)
-sort_fits c r y h e = subst (λ (z : Row). Fits c z.keyword z.parts) e h
+sort_fits : (c : Context) (r : Row) (y : SortRow) → PartsFit c r.keyword r.parts → r ≡ row Sort y → IsName y.name × (Contains c.taken y.name → ⊥)
+sort_fits c r y h e = subst (λ (z : Row). PartsFit c z.keyword z.parts) e h
 
 module _ (all : List SortRow) where
   sorts_are : (before rows : List Row) (found : List SortRow) (lines next : Lines) (n : ℕ) → found ≡ sorts_among before → next ≡ over n → Takes (map row_text rows) lines next → AllFit all before rows → AreSorts found lines all → found ++ sorts_among rows ≡ all
@@ -124,12 +129,12 @@ module _ (all : List SortRow) where
 
 -- ---- the lines are those of the file
 
-takes_texts : (xs : List (List ℕ)) (lines next : Lines) (n : ℕ) → next ≡ over n → Takes xs lines next → texts lines ≡ xs
-takes_texts [] lines next n o t = ap texts (t ∙ o)
+takes_texts : (xs : List (List ℕ)) (lines next : Lines) (n : ℕ) → next ≡ over n → Takes xs lines next → line_texts lines ≡ xs
+takes_texts [] lines next n o t = ap line_texts (t ∙ o)
 takes_texts (x ∷ xs) (over m) next n o t = absurd t
-takes_texts (x ∷ xs) (line m text after more) next n o t = ap (λ z. z ∷ texts more) t.0 ∙ ap (λ z. x ∷ z) (takes_texts xs more next n o t.1)
+takes_texts (x ∷ xs) (line m text after more) next n o t = ap (λ z. z ∷ line_texts more) t.0 ∙ ap (λ z. x ∷ z) (takes_texts xs more next n o t.1)
 
-module _ (all : List SortRow) (lines : Lines) (rows : List Row) (r : Reader) (next : Lines) (n : ℕ) (g : GoalOf) (at : IsAt all lines rows r next) (e : next ≡ over n) (stage : r.stage ≡ Over g) (sorts : AreSorts [] lines all) (named : AreNames (map (λ row. row.name) all)) where
+module _ (all : List SortRow) (lines : Lines) (rows : List Row) (r : Reader) (next : Lines) (n : ℕ) (g : GoalOf) (at : IsAt all lines rows r next) (e : next ≡ over n) (stage : r.stage ≡ Over g) (sorts : AreSorts [] lines all) (named : AreStatedNames (map (λ row. row.name) all)) where
   there : Stands all (shapes r.found.shapes) (known_in r.found.forms) lines (Over g) at.staged.declarations at.staged.ended at.staged.front at.staged.inside
   there = subst (λ (z : Stage). Stands all (shapes r.found.shapes) (known_in r.found.forms) lines z at.staged.declarations at.staged.ended at.staged.front at.staged.inside) stage at.staged.stands
 
@@ -176,7 +181,7 @@ module _ (all : List SortRow) (lines : Lines) (rows : List Row) (r : Reader) (ne
   unfolding file
   says = record {
     sorts = ap (map (λ row. row.name)) (at.same ∙ all_is);
-    sort_names = subst (λ (z : List SortRow). AreNames (map (λ row. row.name) z)) (sym at.same) named;
+    sort_names = subst (λ (z : List SortRow). AreStatedNames (map (λ row. row.name) z)) (sym at.same) named;
     sorts_distinct = at.found.sorts.distinct;
     cons = subst (λ (z : List SortRow). AreCons z (con_rows at.staged.declarations) r.found.cons.items (shapes r.found.shapes)) all_is (subst (λ z. AreCons all z r.found.cons.items (shapes r.found.shapes)) cons_are at.declare.cons);
     con_names = at.cons;

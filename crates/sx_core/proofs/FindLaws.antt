@@ -1,11 +1,13 @@
 -- Finding the sorts of a core file.
 use Rattle.std.proofs.Common.{◌≡◌, ℕ, ◌+◌, ◌<◌, List, [], ◌∷◌, ◌++◌, length, inl, inr, map, refl, sym, ap, ◌∙◌, subst, arith}
-use Rattle.std.specs.Prelude.{codes, Contains, Option, Some, MatchOption, Result, Ok, Err, IfOk, ◌^◌}
+use Rattle.std.specs.Prelude.{codes, Contains, Option, Some, MatchOption, Result, Ok, Err, IfOk}
+use Rattle.std.specs.Prelude.{◌^◌}
 use Rattle.sx_term.specs.declared.no_memory.NoMemory.{NoMemory}
 use Rattle.sx_lines.specs.Lines.{Lines, over, line}
 use Rattle.sx_core.specs.File.{SortRow, sort_line}
-use Rattle.sx_core.specs.Stated.{IsName, AreNames, AreDistinct}
-use Rattle.sx_core.specs.Rows.{sort_row, IsLineOf, NoRow}
+use Rattle.sx_core.specs.Stated.{IsName, AreStatedNames}
+use Rattle.sx_lines.specs.Distinct.{AreTextsDistinct}
+use Rattle.sx_core.specs.Rows.{sort_row, IsDeclarationLine, NoRow}
 use Rattle.sx_core.specs.declared.rows.SortRow.{SortRow as SortRowOf}
 use Rattle.sx_core.specs.Resolving.{sort_names, rows_in, IsSortTable}
 use Rattle.sx_core.specs.Table.{parts_text, row, row_text, IsKeyword, NoKeyword}
@@ -25,7 +27,7 @@ use Rattle.sx_core.proofs.Wording.{map_last}
 
 -- ---- the line of a sort
 
-pub sort_is : (text rest : List ℕ) → IsKeyword text Sort rest → (r : SortRow) → IsLineOf (codes "sort" ++ rest) (sort_line r) → IsSortLine text r
+pub sort_is : (text rest : List ℕ) → IsKeyword text Sort rest → (r : SortRow) → IsDeclarationLine (codes "sort" ++ rest) (sort_line r) → IsSortLine text r
 sort_is text rest k r h = (k.parts ∙ h.line, h.spelled)
 
 pub sort_not : (text rest : List ℕ) → IsKeyword text Sort rest → NoRow sort_line (codes "sort") rest Bad → (r : SortRow) → IsSortLine text r → ⊥
@@ -84,7 +86,7 @@ num_new h = num_not (contains_among (codes "id" ∷ []) (codes "num") h)
 pub str_new : Contains (codes "id" ∷ codes "num" ∷ []) (codes "str") → ⊥
 str_new h = str_not (contains_among (codes "id" ∷ codes "num" ∷ []) (codes "str") h)
 
-pub lexical_distinct : AreDistinct (sort_names [])
+pub lexical_distinct : AreTextsDistinct (sort_names [])
 lexical_distinct = (
   (λ h. not_id (contains_among (codes "num" ∷ codes "str" ∷ []) (codes "id") h)),
   (
@@ -101,19 +103,19 @@ lexical_distinct = (
 -- the table is that of the sorts so far, and with those of the lines that are left it has all
 pub record Finding (lines : Lines) (t : SortTable) (next : Lines) : Type 0 where
   pub names : t.names ≡ sort_names (rows_in t)
-  pub distinct : AreDistinct (sort_names (rows_in t))
-  pub named : AreNames (map (λ row. row.name) (rows_in t))
+  pub distinct : AreTextsDistinct (sort_names (rows_in t))
+  pub named : AreStatedNames (map (λ row. row.name) (rows_in t))
   pub rest : (all : List SortRow) → AreSorts (rows_in t) next all → AreSorts [] lines all
 
 pub find_begin : (lines : Lines) (t : SortTable) → t.names ≡ sort_names [] → rows_in t ≡ [] → Finding lines t lines
 find_begin lines t e f = record {
   names = e ∙ sym (ap sort_names f);
-  distinct = subst (λ (z : List SortRow). AreDistinct (sort_names z)) (sym f) lexical_distinct;
-  named = subst (λ (z : List SortRow). AreNames (map (λ row. row.name) z)) (sym f) tt;
+  distinct = subst (λ (z : List SortRow). AreTextsDistinct (sort_names z)) (sym f) lexical_distinct;
+  named = subst (λ (z : List SortRow). AreStatedNames (map (λ row. row.name) z)) (sym f) tt;
   rest = λ all h. subst (λ (z : List SortRow). AreSorts z lines all) f h;
 }
 
-named_snoc : (rows : List SortRow) (r : SortRow) → AreNames (map (λ row. row.name) rows) → IsName r.name → AreNames (map (λ row. row.name) (rows ++ r ∷ []))
+named_snoc : (rows : List SortRow) (r : SortRow) → AreStatedNames (map (λ row. row.name) rows) → IsName r.name → AreStatedNames (map (λ row. row.name) (rows ++ r ∷ []))
 named_snoc [] r h n = (n, tt)
 named_snoc (x ∷ rows) r h n = (h.0, named_snoc rows r h.1 n)
 
@@ -124,8 +126,8 @@ pub find_more : (lines : Lines) (s t : SortTable) (next more : Lines) (n : ℕ) 
 find_more lines s t next more n text rest f e (inl (r, new, rows, names)) =
     record {
       names = names ∙ ap (λ (z : List (List ℕ)). z ++ r.name ∷ []) f.names ∙ names_snoc (rows_in s) r ∙ sym (ap sort_names rows);
-      distinct = subst (λ (z : List SortRow). AreDistinct (sort_names z)) (sym rows) (subst AreDistinct (names_snoc (rows_in s) r) (distinct_snoc (sort_names (rows_in s)) r.name f.distinct new.2));
-      named = subst (λ (z : List SortRow). AreNames (map (λ row. row.name) z)) (sym rows) (named_snoc (rows_in s) r f.named new.1);
+      distinct = subst (λ (z : List SortRow). AreTextsDistinct (sort_names z)) (sym rows) (subst AreTextsDistinct (names_snoc (rows_in s) r) (distinct_snoc (sort_names (rows_in s)) r.name f.distinct new.2));
+      named = subst (λ (z : List SortRow). AreStatedNames (map (λ row. row.name) z)) (sym rows) (named_snoc (rows_in s) r f.named new.1);
       rest = λ all h. f.rest all (subst (λ (z : Lines). AreSorts (rows_in s) z all) (sym e) (inl (r, new, subst (λ (z : List SortRow). AreSorts z more all) rows h)));
     }
 find_more lines s t next more n text rest f e (inr (none, same)) =
@@ -137,13 +139,13 @@ find_more lines s t next more n text rest f e (inr (none, same)) =
     })
 
 -- all lines are read, and each sort has a number
-pub find_end : (lines : Lines) (s t : SortTable) (next : Lines) (n : ℕ) → Finding lines s next → next ≡ over n → t ≡ s → length (rows_in t) + 3 < 2 ^ 32 → IsSortTable t × AreNames (map (λ row. row.name) (rows_in t)) × AreSorts [] lines (rows_in t)
+pub find_end : (lines : Lines) (s t : SortTable) (next : Lines) (n : ℕ) → Finding lines s next → next ≡ over n → t ≡ s → length (rows_in t) + 3 < 2 ^ 32 → IsSortTable t × AreStatedNames (map (λ row. row.name) (rows_in t)) × AreSorts [] lines (rows_in t)
 find_end lines s t next n h e same few =
     let f : Finding lines t next = subst (λ (z : SortTable). Finding lines z next) (sym same) h in
     (record { names = f.names; distinct = f.distinct; few = few }, f.named, f.rest (rows_in t) (subst (λ (z : Lines). AreSorts (rows_in t) z (rows_in t)) (sym e) refl))
 
 pub all_found : (lines : Lines) (s : SortTable) (next : Lines) (n : ℕ) (r : Result SortTable NoMemory) → Finding lines s next → next ≡ over n → IfOk r (λ t. (t ≡ s) × (length (rows_in t) + 3 < 2 ^ 32))
-    → IfOk r (λ t. IsSortTable t × AreNames (map (λ row. row.name) (rows_in t)) × AreSorts [] lines (rows_in t))
+    → IfOk r (λ t. IsSortTable t × AreStatedNames (map (λ row. row.name) (rows_in t)) × AreSorts [] lines (rows_in t))
 all_found lines s next n (Ok t) f e h = find_end lines s t next n f e h.0 h.1
 all_found lines s next n (Err x) f e h = tt
 

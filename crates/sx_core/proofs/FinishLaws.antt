@@ -3,24 +3,27 @@ use Rattle.std.proofs.Common.{◌≡◌, ℕ, ◌+◌, ◌<◌, List, [], ◌∷
 use Rattle.std.specs.Prelude.{Result, Ok, Err}
 use Rattle.sx_term.specs.Shapes.{shapes}
 use Rattle.sx_rules.specs.Deep.{AreShallow, PremisesAreShallow, RulesAreShallow}
-use Rattle.sx_rules.specs.Good.{IsRefused}
+use Rattle.sx_rules.specs.Good.{IsRuleSetRefused}
 use Rattle.sx_rules.specs.Modes.{Goal as GoalData}
 use Rattle.sx_rules.specs.Rules.{Premise, holds, apart}
 use Rattle.sx_rules.specs.Views.{FormData, NamedRule, goal, named, rule, premise}
 use Rattle.sx_rules.specs.declared.rule.Goal.{Goal as GoalOf}
 use Rattle.sx_rules.specs.declared.rule.Rule.{Rule as RuleOf}
 use Rattle.sx_rules.specs.declared.error.RuleError.{RuleError}
-use Rattle.sx_rules.specs.declared.error.RuleError.TheVariants.{Memory as NoRules, TooManyRules, TooManyVars, SameRule, SortDiffers, Discipline, NotModed}
+use Rattle.sx_rules.specs.declared.error.RuleError.TheVariants.{Memory as NoRules, TooManyRules}
+use Rattle.sx_rules.specs.declared.error.RuleError.TheVariants.{TooManyVars, SameRule, SortDiffers}
+use Rattle.sx_rules.specs.declared.error.RuleError.TheVariants.{Discipline, NotModed}
 use Rattle.sx_core.specs.File.{SortRow, PremiseRow, if_line, not_line, RuleRows}
 use Rattle.sx_core.specs.Stated.{ArePremises, AreRules}
 use Rattle.sx_core.specs.Rows.{sort_row}
 use Rattle.sx_core.specs.Statements.{known_in}
-use Rattle.sx_core.specs.Machine.{IsMadeOf, IsEnded, rule_error}
+use Rattle.sx_core.specs.Machine.{IsProblemMade, IsEnded, rule_error}
 use Rattle.sx_core.specs.declared.rows.SortRow.{SortRow as SortRowOf}
 use Rattle.sx_core.specs.declared.found.Found.{Found}
 use Rattle.sx_core.specs.declared.problem.CoreProblem.{CoreProblem}
 use Rattle.sx_core.specs.declared.error.CoreFileError.{CoreFileError}
-use Rattle.sx_core.specs.declared.error.CoreFileError.TheVariants.{Memory, NotUtf8, Notation, TooDeep, Rules}
+use Rattle.sx_core.specs.declared.error.CoreFileError.TheVariants.{Memory, NotUtf8, Notation}
+use Rattle.sx_core.specs.declared.error.CoreFileError.TheVariants.{TooDeep, Rules}
 use Rattle.sx_core.specs.declared.reader.Reader.{Reader}
 use Rattle.sx_core.specs.declared.stage.Stage.{Stage}
 use Rattle.sx_core.specs.declared.stage.Stage.TheVariants.{Over}
@@ -33,7 +36,7 @@ row_names_more all i row names new name lt is e g h =
     let k = name_at (map sort_row all) i (sort_row row) (view_at sort_row all i row lt is) in
     e ∙ ap (λ x. x ++ name ∷ []) h ∙ ap (λ (x : List ℕ). take i (map (λ (r : SortRow). r.name) (map sort_row all)) ++ x ∷ []) g ∙ sym (take_one (map (λ (r : SortRow). r.name) (map sort_row all)) i row.name k)
 
-pub made_refused : (found : Found) (rules : List NamedRule) (g : GoalData) (e : RuleError) → IsRefused (shapes found.shapes) (known_in found.forms) rules e → IsMadeOf found rules g (Err (rule_error e))
+pub made_refused : (found : Found) (rules : List NamedRule) (g : GoalData) (e : RuleError) → IsRuleSetRefused (shapes found.shapes) (known_in found.forms) rules e → IsProblemMade found rules g (Err (rule_error e))
 made_refused found rules g NoRules h = tt
 made_refused found rules g TooManyRules h = ((λ q. cc), h)
 made_refused found rules g (TooManyVars x) h = ((λ q. cc), h)
@@ -42,7 +45,7 @@ made_refused found rules g (SortDiffers x) h = ((λ q. cc), h)
 made_refused found rules g (Discipline x y z) h = ((λ q. cc), h)
 made_refused found rules g (NotModed x y) h = ((λ q. cc), h)
 
-pub made_ended : (r : Reader) (stage : Stage) (n : ℕ) (g : GoalOf) (result : Result CoreProblem CoreFileError) → stage ≡ Over g → IsMadeOf r.found (map named r.rules.items) (goal g) result → IsEnded r stage n result
+pub made_ended : (r : Reader) (stage : Stage) (n : ℕ) (g : GoalOf) (result : Result CoreProblem CoreFileError) → stage ≡ Over g → IsProblemMade r.found (map named r.rules.items) (goal g) result → IsEnded r stage n result
 made_ended r stage n g (Ok p) e h = (g, e, h)
 made_ended r stage n g (Err Memory) e h = tt
 made_ended r stage n g (Err (NotUtf8 place)) e h = absurd h

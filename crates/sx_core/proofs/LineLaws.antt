@@ -3,20 +3,23 @@ use Rattle.std.proofs.Common.{◌≡◌, ℕ, List, inr, refl}
 use Rattle.sx_core.specs.TermsText.{RefusedAs}
 use Rattle.sx_core.specs.Table.{IsKeyword}
 use Rattle.sx_core.specs.Fitting.{IsFitting, IsDeepLine}
-use Rattle.sx_core.specs.Reading.{context, IsRead}
+use Rattle.sx_core.specs.Reading.{context, IsCoreLineRead}
 use Rattle.sx_core.specs.Order.{phase_of, at_start}
-use Rattle.sx_core.specs.Machine.{IsUsual, StepRefused, NextRefused, step_error, line_error, keyword_of}
+use Rattle.sx_core.specs.Machine.{IsUsual, StepRefused, NextRefused, step_error, line_error}
+use Rattle.sx_core.specs.Machine.{keyword_of}
 use Rattle.sx_core.specs.declared.reader.Reader.{Reader}
 use Rattle.sx_core.specs.declared.step_error.StepError.{StepError}
-use Rattle.sx_core.specs.declared.step_error.StepError.TheVariants.{Memory as NoRoom, Order as OutOfOrder}
+use Rattle.sx_core.specs.declared.step_error.StepError.TheVariants.{Memory as NoRoom}
+use Rattle.sx_core.specs.declared.step_error.StepError.TheVariants.{Order as OutOfOrder}
 use Rattle.sx_core.specs.declared.stage.Stage.{Stage}
-use Rattle.sx_core.specs.declared.stage.Stage.TheVariants.{Start, Declaring, Between, Premising, Concluded, Over}
+use Rattle.sx_core.specs.declared.stage.Stage.TheVariants.{Start, Declaring, Between, Premising}
+use Rattle.sx_core.specs.declared.stage.Stage.TheVariants.{Concluded, Over}
 use Rattle.sx_core.specs.declared.line_read.LineRead.{LineRead}
 use Rattle.sx_core.specs.declared.keyword.Keyword.{Keyword}
 use Rattle.sx_core.specs.declared.terms_row.RowError.{RowError}
 use Rattle.sx_core.specs.declared.terms_row.RowError.TheVariants.{Memory, Shape, TooDeep}
 
-pub step_refused : (r : Reader) (n : ℕ) (text : List ℕ) (x : LineRead) (e : StepError) → IsUsual r → IsRead (context r.found) text x → StepRefused r (keyword_of x) e → NextRefused r n text (step_error n e)
+pub step_refused : (r : Reader) (n : ℕ) (text : List ℕ) (x : LineRead) (e : StepError) → IsUsual r → IsCoreLineRead (context r.found) text x → StepRefused r (keyword_of x) e → NextRefused r n text (step_error n e)
 step_refused r n text x NoRoom u i h = tt
 step_refused r n text x OutOfOrder u i h = (refl, inr (u, x, i, h))
 

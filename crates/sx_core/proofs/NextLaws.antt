@@ -5,43 +5,54 @@ use Rattle.sx_rules.specs.declared.rule.Judgement.{Judgement as JudgementOf}
 use Rattle.sx_core.specs.declared.stage.Open.{Open}
 use Rattle.sx_core.specs.declared.error.CoreFileError.TheVariants.{Notation}
 use Rattle.sx_lines.specs.Lines.{Lines, line}
-use Rattle.sx_lines.specs.Takes.{Takes, number_of}
+use Rattle.sx_lines.specs.Takes.{Takes, line_number}
 use Rattle.sx_term.specs.Shapes.{shape, shapes}
 use Rattle.sx_term.specs.Term.{tree}
 use Rattle.sx_term.specs.Sorts.{Shape}
 use Rattle.sx_rules.specs.Rules.{holds, apart}
 use Rattle.sx_rules.specs.Views.{FormData, form, judgement}
-use Rattle.sx_core.specs.File.{SortRow, JudgementRow, Declaration, PremiseRow, if_line, not_line, RuleRows}
+use Rattle.sx_core.specs.File.{SortRow, JudgementRow, Declaration, PremiseRow, if_line, not_line}
+use Rattle.sx_core.specs.File.{RuleRows}
 use Rattle.sx_core.specs.Rows.{sort_row, con_row}
 use Rattle.sx_core.specs.Stated.{NameSorts}
 use Rattle.sx_core.specs.Resolving.{rows_in, IsConOf, IsFormOf}
-use Rattle.sx_core.specs.Statements.{names_in, known_in}
+use Rattle.sx_core.specs.Statements.{form_names, known_in}
 use Rattle.sx_core.specs.Table.{Row, row, row_text, premise_row, rule_rows, rows_of, Has}
 use Rattle.sx_core.specs.Fitting.{Context, IsFitting, Declare, AllFit, AreSorts}
-use Rattle.sx_core.specs.Reading.{context, IsFound, IsRead}
-use Rattle.sx_core.specs.Order.{IsFront, phase_of, step, at_start, at_declarations, at_rules, at_end}
+use Rattle.sx_core.specs.Reading.{context, AreNamesFound, IsCoreLineRead}
+use Rattle.sx_core.specs.Order.{IsFront, phase_of, step, at_start, at_declarations, at_rules}
+use Rattle.sx_core.specs.Order.{at_end}
 use Rattle.sx_core.specs.Machine.{Steps, IsFresh, IsBadNext, MayBegin, IsEnded, keyword_of}
-use Rattle.sx_core.specs.CoreRead.{ReadTo, IsUsual, IsBadLine, IsOpen, IsMissing}
+use Rattle.sx_core.specs.CoreRead.{ReadTo, IsUsual, IsBadLine, IsRuleOpen, IsMissing}
 use Rattle.sx_core.specs.declared.found.Found.{Found}
 use Rattle.sx_lines.specs.declared.kind.Kind.{Kind}
-use Rattle.sx_lines.specs.declared.kind.Kind.TheVariants.{Head as BadHead, Directive, Shape as BadShape, Order as BadOrder, Unfinished, Main, Variable}
+use Rattle.sx_lines.specs.declared.kind.Kind.TheVariants.{Head as BadHead, Directive}
+use Rattle.sx_lines.specs.declared.kind.Kind.TheVariants.{Shape as BadShape, Order as BadOrder}
+use Rattle.sx_lines.specs.declared.kind.Kind.TheVariants.{Unfinished, Main, Variable}
 use Rattle.sx_core.specs.declared.reader.Reader.{Reader}
 use Rattle.sx_core.specs.declared.stage.Stage.{Stage}
-use Rattle.sx_core.specs.declared.stage.Stage.TheVariants.{Start, Declaring, Between, Premising, Concluded, Over}
+use Rattle.sx_core.specs.declared.stage.Stage.TheVariants.{Start, Declaring, Between, Premising}
+use Rattle.sx_core.specs.declared.stage.Stage.TheVariants.{Concluded, Over}
 use Rattle.sx_core.specs.declared.line_read.LineRead.{LineRead}
-use Rattle.sx_core.specs.declared.line_read.LineRead.TheVariants.{Head as HeadRead, Sort as SortRead, Con as ConRead, Form as FormRead, Rule as RuleRead, If as IfRead, Not as NotRead, Then as ThenRead, End as EndRead, Goal as GoalRead}
+use Rattle.sx_core.specs.declared.line_read.LineRead.TheVariants.{Head as HeadRead}
+use Rattle.sx_core.specs.declared.line_read.LineRead.TheVariants.{Sort as SortRead, Con as ConRead}
+use Rattle.sx_core.specs.declared.line_read.LineRead.TheVariants.{Form as FormRead}
+use Rattle.sx_core.specs.declared.line_read.LineRead.TheVariants.{Rule as RuleRead, If as IfRead}
+use Rattle.sx_core.specs.declared.line_read.LineRead.TheVariants.{Not as NotRead, Then as ThenRead}
+use Rattle.sx_core.specs.declared.line_read.LineRead.TheVariants.{End as EndRead, Goal as GoalRead}
 use Rattle.sx_core.specs.declared.keyword.Keyword.{Keyword}
-use Rattle.sx_core.specs.declared.keyword.Keyword.TheVariants.{Head, Sort, Con, Form, Rule, If, Not, Then, End, Goal}
+use Rattle.sx_core.specs.declared.keyword.Keyword.TheVariants.{Head, Sort, Con, Form, Rule, If, Not}
+use Rattle.sx_core.specs.declared.keyword.Keyword.TheVariants.{Then, End, Goal}
 use Rattle.sx_core.proofs.OrderLaws.{Reaches, no_front, goal_ends, open_inside, IsInside}
 use Rattle.sx_core.proofs.ReaderLaws.{front_rows, Stands, IsAt, ruled_front, head_at, sort_at, con_at, form_at, rule_at, premise_at, then_at, end_at, goal_at}
 
 -- ---- names that are new
 
-pub fresh : (found : Found) (text : List ℕ) (x : LineRead) → IsFound found → IsRead (context found) text x → IsFresh found x
+pub fresh : (found : Found) (text : List ℕ) (x : LineRead) → AreNamesFound found → IsCoreLineRead (context found) text x → IsFresh found x
 fresh found text HeadRead f h = tt
 fresh found text (SortRead r) f h = h.1.1
 fresh found text (ConRead r c) f h = λ k. h.0.1.1 (subst (λ (z : List (List ℕ)). Contains z r.name) f.con_names k)
-fresh found text (FormRead g) f h = λ k. h.1.1.2 (subst (λ (z : List ℕ). Contains (names_in (known_in found.forms)) z) (sym h.2.name) (subst (λ (z : List (List ℕ)). Contains z g.name) f.forms.names k))
+fresh found text (FormRead g) f h = λ k. h.1.1.2 (subst (λ (z : List ℕ). Contains (form_names (known_in found.forms)) z) (sym h.2.name) (subst (λ (z : List (List ℕ)). Contains z g.name) f.forms.names k))
 fresh found text (RuleRead name sorts) f h = tt
 fresh found text (IfRead j) f h = tt
 fresh found text (NotRead l r) f h = tt
@@ -55,7 +66,7 @@ module _ (all : List SortRow) (lines : Lines) (rows : List Row) (r s : Reader) (
   abbrev pub Now : Type 0
   Now = (x : Row) × IsAt all lines (rows ++ x ∷ []) s more
 
-  pub next_at : (x : LineRead) → IsRead (context r.found) text x → Steps r n x s → Now
+  pub next_at : (x : LineRead) → IsCoreLineRead (context r.found) text x → Steps r n x s → Now
   next_at HeadRead h k = (row Head tt, head_at all lines rows r s next more n text after at e h k)
   next_at (SortRead y) h k = (row Sort (sort_row y), sort_at all lines rows r s next more n text after at e (sort_row y) h k.0 k.1 k.2 k.3)
   next_at (ConRead y c) h k = (row Con (con_row y), con_at all lines rows r s next more n text after at e (con_row y) (shape c) h.0 (subst (λ (z : List SortRow). IsConOf z (con_row y) (shape c)) at.same h.1) k.0 k.1 k.2 k.3)
@@ -130,7 +141,7 @@ module _ (all : List SortRow) (S : List Shape) (known : List FormData) (lines : 
 
 -- ---- refusals
 
-read_row : (c : Context) (text : List ℕ) (x : LineRead) → IsRead c text x → (r : Row) × IsFitting c text r × (r.keyword ≡ keyword_of x)
+read_row : (c : Context) (text : List ℕ) (x : LineRead) → IsCoreLineRead c text x → (r : Row) × IsFitting c text r × (r.keyword ≡ keyword_of x)
 read_row c text HeadRead h = (row Head tt, h, refl)
 read_row c text (SortRead r) h = (row Sort (sort_row r), h, refl)
 read_row c text (ConRead r k) h = (row Con (con_row r), h.0, refl)
@@ -202,7 +213,7 @@ conclusion_end q (inr h) = h
 
 module _ (all : List SortRow) (lines : Lines) (rows : List Row) (r : Reader) (next : Lines) (at : IsAt all lines rows r next) where
   open_rows : (stage : Stage) (o : Open) → ((stage ≡ Premising o) ⊎ ((j : JudgementOf) × (stage ≡ Concluded o j))) → Stands all (shapes r.found.shapes) (known_in r.found.forms) lines stage at.staged.declarations at.staged.ended at.staged.front at.staged.inside
-      → (front : List Row) × (after : Lines) × IsOpen rows front × Takes (map row_text front) lines after × (o.line ≡ number_of after)
+      → (front : List Row) × (after : Lines) × IsRuleOpen rows front × Takes (map row_text front) lines after × (o.line ≡ line_number after)
   open_rows stage o (inl e) h =
       let w = subst (λ (z : Stage). Stands all (shapes r.found.shapes) (known_in r.found.forms) lines z at.staged.declarations at.staged.ended at.staged.front at.staged.inside) e h in
       (at.staged.front, w.3.after, record { rule = row Rule w.1; inside = map premise_row w.2; parts = at.staged.parts ∙ ap (λ (z : List Row). at.staged.front ++ z) w.4; begins = refl; not_ended = premises_end w.2 }, w.3.takes, w.3.number)
@@ -237,7 +248,7 @@ module _ (all : List SortRow) (lines : Lines) (rows : List Row) (r : Reader) (ne
       rules_end : at_rules ≡ at_end → ⊥
       rules_end q = cc
 
-  none_open : MayBegin r.stage → (front : List Row) → IsOpen rows front → ⊥
+  none_open : MayBegin r.stage → (front : List Row) → IsRuleOpen rows front → ⊥
   none_open m front o = (closed r.stage m).2 (open_inside front o.inside o.rule (phase_of r.stage) o.begins o.not_ended (subst (λ (z : List Row). Reaches at_start z (phase_of r.stage)) o.parts at.reach))
 
   pub missing : (n l : ℕ) (kind : Kind) → IsEnded r r.stage n (Err (Notation l kind)) → IsMissing lines rows n l kind

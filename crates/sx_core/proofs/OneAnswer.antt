@@ -5,22 +5,27 @@ use Rattle.std.specs.Str.{IsUtf8}
 use Rattle.std.specs.Str.Lossy.{utf8_valid_len}
 use Rattle.sx_lines.specs.Lines.{Lines, over, line, lines_from}
 use Rattle.sx_lines.specs.Reading.{kept}
-use Rattle.sx_rules.specs.Good.{IsRuleSet, IsRefused}
+use Rattle.sx_rules.specs.Good.{IsRuleSet, IsRuleSetRefused}
 use Rattle.sx_rules.specs.declared.error.RuleError.{RuleError}
-use Rattle.sx_rules.specs.declared.error.RuleError.TheVariants.{Memory as NoRoom, TooManyRules, TooManyVars, SameRule, SortDiffers, Discipline, NotModed}
+use Rattle.sx_rules.specs.declared.error.RuleError.TheVariants.{Memory as NoRoom, TooManyRules}
+use Rattle.sx_rules.specs.declared.error.RuleError.TheVariants.{TooManyVars, SameRule, SortDiffers}
+use Rattle.sx_rules.specs.declared.error.RuleError.TheVariants.{Discipline, NotModed}
 use Rattle.sx_rules.proofs.Refusals.{one_refusal, not_refused}
 use Rattle.sx_core.specs.File.{SortRow, CoreFile}
 use Rattle.sx_core.specs.Problem.{Problem}
-use Rattle.sx_core.specs.Stated.{AreDistinct, Says}
+use Rattle.sx_core.specs.Stated.{Says}
+use Rattle.sx_lines.specs.Distinct.{AreTextsDistinct}
 use Rattle.sx_core.specs.Resolving.{sort_names}
 use Rattle.sx_core.specs.Table.{Row, rows_of}
-use Rattle.sx_core.specs.Fitting.{Context, Fits, Declare, AllFit}
+use Rattle.sx_core.specs.Fitting.{Context, PartsFit, Declare, AllFit}
 use Rattle.sx_core.specs.Order.{IsFront}
-use Rattle.sx_core.specs.CoreRead.{ReadTo, IsBadAt, IsDeepAt, AreLinesOf, AreRulesRefused, AreLinesAnswered, IsCoreAnswer}
+use Rattle.sx_core.specs.CoreRead.{ReadTo, IsBadAt, IsDeepAt, AreLinesOf, AreRulesRefused}
+use Rattle.sx_core.specs.CoreRead.{AreLinesAnswered, IsCoreAnswer}
 use Rattle.sx_core.specs.Laws.{OneCoreAnswer}
 use Rattle.sx_lines.specs.declared.kind.Kind.{Kind}
 use Rattle.sx_core.specs.declared.error.CoreFileError.{CoreFileError}
-use Rattle.sx_core.specs.declared.error.CoreFileError.TheVariants.{Memory, NotUtf8, Notation, TooDeep, Rules}
+use Rattle.sx_core.specs.declared.error.CoreFileError.TheVariants.{Memory, NotUtf8, Notation}
+use Rattle.sx_core.specs.declared.error.CoreFileError.TheVariants.{TooDeep, Rules}
 use Rattle.sx_core.proofs.FindLaws.{lexical_distinct}
 use Rattle.sx_core.proofs.OneProblem.{one_of_lines}
 use Rattle.sx_core.proofs.SameRows.{rows_spelled, fit_at, GoesOn, compared, sorts_distinct, one_sorts, one_context}
@@ -36,7 +41,7 @@ module _ (lines : Lines) (rows ys : List Row) (c d : Context) (next others : Lin
   same_sorts : c.sorts ≡ d.sorts
   same_sorts = one_sorts [] lines c.sorts d.sorts h.sorts k.sorts
 
-  distinct : AreDistinct (sort_names c.sorts)
+  distinct : AreTextsDistinct (sort_names c.sorts)
   distinct = sorts_distinct [] lines c.sorts lexical_distinct h.sorts
 
   same_context : rows ≡ ys → c ≡ d
@@ -45,11 +50,11 @@ module _ (lines : Lines) (rows ys : List Row) (c d : Context) (next others : Lin
       (subst (λ (z : List SortRow). Declare z rows d) (sym same_sorts) (subst (λ (z : List Row). Declare d.sorts z d) (sym e) k.declare))
 
   -- the next row of the longer reading is as stated after the shorter one
-  next_fits : (g : GoesOn rows ys next) → Fits c g.after_row.keyword g.after_row.parts
+  next_fits : (g : GoesOn rows ys next) → PartsFit c g.after_row.keyword g.after_row.parts
   next_fits g =
       let w = fit_at d.sorts [] rows g.after_row g.more (subst (AllFit d.sorts []) g.parts k.fit) in
       let e = one_context c.sorts rows w.0 c distinct (subst (λ (z : List SortRow). Declare z rows w.0) (sym same_sorts) w.1) h.declare in
-      subst (λ (z : Context). Fits z g.after_row.keyword g.after_row.parts) e w.2
+      subst (λ (z : Context). PartsFit z g.after_row.keyword g.after_row.parts) e w.2
 
   front_on : (g : GoesOn rows ys next) → IsFront (rows ++ g.after_row ∷ g.more)
   front_on g = subst IsFront g.parts k.front
@@ -122,7 +127,7 @@ record Unruled (lines : Lines) (e : RuleError) : Type 0 where
   problem : Problem
   lines_are : AreLinesOf lines file
   says : Says file problem
-  refused : IsRefused problem.shapes problem.forms problem.rules e
+  refused : IsRuleSetRefused problem.shapes problem.forms problem.rules e
   room : e ≢ NoRoom
 
 unruled : (lines : Lines) (f : CoreFile) (e : RuleError) → AreLinesOf lines f → AreRulesRefused f e → Unruled lines e
@@ -135,7 +140,7 @@ unruled lines f (Discipline x y z) a h = record { file = f; problem = h.0; lines
 unruled lines f (NotModed x y) a h = record { file = f; problem = h.0; lines_are = a; says = h.1; refused = h.2; room = λ q. cc }
 
 abbrev RefusedBy : RuleError → Problem → Type 0
-RefusedBy e p = IsRefused p.shapes p.forms p.rules e
+RefusedBy e p = IsRuleSetRefused p.shapes p.forms p.rules e
 
 one_unruled : (lines : Lines) (e g : RuleError) → Unruled lines e → Unruled lines g → e ≡ g
 one_unruled lines e g h k =

@@ -16,17 +16,25 @@ use Rattle.sx_rules.specs.Rules.{Judgement, Premise, holds, apart}
 use Rattle.sx_rules.specs.declared.rule.Place.{Place}
 use Rattle.sx_rules.specs.Views.{FormData, NamedRule}
 use Rattle.sx_core.specs.Problem.{Problem}
-use Rattle.sx_core.specs.File.{SortRow, PlaceRow, Declaration, sort_line, con_line, form_line, JudgementRow, PremiseRow, if_line, not_line, RuleRows, CoreFile, judgement_text}
+use Rattle.sx_core.specs.File.{SortRow, PlaceRow, Declaration, sort_line, con_line, form_line}
+use Rattle.sx_core.specs.File.{JudgementRow, PremiseRow, if_line, not_line, RuleRows, CoreFile}
+use Rattle.sx_core.specs.File.{judgement_text}
 use Rattle.sx_core.specs.Rows.{AreNamed}
 use Rattle.sx_core.specs.Resolving.{sort_names}
-use Rattle.sx_core.specs.Stated.{sort_rows, con_rows, form_rows, IsName, AreNames, AreDistinct, NamesSort, NameSorts, AreCons, ArePlaces, AreForms, NamesForm, IsJudgement, ArePremises, IsRule, AreRules, IsGoal, Says}
-use Rattle.sx_core.specs.Statements.{names_in}
+use Rattle.sx_core.specs.Stated.{sort_rows, con_rows, form_rows, IsName, AreStatedNames}
+use Rattle.sx_core.specs.Stated.{NamesSort, NameSorts, AreCons, AreStatedPlaces}
+use Rattle.sx_lines.specs.Distinct.{AreTextsDistinct}
+use Rattle.sx_core.specs.Stated.{AreForms, NamesForm, IsJudgement, ArePremises, IsRule, AreRules}
+use Rattle.sx_core.specs.Stated.{IsGoal, Says}
+use Rattle.sx_core.specs.Statements.{form_names}
 use Rattle.sx_core.specs.TermsText.{terms_text, HaveCores}
-use Rattle.sx_core.specs.Table.{Parts, parts_text, Row, row, row_text, ApartRow, declaration_row, premise_row, rule_rows, rows_of}
+use Rattle.sx_core.specs.Table.{Parts, parts_text, Row, row, row_text, ApartRow, declaration_row}
+use Rattle.sx_core.specs.Table.{premise_row, rule_rows, rows_of}
 use Rattle.sx_core.specs.CoreRead.{AreLinesOf}
 use Rattle.sx_core.specs.Laws.{OneProblemIsStated}
 use Rattle.sx_core.specs.declared.keyword.Keyword.{Keyword}
-use Rattle.sx_core.specs.declared.keyword.Keyword.TheVariants.{Head, Sort, Con, Form, Rule, If, Not, Then, End, Goal}
+use Rattle.sx_core.specs.declared.keyword.Keyword.TheVariants.{Head, Sort, Con, Form, Rule, If, Not}
+use Rattle.sx_core.specs.declared.keyword.Keyword.TheVariants.{Then, End, Goal}
 use Rattle.sx_core.proofs.NumberLaws.{one_place}
 use Rattle.sx_core.proofs.ResolveLaws.{cons_same, forms_same}
 use Rattle.sx_core.proofs.SortLaws.{sorts_same, some_same, none_some}
@@ -42,9 +50,9 @@ use Rattle.sx_core.proofs.Wording.{name_space, one_word}
 abbrev pub Spelled : (k : Keyword) → Parts k → Type 0
 Spelled Head p = Unit {0}
 Spelled Sort r = IsName r.name
-Spelled Con r = AreNames (r.name ∷ r.sort ∷ r.kids)
+Spelled Con r = AreStatedNames (r.name ∷ r.sort ∷ r.kids)
 Spelled Form r = IsName r.name × AreNamed r.places
-Spelled Rule r = AreNames (r.name ∷ r.sorts)
+Spelled Rule r = AreStatedNames (r.name ∷ r.sorts)
 Spelled If r = IsName r.form × HaveCores r.terms
 Spelled Not r = HaveCores (r.left ∷ r.right ∷ [])
 Spelled Then r = IsName r.form × HaveCores r.terms
@@ -170,12 +178,12 @@ file_same f g e = ap (λ (t : Tail). record { declarations = t.declarations; rul
 
 -- ---- the rows of a file that says something are spelled
 
-pub row_named : (all : List SortRow) (n : ℕ) (r : SortRow) → AreNames (map (λ row. row.name) all) → slice_get all n ≡ Some r → IsName r.name
+pub row_named : (all : List SortRow) (n : ℕ) (r : SortRow) → AreStatedNames (map (λ row. row.name) all) → slice_get all n ≡ Some r → IsName r.name
 row_named [] n r h e = absurd (none_some r e)
 row_named (x ∷ all) zero r h e = subst (λ (z : SortRow). IsName z.name) (some_same x r e) h.0
 row_named (x ∷ all) (suc n) r h e = row_named all n r h.1 e
 
-pub sort_named : (all : List SortRow) (name : List ℕ) (s : SortOf) → AreNames (map (λ row. row.name) all) → NamesSort all name s → IsName name
+pub sort_named : (all : List SortRow) (name : List ℕ) (s : SortOf) → AreStatedNames (map (λ row. row.name) all) → NamesSort all name s → IsName name
 unfolding is_name
 sort_named all name (Lex Id) n h = subst IsName (sym h) refl
 sort_named all name (Lex Num) n h = subst IsName (sym h) refl
@@ -183,18 +191,18 @@ sort_named all name (Lex Str) n h = subst IsName (sym h) refl
 sort_named all name (Plain m) n h = row_named all m (record { name = name; typed = false }) n h
 sort_named all name (Typed m) n h = row_named all m (record { name = name; typed = true }) n h
 
-pub sorts_named : (all : List SortRow) (names : List (List ℕ)) (ss : List SortOf) → AreNames (map (λ row. row.name) all) → NameSorts all names ss → AreNames names
+pub sorts_named : (all : List SortRow) (names : List (List ℕ)) (ss : List SortOf) → AreStatedNames (map (λ row. row.name) all) → NameSorts all names ss → AreStatedNames names
 sorts_named all [] ss n h = tt
 sorts_named all (name ∷ names) [] n h = absurd h
 sorts_named all (name ∷ names) (s ∷ ss) n h = (sort_named all name s n h.0, sorts_named all names ss n h.1)
 
-pub places_named : (all : List SortRow) (rows : List PlaceRow) (ps : List Place) → AreNames (map (λ row. row.name) all) → ArePlaces all rows ps → AreNamed rows
+pub places_named : (all : List SortRow) (rows : List PlaceRow) (ps : List Place) → AreStatedNames (map (λ row. row.name) all) → AreStatedPlaces all rows ps → AreNamed rows
 places_named all [] ps n h = tt
 places_named all (r ∷ rows) [] n h = absurd h
 places_named all (r ∷ rows) (p ∷ ps) n h = (sort_named all r.sort p.sort n h.1, places_named all rows ps n h.3)
 
-pub declarations_spelled : (all : List SortRow) → AreNames (map (λ row. row.name) all) → (ds : List Declaration) (cs : List (List ℕ)) (ss : List Shape) (fs : List FormData)
-    → AreNames (map (λ row. row.name) (sort_rows ds)) → AreCons all (con_rows ds) cs ss → AreNames cs → AreForms all (form_rows ds) fs → AreNames (names_in fs) → AllSpelled (map declaration_row ds)
+pub declarations_spelled : (all : List SortRow) → AreStatedNames (map (λ row. row.name) all) → (ds : List Declaration) (cs : List (List ℕ)) (ss : List Shape) (fs : List FormData)
+    → AreStatedNames (map (λ row. row.name) (sort_rows ds)) → AreCons all (con_rows ds) cs ss → AreStatedNames cs → AreForms all (form_rows ds) fs → AreStatedNames (form_names fs) → AllSpelled (map declaration_row ds)
 declarations_spelled all n [] cs ss fs a b c d e = tt
 declarations_spelled all n (sort_line r ∷ ds) cs ss fs a b c d e = (a.0, declarations_spelled all n ds cs ss fs a.1 b c d e)
 declarations_spelled all n (con_line r ∷ ds) [] ss fs a b c d e = absurd b
@@ -205,15 +213,15 @@ declarations_spelled all n (form_line r ∷ ds) cs ss [] a b c d e = absurd d
 declarations_spelled all n (form_line r ∷ ds) cs ss (f ∷ fs) a b c d e =
     ((subst IsName (sym d.0) e.0, places_named all r.places f.places n d.1), declarations_spelled all n ds cs ss fs a b c d.3 e.1)
 
-name_at : (known : List FormData) (n : ℕ) (f : FormData) → AreNames (names_in known) → slice_get known n ≡ Some f → IsName f.name
+name_at : (known : List FormData) (n : ℕ) (f : FormData) → AreStatedNames (form_names known) → slice_get known n ≡ Some f → IsName f.name
 name_at [] n f h e = absurd (none_some f e)
 name_at (x ∷ known) zero f h e = subst (λ (z : FormData). IsName z.name) (some_same x f e) h.0
 name_at (x ∷ known) (suc n) f h e = name_at known n f h.1 e
 
-pub form_named : (known : List FormData) (name : List ℕ) (n : ℕ) → AreNames (names_in known) → NamesForm known name n → IsName name
+pub form_named : (known : List FormData) (name : List ℕ) (n : ℕ) → AreStatedNames (form_names known) → NamesForm known name n → IsName name
 form_named known name n h w = subst IsName w.2 (name_at known n w.0 h w.1)
 
-module _ (all : List SortRow) (known : List FormData) (named : AreNames (map (λ row. row.name) all)) (forms : AreNames (names_in known)) where
+module _ (all : List SortRow) (known : List FormData) (named : AreStatedNames (map (λ row. row.name) all)) (forms : AreStatedNames (form_names known)) where
   judgement_spelled : (r : JudgementRow) (j : Judgement) → IsJudgement known r j → IsName r.form × HaveCores r.terms
   judgement_spelled r j h = (form_named known r.form j.form forms h.form, cores_of r.terms h.readable)
 
@@ -239,7 +247,7 @@ module _ (all : List SortRow) (known : List FormData) (named : AreNames (map (λ
 pub file_spelled : (f : CoreFile) (p : Problem) → Says f p → AllSpelled (rows_of f)
 file_spelled f p s =
     let all = sort_rows f.declarations in
-    let named : AreNames (map (λ row. row.name) (sort_rows f.declarations)) = subst AreNames s.sorts s.sort_names in (
+    let named : AreStatedNames (map (λ row. row.name) (sort_rows f.declarations)) = subst AreStatedNames s.sorts s.sort_names in (
       tt,
       all_spelled (map declaration_row f.declarations ++ flat_map rule_rows f.rules) (row Goal f.goal ∷ [])
           (all_spelled (map declaration_row f.declarations) (flat_map rule_rows f.rules)
@@ -250,12 +258,12 @@ file_spelled f p s =
 
 -- ---- a file says one thing
 
-form_at : (known : List FormData) (name : List ℕ) (n : ℕ) → NamesForm known name n → slice_get (names_in known) n ≡ Some name
+form_at : (known : List FormData) (name : List ℕ) (n : ℕ) → NamesForm known name n → slice_get (form_names known) n ≡ Some name
 form_at known name n w = slice_get-map (λ (f : FormData). f.name) known n ∙ ap (option_map (λ (f : FormData). f.name)) w.1 ∙ ap Some w.2
 
-module _ (all : List SortRow) (known : List FormData) (sorts : AreDistinct (sort_names all)) (forms : AreDistinct (names_in known)) where
+module _ (all : List SortRow) (known : List FormData) (sorts : AreTextsDistinct (sort_names all)) (forms : AreTextsDistinct (form_names known)) where
   one_form : (name : List ℕ) (n m : ℕ) → NamesForm known name n → NamesForm known name m → n ≡ m
-  one_form name n m h k = one_place (names_in known) forms n m name (form_at known name n h) (form_at known name m k)
+  one_form name n m h k = one_place (form_names known) forms n m name (form_at known name n h) (form_at known name m k)
 
   one_judgement : (r : JudgementRow) (j k : Judgement) → IsJudgement known r j → IsJudgement known r k → j ≡ k
   one_judgement r j k a b =
@@ -300,7 +308,7 @@ module _ (all : List SortRow) (known : List FormData) (sorts : AreDistinct (sort
 
 pub one_said : (f : CoreFile) (p q : Problem) → Says f p → Says f q → p ≡ q
 one_said f p q h k =
-    let distinct : AreDistinct (sort_names (sort_rows f.declarations)) = subst (λ (x : List (List ℕ)). AreDistinct (codes "id" ∷ codes "num" ∷ codes "str" ∷ x)) h.sorts h.sorts_distinct in
+    let distinct : AreTextsDistinct (sort_names (sort_rows f.declarations)) = subst (λ (x : List (List ℕ)). AreTextsDistinct (codes "id" ∷ codes "num" ∷ codes "str" ∷ x)) h.sorts h.sorts_distinct in
     let cons = cons_same (sort_rows f.declarations) (con_rows f.declarations) p.cons q.cons p.shapes q.shapes distinct h.cons k.cons in
     let forms = forms_same (sort_rows f.declarations) (form_rows f.declarations) p.forms q.forms distinct h.forms k.forms in
     let rules = rules_same (sort_rows f.declarations) p.forms distinct h.forms_distinct f.rules p.rules q.rules h.rules (subst (λ (x : List FormData). AreRules (sort_rows f.declarations) x f.rules q.rules) (sym forms) k.rules) in

@@ -11,17 +11,21 @@ use Rattle.sx_rules.specs.Rules.{Judgement}
 use Rattle.sx_rules.specs.Views.{FormData, modes_of, sorts_of}
 use Rattle.sx_term.specs.declared.role.Role.{Role}
 use Rattle.sx_term.specs.declared.role.Role.TheVariants.{In, Sub, Out}
-use Rattle.sx_core.specs.File.{SortRow, ConRow, PlaceRow, FormRow, JudgementRow, sort_line, con_line, form_line, words_text, kind_text, role_text, place_text, judgement_text}
-use Rattle.sx_core.specs.Stated.{IsName, AreNames, NameSorts, IsGoal, AreReadable}
-use Rattle.sx_core.specs.Rows.{AreNamed, IsLineOf, NoRow}
+use Rattle.sx_core.specs.File.{SortRow, ConRow, PlaceRow, FormRow, JudgementRow, sort_line}
+use Rattle.sx_core.specs.File.{con_line, form_line, words_text, core_kind_text, role_text}
+use Rattle.sx_core.specs.File.{place_text, judgement_text}
+use Rattle.sx_core.specs.Stated.{IsName, AreStatedNames, NameSorts, IsGoal, AreReadable}
+use Rattle.sx_core.specs.Rows.{AreNamed, IsDeclarationLine, NoRow}
 use Rattle.sx_core.specs.Words.{IsNameRead, NameRefused, AreNamesRead, NamesRefused}
-use Rattle.sx_core.specs.Resolving.{NoneIs, IsConOf, IsFormOf}
-use Rattle.sx_core.specs.Statements.{names_in, IsJudgementRead, IsDeepJudgement, IsGoalRead, IsDeepGoal}
+use Rattle.sx_core.specs.Resolving.{NoCoreRowIs, IsConOf, IsFormOf}
+use Rattle.sx_core.specs.Statements.{form_names, IsJudgementRead, IsDeepJudgement, IsGoalRead}
+use Rattle.sx_core.specs.Statements.{IsDeepGoal}
 use Rattle.sx_core.specs.TermsText.{terms_text, RowRead, IsDeepRow, RefusedAs}
-use Rattle.sx_core.specs.Table.{keyword_text, Parts, parts_text, Row, row, RuleRow, IsKeyword}
-use Rattle.sx_core.specs.Fitting.{Context, Fits, IsFull, IsDeep, IsFitting, IsDeepLine}
+use Rattle.sx_core.specs.Table.{core_keyword_text, Parts, parts_text, Row, row, RuleRow, IsKeyword}
+use Rattle.sx_core.specs.Fitting.{Context, PartsFit, IsFull, IsDeep, IsFitting, IsDeepLine}
 use Rattle.sx_core.specs.declared.keyword.Keyword.{Keyword}
-use Rattle.sx_core.specs.declared.keyword.Keyword.TheVariants.{Head, Sort, Con, Form, Rule, If, Not, Then, End, Goal}
+use Rattle.sx_core.specs.declared.keyword.Keyword.TheVariants.{Head, Sort, Con, Form, Rule, If, Not}
+use Rattle.sx_core.specs.declared.keyword.Keyword.TheVariants.{Then, End, Goal}
 use Rattle.sx_core.specs.declared.terms_row.RowError.{RowError}
 use Rattle.sx_core.specs.declared.terms_row.RowError.TheVariants.{Memory, Shape as Bad, TooDeep}
 use Rattle.sx_core.proofs.TermsLaws.{tail_is}
@@ -70,11 +74,11 @@ places_same (p ∷ ps) (q ∷ qs) e =
     let k = places_same ps qs (rest_same (place_text p) (place_text q) (map place_text ps) (map place_text qs) e) in
     ap (λ r. r ∷ ps) h ∙ ap (λ r. q ∷ r) k
 
-kind_words : (typed : Bool) → AreWords (kind_text typed ∷ [])
+kind_words : (typed : Bool) → AreWords (core_kind_text typed ∷ [])
 kind_words true = (((λ e. omega arith), ((λ e. omega arith), ((λ e. omega arith), ((λ e. omega arith), ((λ e. omega arith), tt))))), tt)
 kind_words false = (((λ e. omega arith), ((λ e. omega arith), ((λ e. omega arith), ((λ e. omega arith), ((λ e. omega arith), tt))))), tt)
 
-kind_same : (a b : Bool) → kind_text a ≡ kind_text b → a ≡ b
+kind_same : (a b : Bool) → core_kind_text a ≡ core_kind_text b → a ≡ b
 kind_same true true e = refl
 kind_same false false e = refl
 kind_same true false e = absurd (clash _ _ 116 112 refl refl (λ q. omega arith) e)
@@ -82,12 +86,12 @@ kind_same false true e = absurd (clash _ _ 112 116 refl refl (λ q. omega arith)
 
 pub sort_same : (a b : SortRow) → IsName a.name → IsName b.name → parts_text Sort a ≡ parts_text Sort b → a ≡ b
 sort_same a b h k e =
-    let q = one_words (a.name ∷ kind_text a.typed ∷ []) (b.name ∷ kind_text b.typed ∷ []) (name_space a.name h, kind_words a.typed) (name_space b.name k, kind_words b.typed) e in
-    let n = first_same a.name b.name (kind_text a.typed ∷ []) (kind_text b.typed ∷ []) q in
-    let t = kind_same a.typed b.typed (first_same (kind_text a.typed) (kind_text b.typed) [] [] (rest_same a.name b.name (kind_text a.typed ∷ []) (kind_text b.typed ∷ []) q)) in
+    let q = one_words (a.name ∷ core_kind_text a.typed ∷ []) (b.name ∷ core_kind_text b.typed ∷ []) (name_space a.name h, kind_words a.typed) (name_space b.name k, kind_words b.typed) e in
+    let n = first_same a.name b.name (core_kind_text a.typed ∷ []) (core_kind_text b.typed ∷ []) q in
+    let t = kind_same a.typed b.typed (first_same (core_kind_text a.typed) (core_kind_text b.typed) [] [] (rest_same a.name b.name (core_kind_text a.typed ∷ []) (core_kind_text b.typed ∷ []) q)) in
     ap (λ (x : List ℕ). record { name = x; typed = a.typed }) n ∙ ap (λ (x : Bool). record { name = b.name; typed = x }) t
 
-pub con_same : (a b : ConRow) → AreNames (a.name ∷ a.sort ∷ a.kids) → AreNames (b.name ∷ b.sort ∷ b.kids) → parts_text Con a ≡ parts_text Con b → a ≡ b
+pub con_same : (a b : ConRow) → AreStatedNames (a.name ∷ a.sort ∷ a.kids) → AreStatedNames (b.name ∷ b.sort ∷ b.kids) → parts_text Con a ≡ parts_text Con b → a ≡ b
 con_same a b h k e =
     let q = one_words (a.name ∷ a.sort ∷ a.kids) (b.name ∷ b.sort ∷ b.kids) (names_words (a.name ∷ a.sort ∷ a.kids) h) (names_words (b.name ∷ b.sort ∷ b.kids) k) e in
     let n = first_same a.name b.name (a.sort ∷ a.kids) (b.sort ∷ b.kids) q in
@@ -103,7 +107,7 @@ form_same a b h k e =
     let t = places_same a.places b.places (rest_same a.name b.name (map place_text a.places) (map place_text b.places) q) in
     ap (λ (x : List ℕ). record { name = x; places = a.places }) n ∙ ap (λ (x : List PlaceRow). record { name = b.name; places = x }) t
 
-pub rule_same : (a b : RuleRow) → AreNames (a.name ∷ a.sorts) → AreNames (b.name ∷ b.sorts) → parts_text Rule a ≡ parts_text Rule b → a ≡ b
+pub rule_same : (a b : RuleRow) → AreStatedNames (a.name ∷ a.sorts) → AreStatedNames (b.name ∷ b.sorts) → parts_text Rule a ≡ parts_text Rule b → a ≡ b
 rule_same a b h k e =
     let q = one_words (a.name ∷ a.sorts) (b.name ∷ b.sorts) (names_words (a.name ∷ a.sorts) h) (names_words (b.name ∷ b.sorts) k) e in
     ap (λ (x : List ℕ). record { name = x; sorts = a.sorts }) (first_same a.name b.name a.sorts b.sorts q) ∙ ap (λ (x : List (List ℕ)). record { name = b.name; sorts = x }) (rest_same a.name b.name a.sorts b.sorts q)
@@ -112,10 +116,10 @@ rule_same a b h k e =
 
 -- the parts are these, and as stated
 abbrev pub IsPart : Context → (k : Keyword) → List ℕ → Parts k → Type 0
-IsPart c k rest p = (rest ≡ parts_text k p) × Fits c k p
+IsPart c k rest p = (rest ≡ parts_text k p) × PartsFit c k p
 
 pub line_fits : (c : Context) (k : Keyword) (text rest : List ℕ) → IsKeyword text k rest → (p : Parts k) → IsPart c k rest p → IsFitting c text (row k p)
-line_fits c k text rest h p q = (h.parts ∙ ap (λ (x : List ℕ). keyword_text k ++ x) q.0, q.1)
+line_fits c k text rest h p q = (h.parts ∙ ap (λ (x : List ℕ). core_keyword_text k ++ x) q.0, q.1)
 
 deep_same : (c : Context) (k : Keyword) (text rest : List ℕ) → IsKeyword text k rest → (depth : ℕ) → IsDeepLine c text depth → IsDeep c k rest depth
 deep_same c k text rest h depth d =
@@ -125,11 +129,11 @@ deep_same c k text rest h depth d =
 pub line_refused : (c : Context) (k : Keyword) (text rest : List ℕ) (e : RowError) → IsKeyword text k rest → RefusedAs (IsPart c k rest) (IsDeep c k rest) e → RefusedAs (IsFitting c text) (IsDeepLine c text) e
 line_refused c k text rest Memory h n = tt
 line_refused c k text rest Bad h n = (
-  (λ r q. only_row text k rest h (λ (x : Row). Fits c x.keyword x.parts → ⊥) (λ p e f. n.0 p (e, f)) r q.0 q.1),
+  (λ r q. only_row text k rest h (λ (x : Row). PartsFit c x.keyword x.parts → ⊥) (λ p e f. n.0 p (e, f)) r q.0 q.1),
   λ depth d. n.1 depth (deep_same c k text rest h depth d),
 )
 line_refused c k text rest (TooDeep depth) h n = (
-  (λ r q. only_row text k rest h (λ (x : Row). Fits c x.keyword x.parts → ⊥) (λ p e f. n.0 p (e, f)) r q.0 q.1),
+  (λ r q. only_row text k rest h (λ (x : Row). PartsFit c x.keyword x.parts → ⊥) (λ p e f. n.0 p (e, f)) r q.0 q.1),
   (k, rest, h, n.1),
 )
 
@@ -146,7 +150,7 @@ free_name names name (Some n) b h e f = absurd (false≢true (sym f ∙ e))
 -- ---- declarations
 
 module _ (c : Context) (rest : List ℕ) where
-  pub sort_part : (r : SortRow) → IsLineOf (codes "sort" ++ rest) (sort_line r) → (Contains c.taken r.name → ⊥) → IsPart c Sort rest r
+  pub sort_part : (r : SortRow) → IsDeclarationLine (codes "sort" ++ rest) (sort_line r) → (Contains c.taken r.name → ⊥) → IsPart c Sort rest r
   sort_part r h n = (same_after (codes "sort") rest (parts_text Sort r) h.line, (h.spelled, n))
 
   pub sort_bad : (e : RowError) → NoRow sort_line (codes "sort") rest e → RefusedAs (IsPart c Sort rest) (IsDeep c Sort rest) e
@@ -154,19 +158,19 @@ module _ (c : Context) (rest : List ℕ) where
   sort_bad Bad n = ((λ r p. n r (record { line = ap (λ (x : List ℕ). codes "sort" ++ x) p.0; spelled = p.1.0 })), λ depth d. d)
   sort_bad (TooDeep depth) n = absurd n
 
-  pub sort_taken : (r : SortRow) → IsLineOf (codes "sort" ++ rest) (sort_line r) → Contains c.taken r.name → RefusedAs (IsPart c Sort rest) (IsDeep c Sort rest) Bad
+  pub sort_taken : (r : SortRow) → IsDeclarationLine (codes "sort" ++ rest) (sort_line r) → Contains c.taken r.name → RefusedAs (IsPart c Sort rest) (IsDeep c Sort rest) Bad
   sort_taken r h k = (
     (λ q p. p.1.1 (subst (λ (x : SortRow). Contains c.taken x.name) (sort_same r q h.spelled p.1.0 (sym (same_after (codes "sort") rest (parts_text Sort r) h.line) ∙ p.0)) k)),
     λ depth d. d,
   )
 
-  con_text : (r : ConRow) → IsLineOf (codes "con" ++ rest) (con_line r) → rest ≡ parts_text Con r
+  con_text : (r : ConRow) → IsDeclarationLine (codes "con" ++ rest) (con_line r) → rest ≡ parts_text Con r
   con_text r h = same_after (codes "con") rest (parts_text Con r) h.line
 
-  con_one : (r : ConRow) → IsLineOf (codes "con" ++ rest) (con_line r) → (q : ConRow) → IsPart c Con rest q → r ≡ q
+  con_one : (r : ConRow) → IsDeclarationLine (codes "con" ++ rest) (con_line r) → (q : ConRow) → IsPart c Con rest q → r ≡ q
   con_one r h q p = con_same r q h.spelled p.1.0 (sym (con_text r h) ∙ p.0)
 
-  pub con_part : (r : ConRow) (s : Shape) → IsLineOf (codes "con" ++ rest) (con_line r) → (Contains c.cons r.name → ⊥) → IsConOf c.sorts r s → IsPart c Con rest r
+  pub con_part : (r : ConRow) (s : Shape) → IsDeclarationLine (codes "con" ++ rest) (con_line r) → (Contains c.cons r.name → ⊥) → IsConOf c.sorts r s → IsPart c Con rest r
   con_part r s h n k = (con_text r h, (h.spelled, n, s, k))
 
   pub con_bad : (e : RowError) → NoRow con_line (codes "con") rest e → RefusedAs (IsPart c Con rest) (IsDeep c Con rest) e
@@ -174,21 +178,21 @@ module _ (c : Context) (rest : List ℕ) where
   con_bad Bad n = ((λ r p. n r (record { line = ap (λ (x : List ℕ). codes "con" ++ x) p.0; spelled = p.1.0 })), λ depth d. d)
   con_bad (TooDeep depth) n = absurd n
 
-  pub con_taken : (r : ConRow) → IsLineOf (codes "con" ++ rest) (con_line r) → Contains c.cons r.name → RefusedAs (IsPart c Con rest) (IsDeep c Con rest) Bad
+  pub con_taken : (r : ConRow) → IsDeclarationLine (codes "con" ++ rest) (con_line r) → Contains c.cons r.name → RefusedAs (IsPart c Con rest) (IsDeep c Con rest) Bad
   con_taken r h k = ((λ q p. p.1.1 (subst (λ (x : ConRow). Contains c.cons x.name) (con_one r h q p) k)), λ depth d. d)
 
-  pub con_not : (r : ConRow) (e : RowError) → IsLineOf (codes "con" ++ rest) (con_line r) → NoneIs (IsConOf c.sorts r) e → RefusedAs (IsPart c Con rest) (IsDeep c Con rest) e
+  pub con_not : (r : ConRow) (e : RowError) → IsDeclarationLine (codes "con" ++ rest) (con_line r) → NoCoreRowIs (IsConOf c.sorts r) e → RefusedAs (IsPart c Con rest) (IsDeep c Con rest) e
   con_not r Memory h n = tt
   con_not r Bad h n = ((λ q p. n p.1.2 (subst (λ (x : ConRow). IsConOf c.sorts x p.1.2) (sym (con_one r h q p)) p.1.3)), λ depth d. d)
   con_not r (TooDeep depth) h n = absurd n
 
-  form_text : (r : FormRow) → IsLineOf (codes "form" ++ rest) (form_line r) → rest ≡ parts_text Form r
+  form_text : (r : FormRow) → IsDeclarationLine (codes "form" ++ rest) (form_line r) → rest ≡ parts_text Form r
   form_text r h = same_after (codes "form") rest (parts_text Form r) h.line
 
-  form_one : (r : FormRow) → IsLineOf (codes "form" ++ rest) (form_line r) → (q : FormRow) → IsPart c Form rest q → r ≡ q
+  form_one : (r : FormRow) → IsDeclarationLine (codes "form" ++ rest) (form_line r) → (q : FormRow) → IsPart c Form rest q → r ≡ q
   form_one r h q p = form_same r q h.spelled (p.1.0, p.1.1) (sym (form_text r h) ∙ p.0)
 
-  pub form_part : (r : FormRow) (f : FormData) → IsLineOf (codes "form" ++ rest) (form_line r) → (Contains (names_in c.forms) r.name → ⊥) → IsFormOf c.sorts r f → IsPart c Form rest r
+  pub form_part : (r : FormRow) (f : FormData) → IsDeclarationLine (codes "form" ++ rest) (form_line r) → (Contains (form_names c.forms) r.name → ⊥) → IsFormOf c.sorts r f → IsPart c Form rest r
   form_part r f h n k = (form_text r h, (h.spelled.0, h.spelled.1, n, f, k))
 
   pub form_bad : (e : RowError) → NoRow form_line (codes "form") rest e → RefusedAs (IsPart c Form rest) (IsDeep c Form rest) e
@@ -196,10 +200,10 @@ module _ (c : Context) (rest : List ℕ) where
   form_bad Bad n = ((λ r p. n r (record { line = ap (λ (x : List ℕ). codes "form" ++ x) p.0; spelled = (p.1.0, p.1.1) })), λ depth d. d)
   form_bad (TooDeep depth) n = absurd n
 
-  pub form_taken : (r : FormRow) → IsLineOf (codes "form" ++ rest) (form_line r) → Contains (names_in c.forms) r.name → RefusedAs (IsPart c Form rest) (IsDeep c Form rest) Bad
-  form_taken r h k = ((λ q p. p.1.2 (subst (λ (x : FormRow). Contains (names_in c.forms) x.name) (form_one r h q p) k)), λ depth d. d)
+  pub form_taken : (r : FormRow) → IsDeclarationLine (codes "form" ++ rest) (form_line r) → Contains (form_names c.forms) r.name → RefusedAs (IsPart c Form rest) (IsDeep c Form rest) Bad
+  form_taken r h k = ((λ q p. p.1.2 (subst (λ (x : FormRow). Contains (form_names c.forms) x.name) (form_one r h q p) k)), λ depth d. d)
 
-  pub form_not : (r : FormRow) (e : RowError) → IsLineOf (codes "form" ++ rest) (form_line r) → NoneIs (IsFormOf c.sorts r) e → RefusedAs (IsPart c Form rest) (IsDeep c Form rest) e
+  pub form_not : (r : FormRow) (e : RowError) → IsDeclarationLine (codes "form" ++ rest) (form_line r) → NoCoreRowIs (IsFormOf c.sorts r) e → RefusedAs (IsPart c Form rest) (IsDeep c Form rest) e
   form_not r Memory h n = tt
   form_not r Bad h n = ((λ q p. n p.1.3 (subst (λ (x : FormRow). IsFormOf c.sorts x p.1.3) (sym (form_one r h q p)) p.1.4)), λ depth d. d)
   form_not r (TooDeep depth) h n = absurd n
@@ -225,7 +229,7 @@ module _ (c : Context) (rest : List ℕ) where
   )
   rule_no_names name more (TooDeep depth) r n = absurd n
 
-  pub rule_no_sorts : (name more : List ℕ) (names : List (List ℕ)) (e : RowError) → IsNameRead rest name more → AreNamesRead more names → NoneIs (NameSorts c.sorts names) e → RefusedAs (IsPart c Rule rest) (IsDeep c Rule rest) e
+  pub rule_no_sorts : (name more : List ℕ) (names : List (List ℕ)) (e : RowError) → IsNameRead rest name more → AreNamesRead more names → NoCoreRowIs (NameSorts c.sorts names) e → RefusedAs (IsPart c Rule rest) (IsDeep c Rule rest) e
   rule_no_sorts name more names Memory r n s = tt
   rule_no_sorts name more names Bad r n s = (
     (λ q p. s p.1.1 (subst (λ (x : RuleRow). NameSorts c.sorts x.sorts p.1.1) (sym (rule_same (record { name = name; sorts = names }) q (r.named, n.named) p.1.0 (sym (rule_of name more names r n) ∙ p.0))) p.1.2)),

@@ -3,29 +3,37 @@ use Rattle.std.proofs.Common.{◌≡◌, ℕ, ◌<◌, List, [], ◌∷◌, ◌+
 use Rattle.std.specs.Prelude.{Contains, ◌^◌, codes}
 use Rattle.std.specs.List.{flat_map}
 use Rattle.sx_lines.specs.Lines.{Lines, line}
-use Rattle.sx_lines.specs.Takes.{Takes, number_of}
+use Rattle.sx_lines.specs.Takes.{Takes, line_number}
 use Rattle.sx_lines.proofs.TakeLaws.{Takes-append}
 use Rattle.sx_term.specs.Shapes.{shapes}
 use Rattle.sx_term.specs.Sorts.{Shape}
 use Rattle.sx_rules.specs.Rules.{Premise, holds, apart}
 use Rattle.sx_rules.specs.Views.{FormData, NamedRule, goal, judgement, named, premise}
 use Rattle.sx_rules.specs.declared.rule.Judgement.{Judgement as JudgementOf}
-use Rattle.sx_core.specs.File.{SortRow, ConRow, FormRow, Declaration, sort_line, con_line, form_line, JudgementRow, PremiseRow, if_line, not_line, RuleRows}
-use Rattle.sx_core.specs.Stated.{IsName, AreNames, AreDistinct, NameSorts, AreCons, AreForms, IsJudgement, ArePremises, IsRule, AreRules, IsGoal}
+use Rattle.sx_core.specs.File.{SortRow, ConRow, FormRow, Declaration, sort_line, con_line}
+use Rattle.sx_core.specs.File.{form_line, JudgementRow, PremiseRow, if_line, not_line, RuleRows}
+use Rattle.sx_core.specs.Stated.{IsName, AreStatedNames, NameSorts, AreCons}
+use Rattle.sx_lines.specs.Distinct.{AreTextsDistinct}
+use Rattle.sx_core.specs.Stated.{AreForms, IsJudgement, ArePremises, IsRule, AreRules, IsGoal}
 use Rattle.sx_core.specs.Resolving.{sort_names, rows_in, IsSortTable, IsConOf, IsFormOf}
-use Rattle.sx_core.specs.Statements.{names_in, known_in, IsFormTable}
-use Rattle.sx_core.specs.Table.{Row, row, row_text, RuleRow, declaration_row, premise_row, rule_rows}
-use Rattle.sx_core.specs.Fitting.{Context, Fits, IsFitting, sorts_at, cons_at, forms_at, sorts_among, cons_among, forms_among, Declare, AllFit}
-use Rattle.sx_core.specs.Reading.{context, IsFound}
+use Rattle.sx_core.specs.Statements.{form_names, known_in, IsFormTable}
+use Rattle.sx_core.specs.Table.{Row, row, row_text, RuleRow, declaration_row, premise_row}
+use Rattle.sx_core.specs.Table.{rule_rows}
+use Rattle.sx_core.specs.Fitting.{Context, PartsFit, IsFitting, sorts_at, cons_at, forms_at}
+use Rattle.sx_core.specs.Fitting.{sorts_among, cons_among, forms_among, Declare, AllFit}
+use Rattle.sx_core.specs.Reading.{context, AreNamesFound}
 use Rattle.sx_core.specs.Order.{phase_of, step, at_start, at_premises, at_end}
-use Rattle.sx_core.specs.Machine.{AddsSort, AddsCon, AddsForm, IsKept, AddsPremise, whole_rule, MayBegin}
+use Rattle.sx_core.specs.Machine.{AddsSort, AddsCon, AddsForm, IsReaderKept, AddsPremise}
+use Rattle.sx_core.specs.Machine.{whole_rule, MayBegin}
 use Rattle.sx_core.specs.declared.found.Found.{Found}
 use Rattle.sx_core.specs.declared.reader.Reader.{Reader}
 use Rattle.sx_core.specs.declared.stage.Open.{Open}
 use Rattle.sx_core.specs.declared.stage.Stage.{Stage}
-use Rattle.sx_core.specs.declared.stage.Stage.TheVariants.{Start, Declaring, Between, Premising, Concluded, Over}
+use Rattle.sx_core.specs.declared.stage.Stage.TheVariants.{Start, Declaring, Between, Premising}
+use Rattle.sx_core.specs.declared.stage.Stage.TheVariants.{Concluded, Over}
 use Rattle.sx_core.specs.declared.keyword.Keyword.{Keyword}
-use Rattle.sx_core.specs.declared.keyword.Keyword.TheVariants.{Head, Sort, Con, Form, Rule, Then, End, Goal}
+use Rattle.sx_core.specs.declared.keyword.Keyword.TheVariants.{Head, Sort, Con, Form, Rule, Then}
+use Rattle.sx_core.specs.declared.keyword.Keyword.TheVariants.{End, Goal}
 use Rattle.sx_core.proofs.Wording.{map_last, names_snoc}
 use Rattle.sx_core.proofs.AmongLaws.{distinct_snoc}
 use Rattle.sx_core.proofs.ResolveLaws.{cons_snoc, forms_snoc}
@@ -43,7 +51,7 @@ none_more f xs x e = among_snoc f xs x ∙ ap (λ r. flat_map f xs ++ r) e ∙ a
 abbrev sort_of : Row → List SortRow
 sort_of r = sorts_at r.keyword r.parts
 
-fit_snoc : (all : List SortRow) (before rows : List Row) (r : Row) → AllFit all before rows → ((c : Context) × Declare all (before ++ rows) c × Fits c r.keyword r.parts) → AllFit all before (rows ++ r ∷ [])
+fit_snoc : (all : List SortRow) (before rows : List Row) (r : Row) → AllFit all before rows → ((c : Context) × Declare all (before ++ rows) c × PartsFit c r.keyword r.parts) → AllFit all before (rows ++ r ∷ [])
 fit_snoc all before [] r h k = ((k.0, subst (λ (x : List Row). Declare all x k.0) (append-nil before) k.1, k.2), tt)
 fit_snoc all before (x ∷ rows) r h k =
     (h.0, fit_snoc all (before ++ x ∷ []) rows r h.1 (k.0, subst (λ (y : List Row). Declare all y k.0) (sym (append_assoc before (x ∷ []) rows)) k.1, k.2))
@@ -61,7 +69,7 @@ pub record Opened (all : List SortRow) (known : List FormData) (lines : Lines) (
   pub are : ArePremises known premises (map premise o.premises.items)
   pub after : Lines
   pub takes : Takes (map row_text front) lines after
-  pub number : o.line ≡ number_of after
+  pub number : o.line ≡ line_number after
 
 abbrev pub Stands : List SortRow → List Shape → List FormData → Lines → Stage → List Declaration → List RuleRows → List Row → List Row → Type 0
 Stands all S known lines Start ds rs front inside = (front ≡ []) × (rs ≡ []) × (inside ≡ [])
@@ -85,12 +93,12 @@ pub record Staged (all : List SortRow) (lines : Lines) (rows : List Row) (r : Re
 
 pub record IsAt (all : List SortRow) (lines : Lines) (rows : List Row) (r : Reader) (next : Lines) : Type 0 where
   pub same : rows_in r.found.sorts ≡ all
-  pub found : IsFound r.found
+  pub found : AreNamesFound r.found
   pub declare : Declare all rows (context r.found)
   pub fit : AllFit all [] rows
-  pub cons : AreNames r.found.cons.items
-  pub cons_distinct : AreDistinct r.found.cons.items
-  pub forms : AreNames (names_in (known_in r.found.forms))
+  pub cons : AreStatedNames r.found.cons.items
+  pub cons_distinct : AreTextsDistinct r.found.cons.items
+  pub forms : AreStatedNames (form_names (known_in r.found.forms))
   pub reach : Reaches at_start rows (phase_of r.stage)
   pub staged : Staged all lines rows r
   pub takes : Takes (map row_text rows) lines next
@@ -111,7 +119,7 @@ module _ (all : List SortRow) (lines : Lines) (rows : List Row) (r s : Reader) (
       → sorts_at x.keyword x.parts ≡ [] → cons_at x.keyword x.parts ≡ [] → forms_at x.keyword x.parts ≡ [] → Staged all lines (rows ++ x ∷ []) s → IsAt all lines (rows ++ x ∷ []) s more
   kept x q f g a b d h = record {
     same = ap (λ (y : Found). rows_in y.sorts) g ∙ at.same;
-    found = subst IsFound (sym g) at.found;
+    found = subst AreNamesFound (sym g) at.found;
     declare = subst (λ (y : Found). Declare all (rows ++ x ∷ []) (context y)) (sym g) (record {
       sorts = at.declare.sorts;
       taken = at.declare.taken ∙ ap sort_names (sym (none_more sort_of rows x a));
@@ -119,9 +127,9 @@ module _ (all : List SortRow) (lines : Lines) (rows : List Row) (r s : Reader) (
       forms = subst (λ y. AreForms all y (known_in r.found.forms)) (sym (none_more (λ (y : Row). forms_at y.keyword y.parts) rows x d)) at.declare.forms;
     });
     fit = fit_more x q;
-    cons = subst (λ (y : Found). AreNames y.cons.items) (sym g) at.cons;
-    cons_distinct = subst (λ (y : Found). AreDistinct y.cons.items) (sym g) at.cons_distinct;
-    forms = subst (λ (y : Found). AreNames (names_in (known_in y.forms))) (sym g) at.forms;
+    cons = subst (λ (y : Found). AreStatedNames y.cons.items) (sym g) at.cons;
+    cons_distinct = subst (λ (y : Found). AreTextsDistinct y.cons.items) (sym g) at.cons_distinct;
+    forms = subst (λ (y : Found). AreStatedNames (form_names (known_in y.forms))) (sym g) at.forms;
     reach = reach_snoc rows x at_start (phase_of r.stage) (phase_of s.stage) at.reach f;
     staged = h;
     takes = takes_more x q.0;
@@ -216,7 +224,7 @@ module _ (all : List SortRow) (lines : Lines) (rows : List Row) (r s : Reader) (
         (subst (λ (y : Found). Stands all (shapes y.shapes) (known_in y.forms) lines q ds rs front inside) (sym g) t);
   }
 
-  pub head_at : IsFitting (context r.found) text (row Head tt) → (r.stage ≡ Start) × (s.stage ≡ Declaring) × IsKept r s → IsAt all lines (rows ++ row Head tt ∷ []) s more
+  pub head_at : IsFitting (context r.found) text (row Head tt) → (r.stage ≡ Start) × (s.stage ≡ Declaring) × IsReaderKept r s → IsAt all lines (rows ++ row Head tt ∷ []) s more
   head_at q h =
       let w = stood Start h.0 in
       kept all lines rows r s next more n text after at e (row Head tt) q (step_of Head Start Declaring h.0 h.1 refl) h.2.0 refl refl refl
@@ -224,7 +232,7 @@ module _ (all : List SortRow) (lines : Lines) (rows : List Row) (r s : Reader) (
       (ap (λ (y : List Row). y ++ row Head tt ∷ []) (rows_front rows at.staged.front at.staged.inside at.staged.parts w.2 ∙ w.0))
       (subst (λ (y : List RuleRows). AreRules all (known_in r.found.forms) y (map named r.rules.items)) w.1 at.staged.are) (refl, refl, refl))
 
-  pub rule_at : (x : RuleRow) (o : Open) → IsFitting (context r.found) text (row Rule x) → MayBegin r.stage → (s.stage ≡ Premising o) → (o.line ≡ n) → (x.name ≡ o.name) → NameSorts all x.sorts o.sorts.items → (o.premises.items ≡ []) → IsKept r s → IsAt all lines (rows ++ row Rule x ∷ []) s more
+  pub rule_at : (x : RuleRow) (o : Open) → IsFitting (context r.found) text (row Rule x) → MayBegin r.stage → (s.stage ≡ Premising o) → (o.line ≡ n) → (x.name ≡ o.name) → NameSorts all x.sorts o.sorts.items → (o.premises.items ≡ []) → IsReaderKept r s → IsAt all lines (rows ++ row Rule x ∷ []) s more
   rule_at x o q b f l m v p k =
       let w = begin_stands all (shapes r.found.shapes) (known_in r.found.forms) lines r.stage at.staged.declarations at.staged.ended at.staged.front at.staged.inside b at.staged.stands in
       let fr = rows_front rows at.staged.front at.staged.inside at.staged.parts w.1 in
@@ -241,13 +249,13 @@ module _ (all : List SortRow) (lines : Lines) (rows : List Row) (r s : Reader) (
           are = subst (λ (y : List Premise). ArePremises (known_in r.found.forms) [] y) (sym (ap (map premise) p)) tt;
           after = next;
           takes = subst (λ (y : List Row). Takes (map row_text y) lines next) fr at.takes;
-          number = l ∙ sym (ap number_of e);
+          number = l ∙ sym (ap line_number e);
         },
         refl,
       ))
 
   -- one more premise
-  pub premise_at : (x : PremiseRow) (y : Premise) (o p : Open) → IsFitting (context r.found) text (premise_row x) → (r.stage ≡ Premising o) → (s.stage ≡ Premising p) → ArePremises (known_in r.found.forms) (x ∷ []) (y ∷ []) → AddsPremise o p y → IsKept r s
+  pub premise_at : (x : PremiseRow) (y : Premise) (o p : Open) → IsFitting (context r.found) text (premise_row x) → (r.stage ≡ Premising o) → (s.stage ≡ Premising p) → ArePremises (known_in r.found.forms) (x ∷ []) (y ∷ []) → AddsPremise o p y → IsReaderKept r s
       → step at_premises (premise_row x).keyword ≡ Some at_premises → sorts_at (premise_row x).keyword (premise_row x).parts ≡ [] → cons_at (premise_row x).keyword (premise_row x).parts ≡ [] → forms_at (premise_row x).keyword (premise_row x).parts ≡ []
       → IsAt all lines (rows ++ premise_row x ∷ []) s more
   premise_at x y o p q f g a i k st a1 a2 a3 =
@@ -273,7 +281,7 @@ module _ (all : List SortRow) (lines : Lines) (rows : List Row) (r s : Reader) (
         ap (λ (z : List Row). z ++ premise_row x ∷ []) w.4 ∙ ap (λ (z : List Row). row Rule h ∷ z) (sym (map_premises ps x)),
       ))
 
-  pub then_at : (x : JudgementRow) (o : Open) (j : JudgementOf) → IsFitting (context r.found) text (row Then x) → (r.stage ≡ Premising o) → (s.stage ≡ Concluded o j) → IsJudgement (known_in r.found.forms) x (judgement j) → IsKept r s → IsAt all lines (rows ++ row Then x ∷ []) s more
+  pub then_at : (x : JudgementRow) (o : Open) (j : JudgementOf) → IsFitting (context r.found) text (row Then x) → (r.stage ≡ Premising o) → (s.stage ≡ Concluded o j) → IsJudgement (known_in r.found.forms) x (judgement j) → IsReaderKept r s → IsAt all lines (rows ++ row Then x ∷ []) s more
   then_at x o j q f g a k =
       let w = stood (Premising o) f in
       kept all lines rows r s next more n text after at e (row Then x) q (step_of Then (Premising o) (Concluded o j) f g refl) k.0 refl refl refl
@@ -281,7 +289,7 @@ module _ (all : List SortRow) (lines : Lines) (rows : List Row) (r s : Reader) (
       (parts_more rows at.staged.front at.staged.inside (row Then x) at.staged.parts) at.staged.are
       (w.0, w.1, w.2, w.3, x, ap (λ (z : List Row). z ++ row Then x ∷ []) w.4, a))
 
-  pub goal_at : (x : JudgementRow) (g : _) → IsFitting (context r.found) text (row Goal x) → MayBegin r.stage → (s.stage ≡ Over g) → IsGoal (shapes r.found.shapes) (known_in r.found.forms) x (goal g) → IsKept r s → IsAt all lines (rows ++ row Goal x ∷ []) s more
+  pub goal_at : (x : JudgementRow) (g : _) → IsFitting (context r.found) text (row Goal x) → MayBegin r.stage → (s.stage ≡ Over g) → IsGoal (shapes r.found.shapes) (known_in r.found.forms) x (goal g) → IsReaderKept r s → IsAt all lines (rows ++ row Goal x ∷ []) s more
   goal_at x g q b f i k =
       let w = begin_stands all (shapes r.found.shapes) (known_in r.found.forms) lines r.stage at.staged.declarations at.staged.ended at.staged.front at.staged.inside b at.staged.stands in
       kept all lines rows r s next more n text after at e (row Goal x) q ((begin_step r.stage b).1 ∙ sym (ap (λ (y : Stage). Some (phase_of y)) f)) k.0 refl refl refl
@@ -350,9 +358,9 @@ module _ (all : List SortRow) (lines : Lines) (rows : List Row) (r s : Reader) (
           (subst (λ z. AreForms all (forms_among rows) (known_in z)) (sym a.forms) at.declare.forms);
     };
     fit = fit_more all lines rows r s next more n text after at e (row Sort x) q;
-    cons = subst (λ z. AreNames z.items) (sym a.cons) at.cons;
-    cons_distinct = subst (λ z. AreDistinct z.items) (sym a.cons) at.cons_distinct;
-    forms = subst (λ z. AreNames (names_in (known_in z))) (sym a.forms) at.forms;
+    cons = subst (λ z. AreStatedNames z.items) (sym a.cons) at.cons;
+    cons_distinct = subst (λ z. AreTextsDistinct z.items) (sym a.cons) at.cons_distinct;
+    forms = subst (λ z. AreStatedNames (form_names (known_in z))) (sym a.forms) at.forms;
     reach = reach_snoc rows (row Sort x) at_start (phase_of r.stage) (phase_of s.stage) at.reach (step_of Sort Declaring Declaring f g refl);
     staged = declared (sort_line x) f g h;
     takes = takes_more all lines rows r s next more n text after at e (row Sort x) q.0;
@@ -379,9 +387,9 @@ module _ (all : List SortRow) (lines : Lines) (rows : List Row) (r s : Reader) (
           (subst (λ z. AreForms all (forms_among rows) (known_in z)) (sym a.forms) at.declare.forms);
     };
     fit = fit_more all lines rows r s next more n text after at e (row Con x) q;
-    cons = subst AreNames (sym a.cons) (names_snoc r.found.cons.items x.name at.cons q.1.0.0);
-    cons_distinct = subst AreDistinct (sym a.cons) (distinct_snoc r.found.cons.items x.name at.cons_distinct q.1.1);
-    forms = subst (λ z. AreNames (names_in (known_in z))) (sym a.forms) at.forms;
+    cons = subst AreStatedNames (sym a.cons) (names_snoc r.found.cons.items x.name at.cons q.1.0.0);
+    cons_distinct = subst AreTextsDistinct (sym a.cons) (distinct_snoc r.found.cons.items x.name at.cons_distinct q.1.1);
+    forms = subst (λ z. AreStatedNames (form_names (known_in z))) (sym a.forms) at.forms;
     reach = reach_snoc rows (row Con x) at_start (phase_of r.stage) (phase_of s.stage) at.reach (step_of Con Declaring Declaring f g refl);
     staged = declared (con_line x) f g h;
     takes = takes_more all lines rows r s next more n text after at e (row Con x) q.0;
@@ -389,15 +397,15 @@ module _ (all : List SortRow) (lines : Lines) (rows : List Row) (r s : Reader) (
 
   pub form_at : (x : FormRow) (c : FormData) → IsFitting (context r.found) text (row Form x) → IsFormOf all x c → (length (known_in s.found.forms) < 2 ^ 32) → (r.stage ≡ Declaring) → (s.stage ≡ Declaring) → (s.rules ≡ r.rules) → AddsForm r.found s.found c → IsAt all lines (rows ++ row Form x ∷ []) s more
   form_at x c q i few f g h a =
-      let names : names_in (known_in s.found.forms) ≡ names_in (known_in r.found.forms) ++ c.name ∷ [] = ap names_in a.forms ∙ map_last (λ (y : FormData). y.name) (known_in r.found.forms) c in
-      let fresh : Contains (names_in (known_in r.found.forms)) c.name → ⊥ = λ k. q.1.2 (subst (λ (z : List ℕ). Contains (names_in (known_in r.found.forms)) z) (sym i.name) k) in
+      let names : form_names (known_in s.found.forms) ≡ form_names (known_in r.found.forms) ++ c.name ∷ [] = ap form_names a.forms ∙ map_last (λ (y : FormData). y.name) (known_in r.found.forms) c in
+      let fresh : Contains (form_names (known_in r.found.forms)) c.name → ⊥ = λ k. q.1.2 (subst (λ (z : List ℕ). Contains (form_names (known_in r.found.forms)) z) (sym i.name) k) in
       record {
         same = ap rows_in a.sorts ∙ at.same;
         found = record {
           sorts = subst IsSortTable (sym a.sorts) at.found.sorts;
           forms = record {
             names = a.names ∙ ap (λ (z : List (List ℕ)). z ++ c.name ∷ []) at.found.forms.names ∙ sym names;
-            distinct = subst AreDistinct (sym names) (distinct_snoc (names_in (known_in r.found.forms)) c.name at.found.forms.distinct fresh);
+            distinct = subst AreTextsDistinct (sym names) (distinct_snoc (form_names (known_in r.found.forms)) c.name at.found.forms.distinct fresh);
             few = few;
           };
           con_names = a.con_names ∙ at.found.con_names ∙ ap (λ z. z.items) (sym a.cons);
@@ -411,9 +419,9 @@ module _ (all : List SortRow) (lines : Lines) (rows : List Row) (r s : Reader) (
               (subst (λ z. AreForms all (forms_among rows ++ x ∷ []) z) (sym a.forms) (forms_snoc all (forms_among rows) (known_in r.found.forms) x c at.declare.forms i));
         };
         fit = fit_more all lines rows r s next more n text after at e (row Form x) q;
-        cons = subst (λ z. AreNames z.items) (sym a.cons) at.cons;
-        cons_distinct = subst (λ z. AreDistinct z.items) (sym a.cons) at.cons_distinct;
-        forms = subst AreNames (sym names) (names_snoc (names_in (known_in r.found.forms)) c.name at.forms (subst IsName i.name q.1.0));
+        cons = subst (λ z. AreStatedNames z.items) (sym a.cons) at.cons;
+        cons_distinct = subst (λ z. AreTextsDistinct z.items) (sym a.cons) at.cons_distinct;
+        forms = subst AreStatedNames (sym names) (names_snoc (form_names (known_in r.found.forms)) c.name at.forms (subst IsName i.name q.1.0));
         reach = reach_snoc rows (row Form x) at_start (phase_of r.stage) (phase_of s.stage) at.reach (step_of Form Declaring Declaring f g refl);
         staged = declared (form_line x) f g h;
         takes = takes_more all lines rows r s next more n text after at e (row Form x) q.0;

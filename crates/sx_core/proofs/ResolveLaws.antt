@@ -7,7 +7,9 @@ use Rattle.sx_term.specs.declared.role.Role.{Role}
 use Rattle.sx_rules.specs.declared.rule.Place.{Place}
 use Rattle.sx_rules.specs.Views.{FormData}
 use Rattle.sx_core.specs.File.{SortRow, ConRow, PlaceRow, FormRow}
-use Rattle.sx_core.specs.Stated.{NamesSort, NameSorts, MayHave, MayStandAt, ArePlaces, AreCons, AreForms, AreDistinct, subject_count, one_when}
+use Rattle.sx_core.specs.Stated.{NamesSort, NameSorts, MayHave, MayStandAt, AreStatedPlaces}
+use Rattle.sx_core.specs.Stated.{AreCons, AreForms, subject_count, one_when}
+use Rattle.sx_lines.specs.Distinct.{AreTextsDistinct}
 use Rattle.sx_term.specs.Untyped.{IsUntypedSort, AreUntypedSorts}
 use Rattle.sx_rules.specs.Views.{is_sub}
 use Rattle.sx_core.specs.Resolving.{sort_names, IsConOf, IsPlaceOf, IsFormOf}
@@ -43,7 +45,7 @@ subjects_snoc [] p = omega arith
 subjects_snoc (q ∷ ps) p = let e = subjects_snoc ps p in omega arith
 
 module _ (rows : List SortRow) where
-  pub con_same : (con : ConRow) (a b : Shape) → AreDistinct (sort_names rows) → IsConOf rows con a → IsConOf rows con b → a ≡ b
+  pub con_same : (con : ConRow) (a b : Shape) → AreTextsDistinct (sort_names rows) → IsConOf rows con a → IsConOf rows con b → a ≡ b
   con_same con a b d h k =
       ap (λ (x : Sort). record { sort = x; kids = a.kids }) (sort_same rows con.sort a.sort b.sort d h.sort k.sort)
       ∙ ap (λ (x : List Sort). record { sort = b.sort; kids = x }) (sorts_same rows con.kids a.kids b.kids d h.kids k.kids)
@@ -63,7 +65,7 @@ module _ (rows : List SortRow) where
   cons_at (x ∷ cs) (m ∷ ns) (t ∷ ss) zero c h e = (t, subst (λ (y : ConRow). IsConOf rows y t) (some_same x c e) (record { sort = h.1; kids = h.2; may = h.3 }))
   cons_at (x ∷ cs) (m ∷ ns) (t ∷ ss) (suc i) c h e = cons_at cs ns ss i c h.4 e
 
-  pub cons_same : (cs : List ConRow) (ns ms : List (List ℕ)) (ss ts : List Shape) → AreDistinct (sort_names rows) → AreCons rows cs ns ss → AreCons rows cs ms ts → (ns ≡ ms) × (ss ≡ ts)
+  pub cons_same : (cs : List ConRow) (ns ms : List (List ℕ)) (ss ts : List Shape) → AreTextsDistinct (sort_names rows) → AreCons rows cs ns ss → AreCons rows cs ms ts → (ns ≡ ms) × (ss ≡ ts)
   cons_same [] [] [] [] [] d h k = (refl, refl)
   cons_same [] [] [] [] (t ∷ ts) d h k = absurd k
   cons_same [] [] (m ∷ ms) [] ts d h k = absurd k
@@ -78,24 +80,24 @@ module _ (rows : List SortRow) where
       let e = con_same c s t d (record { sort = h.1; kids = h.2; may = h.3 }) (record { sort = k.1; kids = k.2; may = k.3 }) in
       (ap (λ r. r ∷ ns) (sym h.0 ∙ k.0) ∙ ap (λ r. m ∷ r) q.0, ap (λ r. r ∷ ss) e ∙ ap (λ r. t ∷ r) q.1)
 
-  pub place_same : (row : PlaceRow) (a b : Place) → AreDistinct (sort_names rows) → IsPlaceOf rows row a → IsPlaceOf rows row b → a ≡ b
+  pub place_same : (row : PlaceRow) (a b : Place) → AreTextsDistinct (sort_names rows) → IsPlaceOf rows row a → IsPlaceOf rows row b → a ≡ b
   place_same row a b d h k =
       ap (λ (x : Role). record { role = x; sort = a.sort }) (sym h.role ∙ k.role)
       ∙ ap (λ (x : Sort). record { role = b.role; sort = x }) (sort_same rows row.sort a.sort b.sort d h.sort k.sort)
 
-  pub places_snoc : (rs : List PlaceRow) (ps : List Place) (r : PlaceRow) (p : Place) → ArePlaces rows rs ps → IsPlaceOf rows r p → ArePlaces rows (rs ++ r ∷ []) (ps ++ p ∷ [])
+  pub places_snoc : (rs : List PlaceRow) (ps : List Place) (r : PlaceRow) (p : Place) → AreStatedPlaces rows rs ps → IsPlaceOf rows r p → AreStatedPlaces rows (rs ++ r ∷ []) (ps ++ p ∷ [])
   places_snoc [] [] r p h k = (k.role, k.sort, k.may, tt)
   places_snoc [] (q ∷ ps) r p h k = absurd h
   places_snoc (x ∷ rs) [] r p h k = absurd h
   places_snoc (x ∷ rs) (q ∷ ps) r p h k = (h.0, h.1, h.2, places_snoc rs ps r p h.3 k)
 
-  pub places_at : (rs : List PlaceRow) (ps : List Place) (i : ℕ) (r : PlaceRow) → ArePlaces rows rs ps → slice_get rs i ≡ Some r → (p : Place) × IsPlaceOf rows r p
+  pub places_at : (rs : List PlaceRow) (ps : List Place) (i : ℕ) (r : PlaceRow) → AreStatedPlaces rows rs ps → slice_get rs i ≡ Some r → (p : Place) × IsPlaceOf rows r p
   places_at [] ps i r h e = absurd (none_some r e)
   places_at (x ∷ rs) [] i r h e = absurd h
   places_at (x ∷ rs) (q ∷ ps) zero r h e = (q, subst (λ (y : PlaceRow). IsPlaceOf rows y q) (some_same x r e) (record { role = h.0; sort = h.1; may = h.2 }))
   places_at (x ∷ rs) (q ∷ ps) (suc i) r h e = places_at rs ps i r h.3 e
 
-  pub places_same : (rs : List PlaceRow) (ps qs : List Place) → AreDistinct (sort_names rows) → ArePlaces rows rs ps → ArePlaces rows rs qs → ps ≡ qs
+  pub places_same : (rs : List PlaceRow) (ps qs : List Place) → AreTextsDistinct (sort_names rows) → AreStatedPlaces rows rs ps → AreStatedPlaces rows rs qs → ps ≡ qs
   places_same [] [] [] d h k = refl
   places_same [] [] (q ∷ qs) d h k = absurd k
   places_same [] (p ∷ ps) qs d h k = absurd h
@@ -105,7 +107,7 @@ module _ (rows : List SortRow) where
       let e = place_same r p q d (record { role = h.0; sort = h.1; may = h.2 }) (record { role = k.0; sort = k.1; may = k.2 }) in
       ap (λ x. x ∷ ps) e ∙ ap (λ x. q ∷ x) (places_same rs ps qs d h.3 k.3)
 
-  pub form_same : (row : FormRow) (a b : FormData) → AreDistinct (sort_names rows) → IsFormOf rows row a → IsFormOf rows row b → a ≡ b
+  pub form_same : (row : FormRow) (a b : FormData) → AreTextsDistinct (sort_names rows) → IsFormOf rows row a → IsFormOf rows row b → a ≡ b
   form_same row a b d h k =
       ap (λ (x : List ℕ). record { name = x; places = a.places }) (sym h.name ∙ k.name)
       ∙ ap (λ (x : List Place). record { name = b.name; places = x }) (places_same row.places a.places b.places d h.places k.places)
@@ -122,7 +124,7 @@ module _ (rows : List SortRow) where
   forms_at (x ∷ rs) (g ∷ fs) zero r h e = (g, subst (λ (y : FormRow). IsFormOf rows y g) (some_same x r e) (record { name = h.0; places = h.1; one = h.2 }))
   forms_at (x ∷ rs) (g ∷ fs) (suc i) r h e = forms_at rs fs i r h.3 e
 
-  pub forms_same : (rs : List FormRow) (fs gs : List FormData) → AreDistinct (sort_names rows) → AreForms rows rs fs → AreForms rows rs gs → fs ≡ gs
+  pub forms_same : (rs : List FormRow) (fs gs : List FormData) → AreTextsDistinct (sort_names rows) → AreForms rows rs fs → AreForms rows rs gs → fs ≡ gs
   forms_same [] [] [] d h k = refl
   forms_same [] [] (g ∷ gs) d h k = absurd k
   forms_same [] (f ∷ fs) gs d h k = absurd h
@@ -132,7 +134,7 @@ module _ (rows : List SortRow) where
       let e = form_same r f g d (record { name = h.0; places = h.1; one = h.2 }) (record { name = k.0; places = k.1; one = k.2 }) in
       ap (λ x. x ∷ fs) e ∙ ap (λ x. g ∷ x) (forms_same rs fs gs d h.3 k.3)
 
-module _ (rows : List SortRow) (d : AreDistinct (sort_names rows)) where
+module _ (rows : List SortRow) (d : AreTextsDistinct (sort_names rows)) where
   pub place_not : (row : PlaceRow) (s : Sort) → NamesSort rows row.sort s → (MayStandAt row.role s → ⊥) → (p : Place) → IsPlaceOf rows row p → ⊥
   place_not row s h n p k =
       n (subst (λ (r : Role). MayStandAt r s) (sym k.role) (subst (MayStandAt p.role) (sort_same rows row.sort p.sort s d k.sort h) k.may))
@@ -141,7 +143,7 @@ module _ (rows : List SortRow) (d : AreDistinct (sort_names rows)) where
   con_not con s ks h g n x k =
       n (subst (λ (r : Sort). MayHave r ks) (sort_same rows con.sort x.sort s d k.sort h) (subst (MayHave x.sort) (sorts_same rows con.kids x.kids ks d k.kids g) k.may))
 
-  pub form_not : (row : FormRow) (ps : List Place) → ArePlaces rows row.places ps → (subject_count ps ≤ 1 → ⊥) → (f : FormData) → IsFormOf rows row f → ⊥
+  pub form_not : (row : FormRow) (ps : List Place) → AreStatedPlaces rows row.places ps → (subject_count ps ≤ 1 → ⊥) → (f : FormData) → IsFormOf rows row f → ⊥
   form_not row ps h n f k = n (subst (λ (qs : List Place). subject_count qs ≤ 1) (places_same rows row.places f.places ps d k.places h) k.one)
 
 one_at_most : (b : Bool) → one_when b ≤ 1

@@ -4,10 +4,12 @@ use Rattle.std.specs.Prelude.{codes}
 use Rattle.sx_lines.specs.Blanks.{NoSpace}
 use Rattle.sx_term.specs.declared.role.Role.{Role}
 use Rattle.sx_term.specs.declared.role.Role.TheVariants.{In, Sub, Out}
-use Rattle.sx_core.specs.File.{PlaceRow, sort_line, con_line, form_line, role_text, place_text, kind_text, words_text}
+use Rattle.sx_core.specs.File.{PlaceRow, sort_line, con_line, form_line, role_text, place_text}
+use Rattle.sx_core.specs.File.{core_kind_text, words_text}
 use Rattle.sx_core.specs.Stated.{IsName}
 use Rattle.sx_core.specs.Words.{IsWordRead, NoWord, IsNameRead, NameRefused, NamesRefused}
-use Rattle.sx_core.specs.Rows.{AreNamed, NoPlaceWord, NoKind, IsPlaceRead, PlaceRefused, ArePlacesRead, PlacesRefused, NoRow}
+use Rattle.sx_core.specs.Rows.{AreNamed, NoPlaceWord, NoKind, IsPlaceRead, PlaceRefused}
+use Rattle.sx_core.specs.Rows.{ArePlacesRead, PlacesRefused, NoRow}
 use Rattle.sx_core.specs.declared.terms_row.RowError.{RowError}
 use Rattle.sx_core.specs.declared.terms_row.RowError.TheVariants.{Memory, Shape, TooDeep}
 use Rattle.sx_core.proofs.TermsLaws.{tail_is, nothing_is}
@@ -106,11 +108,11 @@ second_word front text name rest word words r e s =
 
 pub sort_refused : (text name rest : List ℕ) → IsNameRead text name rest → NoKind rest → NoRow sort_line (codes "sort") text Shape
 sort_refused text name rest r n = λ row h.
-    n row.typed (second_word (codes "sort") text name rest row.name (kind_text row.typed ∷ []) r h.line (name_space row.name h.spelled) ∙ ap (λ (x : List ℕ). 32 ∷ x) (append-nil (kind_text row.typed)))
+    n row.typed (second_word (codes "sort") text name rest row.name (core_kind_text row.typed ∷ []) r h.line (name_space row.name h.spelled) ∙ ap (λ (x : List ℕ). 32 ∷ x) (append-nil (core_kind_text row.typed)))
 
 pub sort_unnamed : (text : List ℕ) (e : RowError) → NameRefused text e → NoRow sort_line (codes "sort") text e
 sort_unnamed text Memory n = tt
-sort_unnamed text Shape n = λ row h. n row.name (words_text (kind_text row.typed ∷ [])) h.spelled refl (same_after (codes "sort") text (words_text (row.name ∷ kind_text row.typed ∷ [])) h.line)
+sort_unnamed text Shape n = λ row h. n row.name (words_text (core_kind_text row.typed ∷ [])) h.spelled refl (same_after (codes "sort") text (words_text (row.name ∷ core_kind_text row.typed ∷ [])) h.line)
 sort_unnamed text (TooDeep depth) n = n
 
 pub con_unnamed : (text : List ℕ) (e : RowError) → NameRefused text e → NoRow con_line (codes "con") text e

@@ -2,22 +2,29 @@
 use Rattle.std.proofs.Common.{◌≡◌, ℕ, List, [], ◌∷◌, ◌++◌, inl, inr, map, refl, sym, ap, ◌∙◌, subst, append_assoc, append-nil}
 use Rattle.std.specs.Prelude.{Contains}
 use Rattle.std.specs.List.{flat_map}
-use Rattle.sx_lines.specs.Lines.{Lines, over, line, texts}
+use Rattle.sx_lines.specs.Lines.{Lines, over, line, line_texts}
 use Rattle.sx_lines.specs.Takes.{Takes}
 use Rattle.sx_term.specs.Sorts.{Shape}
 use Rattle.sx_rules.specs.Rules.{Premise, holds, apart}
 use Rattle.sx_rules.specs.Views.{FormData, NamedRule}
 use Rattle.sx_rules.specs.Good.{IsAmong}
-use Rattle.sx_core.specs.File.{SortRow, ConRow, FormRow, Declaration, sort_line, con_line, form_line, PremiseRow, if_line, not_line, RuleRows, CoreFile}
+use Rattle.sx_core.specs.File.{SortRow, ConRow, FormRow, Declaration, sort_line, con_line}
+use Rattle.sx_core.specs.File.{form_line, PremiseRow, if_line, not_line, RuleRows, CoreFile}
 use Rattle.sx_core.specs.Problem.{Problem}
-use Rattle.sx_core.specs.Stated.{sort_rows, con_rows, form_rows, IsName, AreNames, AreDistinct, AreCons, AreForms, ArePremises, IsRule, AreRules, IsGoal, Says}
+use Rattle.sx_core.specs.Stated.{sort_rows, con_rows, form_rows, IsName, AreStatedNames}
+use Rattle.sx_core.specs.Stated.{AreCons, AreForms, ArePremises, IsRule, AreRules}
+use Rattle.sx_lines.specs.Distinct.{AreTextsDistinct}
+use Rattle.sx_core.specs.Stated.{IsGoal, Says}
 use Rattle.sx_core.specs.Resolving.{sort_names, IsConOf, IsFormOf}
-use Rattle.sx_core.specs.Statements.{names_in}
-use Rattle.sx_core.specs.Table.{Parts, Row, row, row_text, declaration_row, premise_row, rule_rows, rows_of}
-use Rattle.sx_core.specs.Fitting.{Context, Fits, sorts_at, cons_at, forms_at, sorts_among, cons_among, forms_among, Declare, AllFit, AreSorts}
+use Rattle.sx_core.specs.Statements.{form_names}
+use Rattle.sx_core.specs.Table.{Parts, Row, row, row_text, declaration_row, premise_row, rule_rows}
+use Rattle.sx_core.specs.Table.{rows_of}
+use Rattle.sx_core.specs.Fitting.{Context, PartsFit, sorts_at, cons_at, forms_at, sorts_among}
+use Rattle.sx_core.specs.Fitting.{cons_among, forms_among, Declare, AllFit, AreSorts}
 use Rattle.sx_core.specs.CoreRead.{ReadTo, AreLinesOf}
 use Rattle.sx_core.specs.declared.keyword.Keyword.{Keyword}
-use Rattle.sx_core.specs.declared.keyword.Keyword.TheVariants.{Head, Sort, Con, Form, Rule, If, Not, Then, End, Goal}
+use Rattle.sx_core.specs.declared.keyword.Keyword.TheVariants.{Head, Sort, Con, Form, Rule, If, Not}
+use Rattle.sx_core.specs.declared.keyword.Keyword.TheVariants.{Then, End, Goal}
 use Rattle.sx_core.proofs.Wording.{map_last}
 use Rattle.sx_rules.proofs.NameLaws.{among_contains, contains_among}
 use Rattle.sx_core.proofs.ResolveLaws.{cons_snoc, forms_snoc}
@@ -32,17 +39,17 @@ among_mid : (names : List (List ℕ)) (name : List ℕ) (more : List (List ℕ))
 among_mid [] name more = inl refl
 among_mid (x ∷ names) name more = inr (among_mid names name more)
 
-not_among : (names : List (List ℕ)) (name : List ℕ) (more : List (List ℕ)) → AreDistinct (names ++ name ∷ more) → IsAmong name names → ⊥
+not_among : (names : List (List ℕ)) (name : List ℕ) (more : List (List ℕ)) → AreTextsDistinct (names ++ name ∷ more) → IsAmong name names → ⊥
 not_among [] name more d h = h
 not_among (x ∷ names) name more d (inl e) = d.0 (among_contains (names ++ name ∷ more) x (subst (λ (z : List ℕ). IsAmong z (names ++ name ∷ more)) (sym e) (among_mid names name more)))
 not_among (x ∷ names) name more d (inr h) = not_among names name more d.1 h
 
 -- a name in the midst of distinct names does not stand before itself
-new_name : (names : List (List ℕ)) (name : List ℕ) (more : List (List ℕ)) → AreDistinct (names ++ name ∷ more) → Contains names name → ⊥
+new_name : (names : List (List ℕ)) (name : List ℕ) (more : List (List ℕ)) → AreTextsDistinct (names ++ name ∷ more) → Contains names name → ⊥
 new_name names name more d h = not_among names name more d (contains_among names name h)
 
-distinct_on : (names : List (List ℕ)) (name : List ℕ) (more : List (List ℕ)) → AreDistinct (names ++ name ∷ more) → AreDistinct ((names ++ name ∷ []) ++ more)
-distinct_on names name more d = subst AreDistinct (sym (append_assoc names (name ∷ []) more)) d
+distinct_on : (names : List (List ℕ)) (name : List ℕ) (more : List (List ℕ)) → AreTextsDistinct (names ++ name ∷ more) → AreTextsDistinct ((names ++ name ∷ []) ++ more)
+distinct_on names name more d = subst AreTextsDistinct (sym (append_assoc names (name ∷ []) more)) d
 
 -- ---- what one more row declares
 
@@ -117,7 +124,7 @@ no_forms all [] h = refl
 no_forms all (f ∷ fs) h = absurd h
 
 module _ (all : List SortRow) where
-  declared_on : (before : List Row) (r : Row) (rows : List Row) (c d : Context) (ss ts : List Shape) (fs gs : List FormData) → Declare all before c → Fits c r.keyword r.parts → d.shapes ++ ss ≡ c.shapes ++ ts → d.forms ++ fs ≡ c.forms ++ gs
+  declared_on : (before : List Row) (r : Row) (rows : List Row) (c d : Context) (ss ts : List Shape) (fs gs : List FormData) → Declare all before c → PartsFit c r.keyword r.parts → d.shapes ++ ss ≡ c.shapes ++ ts → d.forms ++ fs ≡ c.forms ++ gs
       → Declared all (before ++ r ∷ []) rows d ss fs → Declared all before (r ∷ rows) c ts gs
   declared_on before r rows c d ss ts fs gs h fits a b w = record {
     end = w.end;
@@ -128,7 +135,7 @@ module _ (all : List SortRow) where
   }
 
   said_declarations : (ds : List Declaration) (before : List Row) (c : Context) (ns : List (List ℕ)) (ss : List Shape) (fs : List FormData) → Declare all before c → AllSpelled (map declaration_row ds)
-      → AreCons all (con_rows ds) ns ss → AreForms all (form_rows ds) fs → AreDistinct (c.taken ++ map (λ row. row.name) (sort_rows ds)) → AreDistinct (c.cons ++ ns) → AreDistinct (names_in c.forms ++ names_in fs)
+      → AreCons all (con_rows ds) ns ss → AreForms all (form_rows ds) fs → AreTextsDistinct (c.taken ++ map (λ row. row.name) (sort_rows ds)) → AreTextsDistinct (c.cons ++ ns) → AreTextsDistinct (form_names c.forms ++ form_names fs)
       → Declared all before (map declaration_row ds) c ss fs
   said_declarations [] before c ns ss fs h sp hc hf dt dc df = record {
     end = c;
@@ -153,9 +160,9 @@ module _ (all : List SortRow) where
   said_declarations (form_line x ∷ ds) before c ns ss (f ∷ fs) h sp hc hf dt dc df =
       let is : IsFormOf all x f = record { name = hf.0; places = hf.1; one = hf.2 } in
       declared_on before (row Form x) (map declaration_row ds) c (with_form c f) ss ss fs (f ∷ fs) h
-      (sp.0.0, sp.0.1, (λ k. new_name (names_in c.forms) f.name (names_in fs) df (subst (Contains (names_in c.forms)) hf.0 k)), f, subst (λ (z : List SortRow). IsFormOf z x f) (sym h.sorts) is) refl (append_assoc c.forms (f ∷ []) fs)
+      (sp.0.0, sp.0.1, (λ k. new_name (form_names c.forms) f.name (form_names fs) df (subst (Contains (form_names c.forms)) hf.0 k)), f, subst (λ (z : List SortRow). IsFormOf z x f) (sym h.sorts) is) refl (append_assoc c.forms (f ∷ []) fs)
       (said_declarations ds (before ++ row Form x ∷ []) (with_form c f) ns ss fs (next_form all before c h x f is) sp.1 hc hf.3 dt dc
-      (subst (λ (z : List (List ℕ)). AreDistinct (z ++ names_in fs)) (sym (map_last (λ (g : FormData). g.name) c.forms f)) (distinct_on (names_in c.forms) f.name (names_in fs) df)))
+      (subst (λ (z : List (List ℕ)). AreTextsDistinct (z ++ form_names fs)) (sym (map_last (λ (g : FormData). g.name) c.forms f)) (distinct_on (form_names c.forms) f.name (form_names fs) df)))
 
 -- ---- the rules and the goal
 
@@ -169,7 +176,7 @@ IsLater _ = Unit {0}
 -- each of the rows is no declaration, and as stated
 abbrev AllLater : Context → List Row → Type 0
 AllLater c [] = Unit {0}
-AllLater c (r ∷ rows) = IsLater r.keyword × Fits c r.keyword r.parts × AllLater c rows
+AllLater c (r ∷ rows) = IsLater r.keyword × PartsFit c r.keyword r.parts × AllLater c rows
 
 later_append : (c : Context) (xs ys : List Row) → AllLater c xs → AllLater c ys → AllLater c (xs ++ ys)
 later_append c [] ys h k = k
@@ -199,7 +206,7 @@ fits_append : (all : List SortRow) (xs before ys : List Row) → AllFit all befo
 fits_append all [] before ys h k = subst (λ (z : List Row). AllFit all z ys) (append-nil before) k
 fits_append all (x ∷ xs) before ys h k = (h.0, fits_append all xs (before ++ x ∷ []) ys h.1 (subst (λ (z : List Row). AllFit all z ys) (sym (append_assoc before (x ∷ []) xs)) k))
 
-module _ (c : Context) (named : AreNames (map (λ row. row.name) c.sorts)) (forms : AreNames (names_in c.forms)) where
+module _ (c : Context) (named : AreStatedNames (map (λ row. row.name) c.sorts)) (forms : AreStatedNames (form_names c.forms)) where
   premises_later : (rows : List PremiseRow) (ps : List Premise) → ArePremises c.forms rows ps → AllLater c (map premise_row rows)
   premises_later [] ps h = tt
   premises_later (if_line r ∷ rows) [] h = absurd h
@@ -231,11 +238,11 @@ module _ (f : CoreFile) (p : Problem) (s : Says f p) where
   abbrev said_sorts : List SortRow
   said_sorts = sort_rows f.declarations
 
-  sorts_are_named : AreNames (map (λ row. row.name) said_sorts)
-  sorts_are_named = subst AreNames s.sorts s.sort_names
+  sorts_are_named : AreStatedNames (map (λ row. row.name) said_sorts)
+  sorts_are_named = subst AreStatedNames s.sorts s.sort_names
 
-  sorts_are_distinct : AreDistinct (sort_names said_sorts)
-  sorts_are_distinct = subst (λ (x : List (List ℕ)). AreDistinct (sort_names [] ++ x)) s.sorts s.sorts_distinct
+  sorts_are_distinct : AreTextsDistinct (sort_names said_sorts)
+  sorts_are_distinct = subst (λ (x : List (List ℕ)). AreTextsDistinct (sort_names [] ++ x)) s.sorts s.sorts_distinct
 
   at_head : Declare said_sorts (row Head tt ∷ []) (nothing_declared said_sorts)
   unfolding nothing_declared
@@ -259,12 +266,12 @@ module _ (f : CoreFile) (p : Problem) (s : Says f p) where
   unfolding nothing_declared last
   last_forms = declared.forms
 
-  named_last : AreNames (map (λ row. row.name) last.sorts)
+  named_last : AreStatedNames (map (λ row. row.name) last.sorts)
   unfolding last
-  named_last = subst (λ (z : List SortRow). AreNames (map (λ row. row.name) z)) (sym declared.declare.sorts) sorts_are_named
+  named_last = subst (λ (z : List SortRow). AreStatedNames (map (λ row. row.name) z)) (sym declared.declare.sorts) sorts_are_named
 
-  forms_last : AreNames (names_in last.forms)
-  forms_last = subst (λ (z : List FormData). AreNames (names_in z)) (sym last_forms) s.form_names
+  forms_last : AreStatedNames (form_names last.forms)
+  forms_last = subst (λ (z : List FormData). AreStatedNames (form_names z)) (sym last_forms) s.form_names
 
   rules_last : AllLater last (flat_map rule_rows f.rules)
   unfolding last
@@ -307,12 +314,12 @@ module _ (f : CoreFile) (p : Problem) (s : Says f p) where
 
 -- ---- the lines of a file
 
-texts_taken : (lines : Lines) (xs : List (List ℕ)) → texts lines ≡ xs → (n : ℕ) × Takes xs lines (over n)
+texts_taken : (lines : Lines) (xs : List (List ℕ)) → line_texts lines ≡ xs → (n : ℕ) × Takes xs lines (over n)
 texts_taken (over n) [] e = (n, refl)
 texts_taken (over n) (x ∷ xs) e = absurd (let q : [] ≡ x ∷ xs = e in cc)
-texts_taken (line n text after more) [] e = absurd (let q : text ∷ texts more ≡ [] = e in cc)
+texts_taken (line n text after more) [] e = absurd (let q : text ∷ line_texts more ≡ [] = e in cc)
 texts_taken (line n text after more) (x ∷ xs) e =
-    let q = both text x (texts more) xs e in
+    let q = both text x (line_texts more) xs e in
     let w = texts_taken more xs q.1 in
     (w.0, (q.0, w.1))
   where
@@ -326,7 +333,7 @@ none_one : (x : SortRow) → [] ≡ x ∷ [] → ⊥
 none_one x e = cc
 
 -- the sorts of lines are those of their rows
-lines_sorts : (rows : List Row) (found : List SortRow) (lines next : Lines) (n : ℕ) → next ≡ over n → Takes (map row_text rows) lines next → AllSpelled rows → AreDistinct (sort_names (found ++ sorts_among rows)) → AreSorts found lines (found ++ sorts_among rows)
+lines_sorts : (rows : List Row) (found : List SortRow) (lines next : Lines) (n : ℕ) → next ≡ over n → Takes (map row_text rows) lines next → AllSpelled rows → AreTextsDistinct (sort_names (found ++ sorts_among rows)) → AreSorts found lines (found ++ sorts_among rows)
 lines_sorts [] found lines next n o t sp d = subst (λ (z : Lines). AreSorts found z (found ++ [])) (sym (t ∙ o)) (sym (append-nil found))
 lines_sorts (r ∷ rows) found (over m) next n o t sp d = absurd t
 lines_sorts (r ∷ rows) found (line m text after more) next n o t sp d = elim (sort_or_none r.keyword r.parts) [
@@ -335,13 +342,13 @@ lines_sorts (r ∷ rows) found (line m text after more) next n o t sp d = elim (
       let same : sorts_of r ≡ x ∷ [] = ap sorts_of w.1 in
       let e : found ++ sorts_among (r ∷ rows) ≡ (found ++ x ∷ []) ++ sorts_among rows = ap (λ (z : List SortRow). found ++ (z ++ sorts_among rows)) same ∙ sym (append_assoc found (x ∷ []) (sorts_among rows)) in (
         x,
-        (t.0 ∙ ap row_text w.1, spelled_sort r x sp.0 w.1, new_sort found x (sorts_among rows) (subst (λ (z : List SortRow). AreDistinct (sort_names z)) (ap (λ (z : List SortRow). found ++ (z ++ sorts_among rows)) same) d)),
-        subst (AreSorts (found ++ x ∷ []) more) (sym e) (lines_sorts rows (found ++ x ∷ []) more next n o t.1 sp.1 (subst (λ (z : List SortRow). AreDistinct (sort_names z)) e d)),
+        (t.0 ∙ ap row_text w.1, spelled_sort r x sp.0 w.1, new_sort found x (sorts_among rows) (subst (λ (z : List SortRow). AreTextsDistinct (sort_names z)) (ap (λ (z : List SortRow). found ++ (z ++ sorts_among rows)) same) d)),
+        subst (AreSorts (found ++ x ∷ []) more) (sym e) (lines_sorts rows (found ++ x ∷ []) more next n o t.1 sp.1 (subst (λ (z : List SortRow). AreTextsDistinct (sort_names z)) e d)),
       ))
   | inr none ↦ inr (
       let e : found ++ sorts_among (r ∷ rows) ≡ found ++ sorts_among rows = ap (λ (z : List SortRow). found ++ (z ++ sorts_among rows)) none in (
         (λ x h. none_one x (sym none ∙ ap sorts_of (only_sort text x h.1 h.0 r t.0 (λ y q. spelled_sort r y sp.0 q)))),
-        subst (AreSorts found more) (sym e) (lines_sorts rows found more next n o t.1 sp.1 (subst (λ (z : List SortRow). AreDistinct (sort_names z)) e d)),
+        subst (AreSorts found more) (sym e) (lines_sorts rows found more next n o t.1 sp.1 (subst (λ (z : List SortRow). AreTextsDistinct (sort_names z)) e d)),
       ))
 ]
   where
@@ -352,8 +359,8 @@ lines_sorts (r ∷ rows) found (line m text after more) next n o t sp d = elim (
         parts [] = refl
         parts (z ∷ zs) = ap (λ (w : List (List ℕ)). z.name ∷ w) (parts zs)
 
-    new_sort : (xs : List SortRow) (x : SortRow) (ys : List SortRow) → AreDistinct (sort_names (xs ++ x ∷ ys)) → Contains (sort_names xs) x.name → ⊥
-    new_sort xs x ys g = new_name (sort_names xs) x.name (map (λ row. row.name) ys) (subst AreDistinct (names_append xs x ys) g)
+    new_sort : (xs : List SortRow) (x : SortRow) (ys : List SortRow) → AreTextsDistinct (sort_names (xs ++ x ∷ ys)) → Contains (sort_names xs) x.name → ⊥
+    new_sort xs x ys g = new_name (sort_names xs) x.name (map (λ row. row.name) ys) (subst AreTextsDistinct (names_append xs x ys) g)
 
 -- the lines of a file that says something are read to the end
 pub said_read : (lines : Lines) (f : CoreFile) (p : Problem) → AreLinesOf lines f → Says f p → (c : Context) × (n : ℕ) × ReadTo lines (rows_of f) c (over n)
@@ -362,7 +369,7 @@ said_read lines f p a s =
     let among : sorts_among (rows_of f) ≡ sort_rows f.declarations =
     declared_rows (λ (z : Row). sorts_at z.keyword z.parts) refl (λ q. refl) (λ q. refl) (λ q. refl) (λ q. refl) refl (λ q. refl) f.declarations f.rules f.goal ∙ sorts_declared f.declarations in
     let sorts : AreSorts [] lines (sort_rows f.declarations) =
-    subst (AreSorts [] lines) among (lines_sorts (rows_of f) [] lines (over w.0) w.0 refl w.1 (file_spelled f p s) (subst (λ (z : List SortRow). AreDistinct (sort_names z)) (sym among) (sorts_are_distinct f p s))) in
+    subst (AreSorts [] lines) among (lines_sorts (rows_of f) [] lines (over w.0) w.0 refl w.1 (file_spelled f p s) (subst (λ (z : List SortRow). AreTextsDistinct (sort_names z)) (sym among) (sorts_are_distinct f p s))) in
     let declare = said_declare f p s in (
       last f p s,
       w.0,

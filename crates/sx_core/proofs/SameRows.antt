@@ -6,12 +6,14 @@ use Rattle.sx_lines.specs.Takes.{Takes}
 use Rattle.sx_term.specs.Sorts.{Shape}
 use Rattle.sx_rules.specs.Views.{FormData}
 use Rattle.sx_core.specs.File.{SortRow}
-use Rattle.sx_core.specs.Stated.{AreDistinct}
+use Rattle.sx_lines.specs.Distinct.{AreTextsDistinct}
 use Rattle.sx_core.specs.Resolving.{sort_names}
 use Rattle.sx_core.specs.Table.{Parts, Row, row_text}
-use Rattle.sx_core.specs.Fitting.{Context, Fits, Declare, AllFit, cons_among, forms_among, AreSorts}
+use Rattle.sx_core.specs.Fitting.{Context, PartsFit, Declare, AllFit, cons_among, forms_among}
+use Rattle.sx_core.specs.Fitting.{AreSorts}
 use Rattle.sx_core.specs.declared.keyword.Keyword.{Keyword}
-use Rattle.sx_core.specs.declared.keyword.Keyword.TheVariants.{Head, Sort, Con, Form, Rule, If, Not, Then, End, Goal}
+use Rattle.sx_core.specs.declared.keyword.Keyword.TheVariants.{Head, Sort, Con, Form, Rule, If, Not}
+use Rattle.sx_core.specs.declared.keyword.Keyword.TheVariants.{Then, End, Goal}
 use Rattle.sx_core.proofs.Wording.{map_last}
 use Rattle.sx_core.proofs.AmongLaws.{distinct_snoc}
 use Rattle.sx_core.proofs.ResolveLaws.{cons_same, forms_same}
@@ -21,7 +23,7 @@ use Rattle.sx_core.proofs.OneProblem.{Spelled, AllSpelled, row_same}
 
 -- ---- rows that are as stated are spelled
 
-pub fits_spelled : (c : Context) (k : Keyword) (p : Parts k) → Fits c k p → Spelled k p
+pub fits_spelled : (c : Context) (k : Keyword) (p : Parts k) → PartsFit c k p → Spelled k p
 fits_spelled c Head p h = tt
 fits_spelled c Sort p h = h.0
 fits_spelled c Con p h = h.0
@@ -38,7 +40,7 @@ rows_spelled all before [] h = tt
 rows_spelled all before (r ∷ rows) h = (fits_spelled h.0.0 r.keyword r.parts h.0.2, rows_spelled all (before ++ r ∷ []) rows h.1)
 
 -- a row is as stated after those before it
-pub fit_at : (all : List SortRow) (before xs : List Row) (r : Row) (more : List Row) → AllFit all before (xs ++ r ∷ more) → (c : Context) × Declare all (before ++ xs) c × Fits c r.keyword r.parts
+pub fit_at : (all : List SortRow) (before xs : List Row) (r : Row) (more : List Row) → AllFit all before (xs ++ r ∷ more) → (c : Context) × Declare all (before ++ xs) c × PartsFit c r.keyword r.parts
 fit_at all before [] r more h = (h.0.0, subst (λ (z : List Row). Declare all z h.0.0) (sym (append-nil before)) h.0.1, h.0.2)
 fit_at all before (x ∷ xs) r more h =
     let w = fit_at all (before ++ x ∷ []) xs r more h.1 in
@@ -110,11 +112,11 @@ one_rest (x ∷ xs) (line n text after more) a b t u = one_rest xs more a b t.1 
 pub names_last : (rows : List SortRow) (x : SortRow) → sort_names (rows ++ x ∷ []) ≡ sort_names rows ++ x.name ∷ []
 names_last rows x = ap (λ (z : List (List ℕ)). sort_names [] ++ z) (map_last (λ (r : SortRow). r.name) rows x)
 
-pub sorts_distinct : (found : List SortRow) (lines : Lines) (all : List SortRow) → AreDistinct (sort_names found) → AreSorts found lines all → AreDistinct (sort_names all)
-sorts_distinct found (over n) all d h = subst (λ (z : List SortRow). AreDistinct (sort_names z)) h d
+pub sorts_distinct : (found : List SortRow) (lines : Lines) (all : List SortRow) → AreTextsDistinct (sort_names found) → AreSorts found lines all → AreTextsDistinct (sort_names all)
+sorts_distinct found (over n) all d h = subst (λ (z : List SortRow). AreTextsDistinct (sort_names z)) h d
 sorts_distinct found (line n text after more) all d (inl h) =
     sorts_distinct (found ++ h.0 ∷ []) more all
-    (subst (λ (z : List (List ℕ)). AreDistinct z) (sym (names_last found h.0)) (distinct_snoc (sort_names found) h.0.name d h.1.2)) h.2
+    (subst (λ (z : List (List ℕ)). AreTextsDistinct z) (sym (names_last found h.0)) (distinct_snoc (sort_names found) h.0.name d h.1.2)) h.2
 sorts_distinct found (line n text after more) all d (inr h) = sorts_distinct found more all d h.1
 
 pub one_sorts : (found : List SortRow) (lines : Lines) (all others : List SortRow) → AreSorts found lines all → AreSorts found lines others → all ≡ others
@@ -128,7 +130,7 @@ one_sorts found (line n text after more) all others (inr h) (inr k) = one_sorts 
 
 -- ---- rows declare one thing
 
-pub one_context : (all : List SortRow) (rows : List Row) (c d : Context) → AreDistinct (sort_names all) → Declare all rows c → Declare all rows d → c ≡ d
+pub one_context : (all : List SortRow) (rows : List Row) (c d : Context) → AreTextsDistinct (sort_names all) → Declare all rows c → Declare all rows d → c ≡ d
 one_context all rows c d distinct h k =
     let cons = cons_same all (cons_among rows) c.cons d.cons c.shapes d.shapes distinct h.cons k.cons in
     let forms = forms_same all (forms_among rows) c.forms d.forms distinct h.forms k.forms in

@@ -7,7 +7,8 @@ use Rattle.sx_term.specs.declared.lex_kind.LexKind.TheVariants.{Id, Num, Str}
 use Rattle.sx_term.specs.declared.sort.Sort.{Sort}
 use Rattle.sx_term.specs.declared.sort.Sort.TheVariants.{Lex, Plain, Typed}
 use Rattle.sx_core.specs.File.{SortRow}
-use Rattle.sx_core.specs.Stated.{NamesSort, NameSorts, AreDistinct}
+use Rattle.sx_core.specs.Stated.{NamesSort, NameSorts}
+use Rattle.sx_lines.specs.Distinct.{AreTextsDistinct}
 use Rattle.sx_core.specs.Resolving.{sort_names}
 use Rattle.sx_core.proofs.NumberLaws.{contains_at, one_place}
 
@@ -66,7 +67,7 @@ sort_found rows name (Plain n) h = ap (option_map (kind n)) h
 sort_found rows name (Typed n) h = ap (option_map (kind n)) h
 
 -- a name stands for one sort
-pub sort_same : (rows : List SortRow) (name : List ℕ) (s t : Sort) → AreDistinct (sort_names rows) → NamesSort rows name s → NamesSort rows name t → s ≡ t
+pub sort_same : (rows : List SortRow) (name : List ℕ) (s t : Sort) → AreTextsDistinct (sort_names rows) → NamesSort rows name s → NamesSort rows name t → s ≡ t
 sort_same rows name s t d h k =
     let e = one_place (sort_names rows) d (sort_number s) (sort_number t) name (sort_place rows name s h) (sort_place rows name t k) in
     some_same s t (sym (sort_found rows name s h) ∙ ap (sort_from rows) e ∙ sort_found rows name t k)
@@ -94,7 +95,7 @@ sorts_at rows (m ∷ ns) [] i n h e = absurd h
 sorts_at rows (m ∷ ns) (t ∷ ss) zero n h e = (t, subst (λ (x : List ℕ). NamesSort rows x t) (some_same m n e) h.0)
 sorts_at rows (m ∷ ns) (t ∷ ss) (suc i) n h e = sorts_at rows ns ss i n h.1 e
 
-pub sorts_same : (rows : List SortRow) (ns : List (List ℕ)) (ss ts : List Sort) → AreDistinct (sort_names rows) → NameSorts rows ns ss → NameSorts rows ns ts → ss ≡ ts
+pub sorts_same : (rows : List SortRow) (ns : List (List ℕ)) (ss ts : List Sort) → AreTextsDistinct (sort_names rows) → NameSorts rows ns ss → NameSorts rows ns ts → ss ≡ ts
 sorts_same rows [] [] [] d h k = refl
 sorts_same rows [] [] (t ∷ ts) d h k = absurd k
 sorts_same rows [] (s ∷ ss) ts d h k = absurd h

@@ -14,10 +14,12 @@ use Rattle.std.proofs.lemmas.Option.{slice_get-get_or}
 use Rattle.sx_rules.specs.declared.rule.Place.{Place}
 use Rattle.sx_rules.specs.Views.{is_out, FormData, places_at, modes_of, sorts_of}
 use Rattle.sx_core.specs.File.{JudgementRow, judgement_text, words_text}
-use Rattle.sx_core.specs.Stated.{NamesForm, AreDistinct, AreReadable, subject_count}
+use Rattle.sx_core.specs.Stated.{NamesForm, AreReadable, subject_count}
+use Rattle.sx_lines.specs.Distinct.{AreTextsDistinct}
 use Rattle.sx_core.specs.TermsText.{terms_text, HaveCores, RowRead, IsDeepRow, RefusedAs}
 use Rattle.sx_core.specs.Words.{Stops, IsNameRead, NameRefused}
-use Rattle.sx_core.specs.Statements.{names_in, IsFormRead, FormRefused, IsJudgementRead, IsDeepJudgement, IsInputsRead, IsGoalRead, IsDeepGoal}
+use Rattle.sx_core.specs.Statements.{form_names, IsFormRead, FormRefused, IsJudgementRead}
+use Rattle.sx_core.specs.Statements.{IsDeepJudgement, IsInputsRead, IsGoalRead, IsDeepGoal}
 use Rattle.sx_core.specs.declared.terms_row.RowError.{RowError}
 use Rattle.sx_core.specs.declared.terms_row.RowError.TheVariants.{Memory, Shape as Bad, TooDeep}
 use Rattle.sx_core.proofs.TermsLaws.{tail_is, nothing_is, no_digit_terms, digits_after, one_only}
@@ -65,35 +67,35 @@ map_get f [] n y e = absurd (none_some y e)
 map_get f (x ∷ xs) zero y e = (x, refl, some_same (f x) y e)
 map_get f (x ∷ xs) (suc n) y e = map_get f xs n y e
 
-pub form_named : (known : List FormData) (n : ℕ) (name : List ℕ) → slice_get (names_in known) n ≡ Some name → NamesForm known name n
+pub form_named : (known : List FormData) (n : ℕ) (name : List ℕ) → slice_get (form_names known) n ≡ Some name → NamesForm known name n
 form_named known n name e = map_get (λ (f : FormData). f.name) known n name e
 
-named_form : (known : List FormData) (n : ℕ) (name : List ℕ) (f : FormData) → slice_get known n ≡ Some f → f.name ≡ name → slice_get (names_in known) n ≡ Some name
+named_form : (known : List FormData) (n : ℕ) (name : List ℕ) (f : FormData) → slice_get known n ≡ Some f → f.name ≡ name → slice_get (form_names known) n ≡ Some name
 named_form [] n name f e q = absurd (none_some f e)
 named_form (x ∷ known) zero name f e q = ap (λ (y : FormData). Some y.name) (some_same x f e) ∙ ap Some q
 named_form (x ∷ known) (suc n) name f e q = named_form known n name f e q
 
-pub form_number : (known : List FormData) (n : ℕ) (name : List ℕ) → NamesForm known name n → slice_get (names_in known) n ≡ Some name
+pub form_number : (known : List FormData) (n : ℕ) (name : List ℕ) → NamesForm known name n → slice_get (form_names known) n ≡ Some name
 form_number known n name h = named_form known n name h.0 h.1 h.2
 
-pub form_read : (known : List FormData) (text name rest : List ℕ) (n : ℕ) → IsNameRead text name rest → slice_get (names_in known) n ≡ Some name → IsFormRead known text n rest
+pub form_read : (known : List FormData) (text name rest : List ℕ) (n : ℕ) → IsNameRead text name rest → slice_get (form_names known) n ≡ Some name → IsFormRead known text n rest
 form_read known text name rest n r e = record { word = name; parts = r.parts; named = r.named; stops = r.stops; is = form_named known n name e }
 
-pub form_none : (known : List FormData) (text name rest : List ℕ) → IsNameRead text name rest → (Contains (names_in known) name → ⊥) → FormRefused known text Bad
+pub form_none : (known : List FormData) (text name rest : List ℕ) → IsNameRead text name rest → (Contains (form_names known) name → ⊥) → FormRefused known text Bad
 form_none known text name rest r n = λ form more h.
     let q = one_word h.word name more rest (name_space h.word h.named) (name_space name r.named) h.stops r.stops (tail_is 32 32 (h.word ++ more) (name ++ rest) (sym h.parts ∙ r.parts)) in
-    n (contains_at (names_in known) form name (form_number known form h.word h.is ∙ ap Some q.0))
+    n (contains_at (form_names known) form name (form_number known form h.word h.is ∙ ap Some q.0))
 
 pub form_unnamed : (known : List FormData) (text : List ℕ) (e : RowError) → NameRefused text e → FormRefused known text e
 form_unnamed known text Memory h = tt
 form_unnamed known text Bad h = λ form rest r. h r.word rest r.named r.stops r.parts
 form_unnamed known text (TooDeep depth) h = h
 
-module _ (known : List FormData) (d : AreDistinct (names_in known)) where
+module _ (known : List FormData) (d : AreTextsDistinct (form_names known)) where
   pub form_same : (text : List ℕ) (f g : ℕ) (rest more : List ℕ) → IsFormRead known text f rest → IsFormRead known text g more → (f ≡ g) × (rest ≡ more)
   form_same text f g rest more h k =
       let q = one_word h.word k.word rest more (name_space h.word h.named) (name_space k.word k.named) h.stops k.stops (tail_is 32 32 (h.word ++ rest) (k.word ++ more) (sym h.parts ∙ k.parts)) in
-      (one_place (names_in known) d f g k.word (form_number known f h.word h.is ∙ ap Some q.0) (form_number known g k.word k.is), q.1)
+      (one_place (form_names known) d f g k.word (form_number known f h.word h.is ∙ ap Some q.0) (form_number known g k.word k.is), q.1)
 
 -- ---- judgements
 
@@ -114,7 +116,7 @@ module _ (known : List FormData) where
   pub form_of : (text : List ℕ) (j : Judgement) (h : IsJudgementRead known text j) → IsFormRead known text j.form (terms_text h.row.terms)
   form_of text j h = record { word = h.row.form; parts = h.parts ∙ judgement_open h.row; named = h.named; stops = terms_stop h.row.terms; is = h.is.form }
 
-module _ (known : List FormData) (d : AreDistinct (names_in known)) where
+module _ (known : List FormData) (d : AreTextsDistinct (form_names known)) where
   -- the terms of a judgement are what stands after the form
   terms_after : (text : List ℕ) (form : ℕ) (rest : List ℕ) → IsFormRead known text form rest → (j : Judgement) (h : IsJudgementRead known text j)
       → (length h.row.terms ≡ length (places_at known form)) × HaveCores h.row.terms × AreShallow h.row.terms × (rest ≡ terms_text h.row.terms)
@@ -205,7 +207,7 @@ module _ (S : List Shape) (known : List FormData) where
   goal_no_form text Bad n = ((λ g h. n g.form h.rest h.form), λ depth h. n h.form h.rest h.is)
   goal_no_form text (TooDeep depth) n = absurd n
 
-module _ (S : List Shape) (known : List FormData) (d : AreDistinct (names_in known)) where
+module _ (S : List Shape) (known : List FormData) (d : AreTextsDistinct (form_names known)) where
   pub goal_no_subject : (text : List ℕ) (form : ℕ) (rest : List ℕ) → IsFormRead known text form rest → (subject_count (places_at known form) ≡ 1 → ⊥) → RefusedAs (IsGoalRead S known text) (IsDeepGoal known text) Bad
   goal_no_subject text form rest f n = (
     (λ g h. let q = form_same known d text form g.form rest h.rest f h.form in n (ap (λ k. subject_count (places_at known k)) q.0 ∙ h.subject)),

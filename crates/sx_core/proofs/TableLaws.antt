@@ -4,12 +4,14 @@ use Rattle.std.specs.Prelude.{◌==◌, if◌then◌else◌}
 use Rattle.std.proofs.lemmas.List.{take-append-drop}
 use Rattle.sx_lines.specs.Blanks.{NoSpace}
 use Rattle.sx_core.specs.Words.{Stops, IsWordEnd}
-use Rattle.sx_core.specs.Table.{keyword_text, Parts, parts_text, Row, row_text, row, IsKeyword, NoKeyword}
+use Rattle.sx_core.specs.Table.{core_keyword_text, Parts, parts_text, Row, row_text, row, IsKeyword}
+use Rattle.sx_core.specs.Table.{NoKeyword}
 use Rattle.sx_core.specs.declared.keyword.Keyword.{Keyword}
-use Rattle.sx_core.specs.declared.keyword.Keyword.TheVariants.{Head, Sort, Con, Form, Rule, If, Not, Then, End, Goal}
+use Rattle.sx_core.specs.declared.keyword.Keyword.TheVariants.{Head, Sort, Con, Form, Rule, If, Not}
+use Rattle.sx_core.specs.declared.keyword.Keyword.TheVariants.{Then, End, Goal}
 use Rattle.sx_core.proofs.Wording.{one_word}
 
-pub keyword_space : (k : Keyword) → NoSpace (keyword_text k)
+pub keyword_space : (k : Keyword) → NoSpace (core_keyword_text k)
 keyword_space Head = ((λ e. omega arith), ((λ e. omega arith), ((λ e. omega arith), ((λ e. omega arith), ((λ e. omega arith), ((λ e. omega arith), tt))))))
 keyword_space Sort = ((λ e. omega arith), ((λ e. omega arith), ((λ e. omega arith), ((λ e. omega arith), tt))))
 keyword_space Con = ((λ e. omega arith), ((λ e. omega arith), ((λ e. omega arith), tt)))
@@ -39,7 +41,7 @@ told n =
     else if n == 101 + 256 * 110 then End
     else Goal
 
-told_is : (k : Keyword) → told (mark (keyword_text k)) ≡ k
+told_is : (k : Keyword) → told (mark (core_keyword_text k)) ≡ k
 unfolding told mark
 told_is Head = refl
 told_is Sort = refl
@@ -52,19 +54,19 @@ told_is Then = refl
 told_is End = refl
 told_is Goal = refl
 
-pub one_keyword_text : (k l : Keyword) → keyword_text k ≡ keyword_text l → k ≡ l
+pub one_keyword_text : (k l : Keyword) → core_keyword_text k ≡ core_keyword_text l → k ≡ l
 one_keyword_text k l e = sym (told_is k) ∙ ap (λ x. told (mark x)) e ∙ told_is l
 
 pub one_keyword : (text : List ℕ) (k l : Keyword) (x y : List ℕ) → IsKeyword text k x → IsKeyword text l y → (k ≡ l) × (x ≡ y)
 one_keyword text k l x y h j =
-    let q = one_word (keyword_text k) (keyword_text l) x y (keyword_space k) (keyword_space l) h.stops j.stops (sym h.parts ∙ j.parts) in
+    let q = one_word (core_keyword_text k) (core_keyword_text l) x y (keyword_space k) (keyword_space l) h.stops j.stops (sym h.parts ∙ j.parts) in
     (one_keyword_text k l q.0, q.1)
 
-pub no_keyword : (text : List ℕ) (at : ℕ) → IsWordEnd text at → ((k : Keyword) → take at text ≡ keyword_text k → ⊥) → NoKeyword text
+pub no_keyword : (text : List ℕ) (at : ℕ) → IsWordEnd text at → ((k : Keyword) → take at text ≡ core_keyword_text k → ⊥) → NoKeyword text
 no_keyword text at w n k rest h =
-    n k (one_word (take at text) (keyword_text k) (drop at text) rest w.word (keyword_space k) w.stops h.stops (take-append-drop at text ∙ h.parts)).0
+    n k (one_word (take at text) (core_keyword_text k) (drop at text) rest w.word (keyword_space k) w.stops h.stops (take-append-drop at text ∙ h.parts)).0
 
-pub is_keyword : (text : List ℕ) (at : ℕ) (k : Keyword) → IsWordEnd text at → take at text ≡ keyword_text k → IsKeyword text k (drop at text)
+pub is_keyword : (text : List ℕ) (at : ℕ) (k : Keyword) → IsWordEnd text at → take at text ≡ core_keyword_text k → IsKeyword text k (drop at text)
 is_keyword text at k w e = record { parts = sym (take-append-drop at text) ∙ ap (λ (x : List ℕ). x ++ drop at text) e; stops = w.stops }
 
 pub parts_stop : (k : Keyword) (p : Parts k) → Stops (parts_text k p)

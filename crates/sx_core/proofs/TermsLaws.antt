@@ -9,13 +9,15 @@ use Rattle.sx_term.specs.Core.{core, HasCore, NoDigit}
 use Rattle.sx_term.specs.Reading.{IsStuck, IsLongest, Want}
 use Rattle.std.specs.Prelude.{◌==◌}
 use Rattle.sx_term.specs.declared.core_error.CoreError.{CoreError}
-use Rattle.sx_term.specs.declared.core_error.CoreError.TheVariants.{BadCore, TooDeep as CoreDeep, Memory as NoRoom}
-use Rattle.sx_term.specs.Read.{StandsAt, IsRead}
+use Rattle.sx_term.specs.declared.core_error.CoreError.TheVariants.{BadCore, TooDeep as CoreDeep}
+use Rattle.sx_term.specs.declared.core_error.CoreError.TheVariants.{Memory as NoRoom}
+use Rattle.sx_term.specs.Read.{StandsAt, IsTermRead}
 use Rattle.sx_term.proofs.OneReading.{one_reading, read_again}
 use Rattle.sx_core.specs.declared.terms_row.RowError.{RowError}
 use Rattle.sx_core.specs.declared.terms_row.RowError.TheVariants.{Memory, Shape, TooDeep}
 use Rattle.sx_rules.specs.Deep.{AreShallow}
-use Rattle.sx_core.specs.TermsText.{row_error, terms_text, HaveCores, OneRead, OneRefused, RowRead, IsDeepRow, RefusedAs}
+use Rattle.sx_core.specs.TermsText.{row_error, terms_text, HaveCores, OneRead, OneRefused, RowRead}
+use Rattle.sx_core.specs.TermsText.{IsDeepRow, RefusedAs}
 
 head_is : (a b : ℕ) (x y : List ℕ) → a ∷ x ≡ b ∷ y → a ≡ b
 head_is a b x y e = cc
@@ -264,7 +266,7 @@ front_taken (x ∷ xs) b h e =
     let k : length xs ≤ length (x ∷ xs) - 1 = omega arith in
     ap (λ y. y ∷ xs) e ∙ ap (λ z. b ∷ z) (sym (take_all (length (x ∷ xs) - 1) xs k))
 
-pub one_refused : (bytes : List ℕ) (e : CoreError) → IsRead bytes 0 (Err e) → OneRefused (32 ∷ bytes) (row_error e)
+pub one_refused : (bytes : List ℕ) (e : CoreError) → IsTermRead bytes 0 (Err e) → OneRefused (32 ∷ bytes) (row_error e)
 one_refused bytes (BadCore place) h = one_bad bytes place (subst (λ (n : ℕ). IsStuck (Want 0) bytes n) (no_less place) h.1)
 one_refused bytes (CoreDeep depth) h = one_deep bytes h.1 h.0 h.2 depth h.3 h.4
 one_refused bytes NoRoom h = tt

@@ -12,15 +12,16 @@ use Rattle.sx_lines.specs.Words.{is_name, is_name_byte, after}
 use Rattle.sx_lines.proofs.BlankLaws.{is_first_blank, no_space-all}
 use Rattle.sx_lines.proofs.TextLaws.{NoBlank, name_no_blank}
 use Rattle.sx_core.specs.File.{words_text}
-use Rattle.sx_core.specs.Stated.{IsName, AreNames}
-use Rattle.sx_term.specs.Text.{IsMade}
+use Rattle.sx_core.specs.Stated.{IsName, AreStatedNames}
+use Rattle.sx_term.specs.Text.{IsTextMade}
 use Rattle.std.specs.Prelude.{Err, Option, Some, None, MatchOption}
 use Rattle.std.specs.Borrow.{Bor}
 use Rattle.std.specs.Option.{option_copied}
 use Rattle.sx_lines.proofs.WordLaws.{after_front, front_of}
 use Rattle.sx_term.specs.declared.text_error.TextError.{TextError}
 use Rattle.sx_term.specs.declared.text_error.TextError.TheVariants.{NotUtf8, Memory as NoRoom}
-use Rattle.sx_core.specs.Words.{text_error, Stops, IsWordEnd, IsWordRead, NoWord, IsNameRead, NameRefused, AreNamesRead, NamesRefused, NoName}
+use Rattle.sx_core.specs.Words.{core_text_error, Stops, IsWordEnd, IsWordRead, NoWord, IsNameRead}
+use Rattle.sx_core.specs.Words.{NameRefused, AreNamesRead, NamesRefused, NoName}
 use Rattle.sx_core.specs.declared.terms_row.RowError.{RowError}
 use Rattle.sx_core.specs.declared.terms_row.RowError.TheVariants.{Memory, Shape, TooDeep}
 use Rattle.sx_core.proofs.TermsLaws.{tail_is, nothing_is, front_taken}
@@ -114,7 +115,7 @@ abbrev pub AreWords : List (List ℕ) → Type 0
 AreWords [] = Unit {0}
 AreWords (word ∷ words) = NoSpace word × AreWords words
 
-pub names_words : (names : List (List ℕ)) → AreNames names → AreWords names
+pub names_words : (names : List (List ℕ)) → AreStatedNames names → AreWords names
 names_words [] h = tt
 names_words (name ∷ names) h = (name_space name h.0, names_words names h.1)
 
@@ -136,7 +137,7 @@ after_cases front text (Some r) e = front_of front text r.now (sym e)
 
 -- ---- one name
 
-pub no_text : (word : List ℕ) (e : TextError) → IsMade word (Err e) → NoName word (text_error e)
+pub no_text : (word : List ℕ) (e : TextError) → IsTextMade word (Err e) → NoName word (core_text_error e)
 no_text word (NotUtf8 place) h = λ k. h.0 (name_utf8 word k)
 no_text word NoRoom h = tt
 
@@ -164,24 +165,24 @@ words_snoc [] name rest = ap (λ (x : List ℕ). 32 ∷ (x ++ rest)) (append-nil
 words_snoc (n ∷ names) name rest =
     ap (λ (x : List ℕ). 32 ∷ x) (append_assoc n (words_text (names ++ name ∷ [])) rest ∙ ap (λ (x : List ℕ). n ++ x) (words_snoc names name rest) ∙ sym (append_assoc n (words_text names) (32 ∷ (name ++ rest))))
 
-pub names_snoc : (names : List (List ℕ)) (name : List ℕ) → AreNames names → IsName name → AreNames (names ++ name ∷ [])
+pub names_snoc : (names : List (List ℕ)) (name : List ℕ) → AreStatedNames names → IsName name → AreStatedNames (names ++ name ∷ [])
 names_snoc [] name h k = (k, tt)
 names_snoc (n ∷ names) name h k = (h.0, names_snoc names name h.1 k)
 
 -- the names so far, and what is left
 pub record NamesSoFar (text : List ℕ) (names : List (List ℕ)) (left : List ℕ) : Type 0 where
   pub parts : text ≡ words_text names ++ left
-  pub named : AreNames names
-  pub only : (all : List (List ℕ)) → AreNames all → text ≡ words_text all → (more : List (List ℕ)) × AreNames more × (left ≡ words_text more)
+  pub named : AreStatedNames names
+  pub only : (all : List (List ℕ)) → AreStatedNames all → text ≡ words_text all → (more : List (List ℕ)) × AreStatedNames more × (left ≡ words_text more)
 
 pub names_none : (text : List ℕ) (names : List (List ℕ)) → names ≡ [] → NamesSoFar text names text
 names_none text names e = record {
   parts = sym (ap (λ (x : List (List ℕ)). words_text x ++ text) e);
-  named = subst AreNames (sym e) tt;
+  named = subst AreStatedNames (sym e) tt;
   only = λ all h q. (all, h, q);
 }
 
-one_more : (left name rest : List ℕ) → IsNameRead left name rest → (more : List (List ℕ)) → AreNames more → left ≡ words_text more → (others : List (List ℕ)) × AreNames others × (rest ≡ words_text others)
+one_more : (left name rest : List ℕ) → IsNameRead left name rest → (more : List (List ℕ)) → AreStatedNames more → left ≡ words_text more → (others : List (List ℕ)) × AreStatedNames others × (rest ≡ words_text others)
 one_more left name rest r [] h e = absurd (nothing_is 32 (name ++ rest) (sym e ∙ r.parts))
 one_more left name rest r (m ∷ more) h e =
     (more, h.1, (one_word name m rest (words_text more) (name_space name r.named) (name_space m h.0) r.stops (words_stop more) (tail_is 32 32 (name ++ rest) (m ++ words_text more) (sym r.parts ∙ e))).1)
@@ -189,11 +190,11 @@ one_more left name rest r (m ∷ more) h e =
 pub names_more : (text : List ℕ) (names new : List (List ℕ)) (left name rest : List ℕ) → new ≡ names ++ name ∷ [] → NamesSoFar text names left → IsNameRead left name rest → NamesSoFar text new rest
 names_more text names new left name rest e s r = record {
   parts = s.parts ∙ ap (λ (x : List ℕ). words_text names ++ x) r.parts ∙ sym (words_snoc names name rest) ∙ sym (ap (λ (x : List (List ℕ)). words_text x ++ rest) e);
-  named = subst AreNames (sym e) (names_snoc names name s.named r.named);
+  named = subst AreStatedNames (sym e) (names_snoc names name s.named r.named);
   only = λ all h q. let w = s.only all h q in one_more left name rest r w.0 w.1 w.2;
 }
 
-none_left : (left : List ℕ) → (left ≡ [] → ⊥) → NameRefused left Shape → (more : List (List ℕ)) → AreNames more → left ≡ words_text more → ⊥
+none_left : (left : List ℕ) → (left ≡ [] → ⊥) → NameRefused left Shape → (more : List (List ℕ)) → AreStatedNames more → left ≡ words_text more → ⊥
 none_left left n r [] h e = n e
 none_left left n r (m ∷ more) h e = r m (words_text more) h.0 (words_stop more) e
 

@@ -2,15 +2,15 @@
 use Rattle.std.specs.Prelude.{◌≡◌, ℕ, List, [], ◌∷◌, ◌++◌, ◌⊎◌, map, Result, Ok, Err, codes}
 use Rattle.std.specs.Str.{IsUtf8}
 use Rattle.std.specs.Str.Lossy.{utf8_valid_len}
-use Rattle.sx_lines.specs.Lines.{Lines, over, line, lines_from, texts}
+use Rattle.sx_lines.specs.Lines.{Lines, over, line, lines_from, line_texts}
 use Rattle.sx_lines.specs.Reading.{kept}
-use Rattle.sx_lines.specs.Takes.{Takes, number_of}
-use Rattle.sx_rules.specs.Good.{IsRefused}
+use Rattle.sx_lines.specs.Takes.{Takes, line_number}
+use Rattle.sx_rules.specs.Good.{IsRuleSetRefused}
 use Rattle.sx_rules.specs.declared.error.RuleError.{RuleError}
 use Rattle.sx_rules.specs.declared.error.RuleError.TheVariants.{Memory as NoRoom}
 use Rattle.sx_core.specs.File.{CoreFile}
 use Rattle.sx_core.specs.Problem.{Problem, problem}
-use Rattle.sx_core.specs.Stated.{Says, States}
+use Rattle.sx_core.specs.Stated.{Says, StatesProblem}
 use Rattle.sx_core.specs.Table.{Row, row_text, rows_of, Has, NoKeyword}
 use Rattle.sx_core.specs.Fitting.{Context, IsFitting, IsDeepLine, Declare, AllFit, AreSorts}
 use Rattle.sx_core.specs.Order.{IsFront}
@@ -56,7 +56,7 @@ IsTooDeep c rows text depth = IsUsual rows × ((row : Row) → IsFitting c text 
     IsDeepLine c text depth
 
 -- the rule that begins after these rows is not ended
-pub record IsOpen (rows front : List Row) : Type 0 where
+pub record IsRuleOpen (rows front : List Row) : Type 0 where
   pub rule : Row
   pub inside : List Row
   pub parts : rows ≡ front ++ rule ∷ inside
@@ -67,9 +67,10 @@ pub record IsOpen (rows front : List Row) : Type 0 where
 abbrev pub IsMissing : Lines → List Row → ℕ → ℕ → Kind → Type 0
 IsMissing lines rows end number BadHead = (rows ≡ []) × (number ≡ end)
 IsMissing lines rows end number Unfinished =
-    (front : List Row) × (next : Lines) × IsOpen rows front ×
-    Takes (map row_text front) lines next × (number ≡ number_of next)
-IsMissing lines rows end number Main = IsUsual rows × ((front : List Row) → IsOpen rows front → ⊥) ×
+    (front : List Row) × (next : Lines) × IsRuleOpen rows front ×
+    Takes (map row_text front) lines next × (number ≡ line_number next)
+IsMissing lines rows end number Main = IsUsual rows × ((front : List Row) → IsRuleOpen rows front →
+    ⊥) ×
     (number ≡ end)
 IsMissing lines rows end number Directive = ⊥
 IsMissing lines rows end number Shape = ⊥
@@ -89,16 +90,16 @@ IsDeepAt rows c (line n text after more) number depth = (number ≡ n) × IsTooD
 
 -- the lines are those of this file
 abbrev pub AreLinesOf : Lines → CoreFile → Type 0
-AreLinesOf lines file = texts lines ≡ map row_text (rows_of file)
+AreLinesOf lines file = line_texts lines ≡ map row_text (rows_of file)
 
 -- the file says this, and this is why its rules are no rule set
 abbrev pub AreRulesRefused : CoreFile → RuleError → Type 0
 AreRulesRefused file NoRoom = ⊥
-AreRulesRefused file e = (p : Problem) × Says file p × IsRefused p.shapes p.forms p.rules e
+AreRulesRefused file e = (p : Problem) × Says file p × IsRuleSetRefused p.shapes p.forms p.rules e
 
 -- what reading the lines that are kept answers
 abbrev pub AreLinesAnswered : Lines → Result Problem CoreFileError → Type 0
-AreLinesAnswered lines (Ok p) = (file : CoreFile) × AreLinesOf lines file × States file p
+AreLinesAnswered lines (Ok p) = (file : CoreFile) × AreLinesOf lines file × StatesProblem file p
 AreLinesAnswered lines (Err Memory) = Unit {0}
 AreLinesAnswered lines (Err (NotUtf8 place)) = ⊥
 AreLinesAnswered lines (Err (Notation number kind)) =
@@ -110,9 +111,9 @@ AreLinesAnswered lines (Err (TooDeep number depth)) =
 AreLinesAnswered lines (Err (Rules e)) = (file : CoreFile) × AreLinesOf lines file ×
     AreRulesRefused file e
 
-abbrev pub AreLinesRead : Lines → Result CoreProblem CoreFileError → Type 0
-AreLinesRead lines (Ok p) = AreLinesAnswered lines (Ok (problem p))
-AreLinesRead lines (Err e) = AreLinesAnswered lines (Err e)
+abbrev pub AreCoreLinesRead : Lines → Result CoreProblem CoreFileError → Type 0
+AreCoreLinesRead lines (Ok p) = AreLinesAnswered lines (Ok (problem p))
+AreCoreLinesRead lines (Err e) = AreLinesAnswered lines (Err e)
 
 -- what the bytes of a core file state, or why they state nothing: lines that are blank or begin
 -- with `//` are not kept

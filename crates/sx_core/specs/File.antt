@@ -71,9 +71,9 @@ abbrev pub place_text : PlaceRow → List ℕ
 place_text place = role_text place.role ++ place.sort
 
 -- `typed` or `plain`
-abbrev pub kind_text : Bool → List ℕ
-kind_text true = codes "typed"
-kind_text false = codes "plain"
+abbrev pub core_kind_text : Bool → List ℕ
+core_kind_text true = codes "typed"
+core_kind_text false = codes "plain"
 
 -- a form's name and the core texts of terms
 abbrev pub judgement_text : JudgementRow → List ℕ
@@ -81,6 +81,7 @@ judgement_text row = words_text (row.form ∷ map core row.terms)
 
 -- the line of a declaration
 abbrev pub declaration_text : Declaration → List ℕ
-declaration_text (sort_line row) = codes "sort" ++ words_text (row.name ∷ kind_text row.typed ∷ [])
+declaration_text (sort_line row) = codes "sort" ++ words_text (row.name ∷ core_kind_text row.typed ∷
+    [])
 declaration_text (con_line row) = codes "con" ++ words_text (row.name ∷ row.sort ∷ row.kids)
 declaration_text (form_line row) = codes "form" ++ words_text (row.name ∷ map place_text row.places)

@@ -8,11 +8,11 @@ use Rattle.sx_rules.specs.Rules.{Judgement}
 use Rattle.sx_rules.specs.Views.{FormData}
 use Rattle.sx_lines.specs.Lines.{Lines, over, line}
 use Rattle.sx_core.specs.File.{SortRow, ConRow, FormRow, JudgementRow}
-use Rattle.sx_core.specs.Stated.{IsName, AreNames, AreCons, AreForms, NameSorts, AreReadable}
+use Rattle.sx_core.specs.Stated.{IsName, AreStatedNames, AreCons, AreForms, NameSorts, AreReadable}
 use Rattle.sx_core.specs.Stated.{IsJudgement, IsGoal}
 use Rattle.sx_core.specs.Rows.{AreNamed}
 use Rattle.sx_core.specs.Resolving.{sort_names, IsConOf, IsFormOf}
-use Rattle.sx_core.specs.Statements.{names_in, IsDeepJudgement, IsDeepGoal}
+use Rattle.sx_core.specs.Statements.{form_names, IsDeepJudgement, IsDeepGoal}
 use Rattle.sx_core.specs.TermsText.{IsDeepRow}
 use Rattle.sx_core.specs.Table.{Parts, Row, row_text, IsKeyword}
 use Rattle.sx_core.specs.declared.keyword.Keyword.{Keyword}
@@ -33,20 +33,21 @@ abbrev pub IsFull : List FormData → JudgementRow → Judgement → Type 0
 IsFull forms row j = IsName row.form × IsJudgement forms row j
 
 -- the parts are as stated
-abbrev pub Fits : Context → (k : Keyword) → Parts k → Type 0
-Fits c Head parts = Unit {0}
-Fits c Sort row = IsName row.name × (Contains c.taken row.name → ⊥)
-Fits c Con row = AreNames (row.name ∷ row.sort ∷ row.kids) × (Contains c.cons row.name → ⊥) ×
+abbrev pub PartsFit : Context → (k : Keyword) → Parts k → Type 0
+PartsFit c Head parts = Unit {0}
+PartsFit c Sort row = IsName row.name × (Contains c.taken row.name → ⊥)
+PartsFit c Con row = AreStatedNames (row.name ∷ row.sort ∷ row.kids) × (Contains c.cons row.name →
+    ⊥) ×
     (shape : Shape) × IsConOf c.sorts row shape
-Fits c Form row = IsName row.name × AreNamed row.places ×
-    (Contains (names_in c.forms) row.name → ⊥) × (form : FormData) × IsFormOf c.sorts row form
-Fits c Rule row = AreNames (row.name ∷ row.sorts) × (sorts : List SortOf) ×
+PartsFit c Form row = IsName row.name × AreNamed row.places ×
+    (Contains (form_names c.forms) row.name → ⊥) × (form : FormData) × IsFormOf c.sorts row form
+PartsFit c Rule row = AreStatedNames (row.name ∷ row.sorts) × (sorts : List SortOf) ×
     NameSorts c.sorts row.sorts sorts
-Fits c If row = (j : Judgement) × IsFull c.forms row j
-Fits c Not row = AreReadable (row.left ∷ row.right ∷ [])
-Fits c Then row = (j : Judgement) × IsFull c.forms row j
-Fits c End parts = Unit {0}
-Fits c Goal row = IsName row.form × (goal : GoalOf) × IsGoal c.shapes c.forms row goal
+PartsFit c If row = (j : Judgement) × IsFull c.forms row j
+PartsFit c Not row = AreReadable (row.left ∷ row.right ∷ [])
+PartsFit c Then row = (j : Judgement) × IsFull c.forms row j
+PartsFit c End parts = Unit {0}
+PartsFit c Goal row = IsName row.form × (goal : GoalOf) × IsGoal c.shapes c.forms row goal
 
 -- after this word the text has parts as stated, and then a core text of this depth, which is over
 -- 1,000
@@ -64,7 +65,7 @@ IsDeep c Goal rest depth = IsDeepGoal c.forms rest depth
 
 -- the line is that of this row, which is as stated
 abbrev pub IsFitting : Context → List ℕ → Row → Type 0
-IsFitting c text row = (text ≡ row_text row) × Fits c row.keyword row.parts
+IsFitting c text row = (text ≡ row_text row) × PartsFit c row.keyword row.parts
 
 -- a core text in the line is too deep
 abbrev pub IsDeepLine : Context → List ℕ → ℕ → Type 0
@@ -104,7 +105,7 @@ pub record Declare (all : List SortRow) (rows : List Row) (c : Context) : Type 0
 abbrev pub AllFit : List SortRow → List Row → List Row → Type 0
 AllFit all before [] = Unit {0}
 AllFit all before (row ∷ rows) =
-    ((c : Context) × Declare all before c × Fits c row.keyword row.parts) ×
+    ((c : Context) × Declare all before c × PartsFit c row.keyword row.parts) ×
     AllFit all (before ++ row ∷ []) rows
 
 -- the line is that of a sort whose name is not taken

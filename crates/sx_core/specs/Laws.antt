@@ -3,7 +3,7 @@ use Rattle.std.specs.Prelude.{◌≡◌, ◌≢◌, ℕ, List, Result, Err}
 use Rattle.sx_lines.specs.Lines.{Lines}
 use Rattle.sx_core.specs.File.{CoreFile}
 use Rattle.sx_core.specs.Problem.{Problem}
-use Rattle.sx_core.specs.Stated.{States}
+use Rattle.sx_core.specs.Stated.{StatesProblem}
 use Rattle.sx_core.specs.CoreRead.{AreLinesOf, IsCoreAnswer}
 use Rattle.sx_core.specs.declared.error.CoreFileError.{CoreFileError}
 use Rattle.sx_core.specs.declared.error.CoreFileError.TheVariants.{Memory}
@@ -11,7 +11,7 @@ use Rattle.sx_core.specs.declared.error.CoreFileError.TheVariants.{Memory}
 -- lines state one problem at most
 abbrev pub OneProblemIsStated : Type 0
 OneProblemIsStated = (lines : Lines) (f g : CoreFile) (p q : Problem) → AreLinesOf lines f →
-    AreLinesOf lines g → States f p → States g q → p ≡ q
+    AreLinesOf lines g → StatesProblem f p → StatesProblem g q → p ≡ q
 
 -- two answers for the bytes of a core file agree, out of memory aside
 abbrev pub OneCoreAnswer : Type 0

@@ -8,7 +8,7 @@ use Rattle.sx_term.specs.declared.sort.Sort.{Sort as SortOf}
 use Rattle.sx_rules.specs.Rules.{Premise, apart, holds}
 use Rattle.sx_rules.specs.Views.{FormData, NamedRule, form, goal, judgement, named, premise}
 use Rattle.sx_rules.specs.Modes.{Goal as GoalData}
-use Rattle.sx_rules.specs.Good.{IsRuleSet, IsRefused}
+use Rattle.sx_rules.specs.Good.{IsRuleSet, IsRuleSetRefused}
 use Rattle.sx_rules.specs.declared.error.RuleError.{RuleError}
 use Rattle.sx_rules.specs.declared.error.RuleError.TheVariants.{Memory as NoRules}
 use Rattle.sx_rules.specs.declared.rule.Goal.{Goal as GoalOf}
@@ -22,7 +22,7 @@ use Rattle.sx_core.specs.TermsText.{RefusedAs}
 use Rattle.sx_core.specs.Stated.{IsName}
 use Rattle.sx_core.specs.Table.{IsKeyword, NoKeyword, row, row_text}
 use Rattle.sx_core.specs.Fitting.{IsFitting, IsDeepLine, IsNewSort}
-use Rattle.sx_core.specs.Reading.{context, IsRead}
+use Rattle.sx_core.specs.Reading.{context, IsCoreLineRead}
 use Rattle.sx_core.specs.Order.{at_start, at_end, phase_of, step}
 use Rattle.sx_core.specs.declared.found.Found.{Found}
 use Rattle.sx_core.specs.declared.sort_table.SortTable.{SortTable}
@@ -99,8 +99,8 @@ pub record AddsForm (old new : Found) (one : FormData) : Type 0 where
   pub few : length (known_in new.forms) < 2 ^ 32
 
 -- what was found and the rules are as before
-abbrev pub IsKept : Reader → Reader → Type 0
-IsKept old new = (new.found ≡ old.found) × (new.rules ≡ old.rules)
+abbrev pub IsReaderKept : Reader → Reader → Type 0
+IsReaderKept old new = (new.found ≡ old.found) × (new.rules ≡ old.rules)
 
 -- the same rule with one more premise
 pub record AddsPremise (old new : Open) (p : Premise) : Type 0 where
@@ -135,11 +135,11 @@ MayBegin stage = (stage ≡ Declaring) ⊎ (stage ≡ Between)
 -- one more premise of the rule that is open
 abbrev pub TakesPremise : Reader → Premise → Reader → Type 0
 TakesPremise old one new = (o p : Open) × (old.stage ≡ Premising o) ×
-    (new.stage ≡ Premising p) × AddsPremise o p one × IsKept old new
+    (new.stage ≡ Premising p) × AddsPremise o p one × IsReaderKept old new
 
 -- the reading of this line of this number leads from one reader to the other
 abbrev pub Steps : Reader → ℕ → LineRead → Reader → Type 0
-Steps old number HeadRead new = (old.stage ≡ Start) × (new.stage ≡ Declaring) × IsKept old new
+Steps old number HeadRead new = (old.stage ≡ Start) × (new.stage ≡ Declaring) × IsReaderKept old new
 Steps old number (SortRead r) new = (old.stage ≡ Declaring) × (new.stage ≡ Declaring) ×
     (new.rules ≡ old.rules) × AddsSort old.found new.found r.name
 Steps old number (ConRead r con) new = (old.stage ≡ Declaring) × (new.stage ≡ Declaring) ×
@@ -148,16 +148,16 @@ Steps old number (FormRead f) new = (old.stage ≡ Declaring) × (new.stage ≡ 
     (new.rules ≡ old.rules) × AddsForm old.found new.found (form f)
 Steps old number (RuleRead name sorts) new =
     MayBegin old.stage × (o : Open) × (new.stage ≡ Premising o) × Begins o number name sorts.items ×
-    IsKept old new
+    IsReaderKept old new
 Steps old number (IfRead j) new = TakesPremise old (holds (judgement j)) new
 Steps old number (NotRead left right) new = TakesPremise old (apart (tree left) (tree right)) new
 Steps old number (ThenRead j) new = (o : Open) × (old.stage ≡ Premising o) ×
-    (new.stage ≡ Concluded o j) × IsKept old new
+    (new.stage ≡ Concluded o j) × IsReaderKept old new
 Steps old number EndRead new =
     (o : Open) × (j : JudgementOf) × (old.stage ≡ Concluded o j) × (new.stage ≡ Between) ×
     (new.found ≡ old.found)
     × (map named new.rules.items ≡ map named old.rules.items ++ whole_rule o j ∷ [])
-Steps old number (GoalRead g) new = MayBegin old.stage × (new.stage ≡ Over g) × IsKept old new
+Steps old number (GoalRead g) new = MayBegin old.stage × (new.stage ≡ Over g) × IsReaderKept old new
 
 -- such a line may not stand there
 abbrev pub StepRefused : Reader → Keyword → StepError → Type 0
@@ -177,7 +177,7 @@ IsBadNext old text BadShape =
     RefusedAs (IsFitting (context old.found) text) (IsDeepLine (context old.found) text) NoRow
 IsBadNext old text BadOrder =
     (phase_of old.stage ≡ at_end)
-    ⊎ (IsUsual old × (x : LineRead) × IsRead (context old.found) text x ×
+    ⊎ (IsUsual old × (x : LineRead) × IsCoreLineRead (context old.found) text x ×
     (step (phase_of old.stage) (keyword_of x) ≡ None))
 IsBadNext old text Unfinished = ⊥
 IsBadNext old text Main = ⊥
@@ -185,7 +185,7 @@ IsBadNext old text Variable = ⊥
 
 -- the line with this number and text is read
 abbrev pub NextRead : Reader → ℕ → List ℕ → Reader → Type 0
-NextRead old number text new = (x : LineRead) × IsRead (context old.found) text x ×
+NextRead old number text new = (x : LineRead) × IsCoreLineRead (context old.found) text x ×
     Steps old number x new
 
 -- the line with this number and text is refused
@@ -228,7 +228,7 @@ rule_error NoRules = Memory
 rule_error e = Rules e
 
 -- the problem has what was found, these rules, which are a rule set, and this goal
-pub record IsProblem (found : Found) (rules : List NamedRule) (g : GoalData)
+pub record IsCoreProblem (found : Found) (rules : List NamedRule) (g : GoalData)
     (p : Problem) : Type 0 where
   pub sorts : p.sorts ≡ map (λ row. row.name) (rows_in found.sorts)
   pub cons : p.cons ≡ found.cons.items
@@ -239,19 +239,20 @@ pub record IsProblem (found : Found) (rules : List NamedRule) (g : GoalData)
   pub rule_set : IsRuleSet (shapes found.shapes) (known_in found.forms) rules
 
 -- what comes of the goal: the problem, or why the rules are no rule set
-abbrev pub IsMadeOf : Found → List NamedRule → GoalData → Result CoreProblem CoreFileError → Type 0
-IsMadeOf found rules g (Ok p) = IsProblem found rules g (problem p)
-IsMadeOf found rules g (Err Memory) = Unit {0}
-IsMadeOf found rules g (Err (NotUtf8 place)) = ⊥
-IsMadeOf found rules g (Err (Notation l kind)) = ⊥
-IsMadeOf found rules g (Err (TooDeep l depth)) = ⊥
-IsMadeOf found rules g (Err (Rules e)) = (e ≡ NoRules → ⊥) ×
-    IsRefused (shapes found.shapes) (known_in found.forms) rules e
+abbrev pub IsProblemMade : Found → List NamedRule → GoalData → Result CoreProblem CoreFileError →
+    Type 0
+IsProblemMade found rules g (Ok p) = IsCoreProblem found rules g (problem p)
+IsProblemMade found rules g (Err Memory) = Unit {0}
+IsProblemMade found rules g (Err (NotUtf8 place)) = ⊥
+IsProblemMade found rules g (Err (Notation l kind)) = ⊥
+IsProblemMade found rules g (Err (TooDeep l depth)) = ⊥
+IsProblemMade found rules g (Err (Rules e)) = (e ≡ NoRules → ⊥) ×
+    IsRuleSetRefused (shapes found.shapes) (known_in found.forms) rules e
 
 -- what comes of a reader when no line is left: this is the number that a further line would have
 abbrev pub IsEnded : Reader → Stage → ℕ → Result CoreProblem CoreFileError → Type 0
 IsEnded r stage number (Ok p) = (g : GoalOf) × (stage ≡ Over g) ×
-    IsProblem r.found (map named r.rules.items) (goal g) (problem p)
+    IsCoreProblem r.found (map named r.rules.items) (goal g) (problem p)
 IsEnded r stage number (Err Memory) = Unit {0}
 IsEnded r stage number (Err (NotUtf8 place)) = ⊥
 IsEnded r stage number (Err (Notation l BadHead)) = (stage ≡ Start) × (l ≡ number)
@@ -266,10 +267,10 @@ IsEnded r stage number (Err (Notation l Variable)) = ⊥
 IsEnded r stage number (Err (TooDeep l depth)) = ⊥
 IsEnded r stage number (Err (Rules e)) =
     (g : GoalOf) × (stage ≡ Over g) × (e ≡ NoRules → ⊥) ×
-    IsRefused (shapes r.found.shapes) (known_in r.found.forms) (map named r.rules.items) e
+    IsRuleSetRefused (shapes r.found.shapes) (known_in r.found.forms) (map named r.rules.items) e
 
 -- a reader before the first line of a file with these sorts
-pub record IsBegun (sorts : SortTable) (r : Reader) : Type 0 where
+pub record IsReaderBegun (sorts : SortTable) (r : Reader) : Type 0 where
   pub stage : r.stage ≡ Start
   pub rules : r.rules.items ≡ []
   pub sorts_are : r.found.sorts ≡ sorts

@@ -34,32 +34,32 @@ context found = record {
 }
 
 -- the tables find each name
-pub record IsFound (found : Found) : Type 0 where
+pub record AreNamesFound (found : Found) : Type 0 where
   pub sorts : IsSortTable found.sorts
   pub forms : IsFormTable found.forms
   pub con_names : found.con_names ≡ found.cons.items
 
 -- the line is that of what was read
-abbrev pub IsRead : Context → List ℕ → LineRead → Type 0
-IsRead c text HeadRead = IsFitting c text (row Head tt)
-IsRead c text (SortRead r) = IsFitting c text (row Sort (sort_row r))
-IsRead c text (ConRead r con) = IsFitting c text (row Con (con_row r)) ×
+abbrev pub IsCoreLineRead : Context → List ℕ → LineRead → Type 0
+IsCoreLineRead c text HeadRead = IsFitting c text (row Head tt)
+IsCoreLineRead c text (SortRead r) = IsFitting c text (row Sort (sort_row r))
+IsCoreLineRead c text (ConRead r con) = IsFitting c text (row Con (con_row r)) ×
     IsConOf c.sorts (con_row r) (shape con)
-IsRead c text (FormRead f) = (r : FormRow) × IsFitting c text (row Form r) ×
+IsCoreLineRead c text (FormRead f) = (r : FormRow) × IsFitting c text (row Form r) ×
     IsFormOf c.sorts r (form f)
-IsRead c text (RuleRead name sorts) = (r : RuleRow) × IsFitting c text (row Rule r) ×
+IsCoreLineRead c text (RuleRead name sorts) = (r : RuleRow) × IsFitting c text (row Rule r) ×
     (r.name ≡ name) × NameSorts c.sorts r.sorts sorts.items
-IsRead c text (IfRead j) = (r : JudgementRow) × IsFitting c text (row If r) ×
+IsCoreLineRead c text (IfRead j) = (r : JudgementRow) × IsFitting c text (row If r) ×
     IsFull c.forms r (judgement j)
-IsRead c text (NotRead left right) = IsFitting c text
+IsCoreLineRead c text (NotRead left right) = IsFitting c text
     (row Not (record { left = tree left; right = tree right }))
-IsRead c text (ThenRead j) = (r : JudgementRow) × IsFitting c text (row Then r) ×
+IsCoreLineRead c text (ThenRead j) = (r : JudgementRow) × IsFitting c text (row Then r) ×
     IsFull c.forms r (judgement j)
-IsRead c text EndRead = IsFitting c text (row End tt)
-IsRead c text (GoalRead g) = (r : JudgementRow) × IsFitting c text (row Goal r) ×
+IsCoreLineRead c text EndRead = IsFitting c text (row End tt)
+IsCoreLineRead c text (GoalRead g) = (r : JudgementRow) × IsFitting c text (row Goal r) ×
     IsGoal c.shapes c.forms r (goal g)
 
 -- what a line is read as in this context, or why it is refused
 abbrev pub IsLineAnswer : Context → List ℕ → Result LineRead RowError → Type 0
 IsLineAnswer c text result =
-    MatchResult result (IsRead c text) (RefusedAs (IsFitting c text) (IsDeepLine c text))
+    MatchResult result (IsCoreLineRead c text) (RefusedAs (IsFitting c text) (IsDeepLine c text))

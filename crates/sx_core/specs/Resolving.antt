@@ -4,7 +4,8 @@ use Rattle.sx_term.specs.Sorts.{Shape}
 use Rattle.sx_rules.specs.declared.rule.Place.{Place}
 use Rattle.sx_rules.specs.Views.{FormData}
 use Rattle.sx_core.specs.File.{SortRow, ConRow, PlaceRow, FormRow}
-use Rattle.sx_core.specs.Stated.{NamesSort, NameSorts, MayHave, MayStandAt, ArePlaces, AreDistinct}
+use Rattle.sx_core.specs.Stated.{NamesSort, NameSorts, MayHave, MayStandAt, AreStatedPlaces}
+use Rattle.sx_lines.specs.Distinct.{AreTextsDistinct}
 use Rattle.sx_core.specs.Stated.{subject_count}
 use Rattle.sx_core.specs.Rows.{sort_row}
 use Rattle.sx_core.specs.declared.sort_table.SortTable.{SortTable}
@@ -22,14 +23,14 @@ rows_in t = map sort_row t.rows.items
 -- the table finds each sort by its name, no name stands twice, and each sort has a number
 pub record IsSortTable (t : SortTable) : Type 0 where
   pub names : t.names ≡ sort_names (rows_in t)
-  pub distinct : AreDistinct (sort_names (rows_in t))
+  pub distinct : AreTextsDistinct (sort_names (rows_in t))
   pub few : length (rows_in t) + 3 < 2 ^ 32
 
 -- memory is lacking, or no value is as it should be
-abbrev pub NoneIs : {A : Type 0} → (A → Type 0) → RowError → Type 0
-NoneIs {A} Is Memory = Unit {0}
-NoneIs {A} Is Bad = (x : A) → Is x → ⊥
-NoneIs {A} Is (TooDeep depth) = ⊥
+abbrev pub NoCoreRowIs : {A : Type 0} → (A → Type 0) → RowError → Type 0
+NoCoreRowIs {A} Is Memory = Unit {0}
+NoCoreRowIs {A} Is Bad = (x : A) → Is x → ⊥
+NoCoreRowIs {A} Is (TooDeep depth) = ⊥
 
 -- the row states this constructor
 pub record IsConOf (rows : List SortRow) (con : ConRow) (shape : Shape) : Type 0 where
@@ -46,5 +47,5 @@ pub record IsPlaceOf (rows : List SortRow) (row : PlaceRow) (place : Place) : Ty
 -- the row states this form
 pub record IsFormOf (rows : List SortRow) (row : FormRow) (form : FormData) : Type 0 where
   pub name : row.name ≡ form.name
-  pub places : ArePlaces rows row.places form.places
+  pub places : AreStatedPlaces rows row.places form.places
   pub one : subject_count form.places ≤ 1

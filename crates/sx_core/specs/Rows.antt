@@ -3,9 +3,9 @@ use Rattle.std.specs.Prelude.{◌≡◌, ℕ, Bool, List, [], ◌∷◌, ◌++�
 use Rattle.sx_lines.specs.Bytes.{space}
 use Rattle.sx_term.specs.declared.role.Role.{Role}
 use Rattle.sx_core.specs.File.{SortRow, ConRow, PlaceRow, FormRow, Declaration, sort_line, con_line}
-use Rattle.sx_core.specs.File.{form_line, role_text, place_text, kind_text, words_text}
+use Rattle.sx_core.specs.File.{form_line, role_text, place_text, core_kind_text, words_text}
 use Rattle.sx_core.specs.File.{declaration_text}
-use Rattle.sx_core.specs.Stated.{IsName, AreNames}
+use Rattle.sx_core.specs.Stated.{IsName, AreStatedNames}
 use Rattle.sx_core.specs.Words.{Stops}
 use Rattle.sx_core.specs.declared.rows.SortRow.{SortRow as SortRowOf}
 use Rattle.sx_core.specs.declared.rows.ConRow.{ConRow as ConRowOf}
@@ -35,11 +35,11 @@ AreNamed (place ∷ places) = IsName place.sort × AreNamed places
 -- each word of the declaration is a name
 abbrev pub IsSpelled : Declaration → Type 0
 IsSpelled (sort_line row) = IsName row.name
-IsSpelled (con_line row) = AreNames (row.name ∷ row.sort ∷ row.kids)
+IsSpelled (con_line row) = AreStatedNames (row.name ∷ row.sort ∷ row.kids)
 IsSpelled (form_line row) = IsName row.name × AreNamed row.places
 
 -- the line of a declaration
-pub record IsLineOf (text : List ℕ) (d : Declaration) : Type 0 where
+pub record IsDeclarationLine (text : List ℕ) (d : Declaration) : Type 0 where
   pub line : text ≡ declaration_text d
   pub spelled : IsSpelled d
 
@@ -63,7 +63,7 @@ NoPlaceWord word (TooDeep depth) = ⊥
 
 -- a blank, and `typed` or `plain`
 abbrev pub IsKind : List ℕ → Bool → Type 0
-IsKind text typed = text ≡ space ∷ kind_text typed
+IsKind text typed = text ≡ space ∷ core_kind_text typed
 
 -- neither of these
 abbrev pub NoKind : List ℕ → Type 0
@@ -95,5 +95,5 @@ PlacesRefused text (TooDeep depth) = ⊥
 -- after this front the line is that of no such row
 abbrev pub NoRow : {R : Type 0} → (R → Declaration) → List ℕ → List ℕ → RowError → Type 0
 NoRow {R} line_of front text Memory = Unit {0}
-NoRow {R} line_of front text Shape = (row : R) → IsLineOf (front ++ text) (line_of row) → ⊥
+NoRow {R} line_of front text Shape = (row : R) → IsDeclarationLine (front ++ text) (line_of row) → ⊥
 NoRow {R} line_of front text (TooDeep depth) = ⊥

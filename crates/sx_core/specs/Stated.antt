@@ -21,6 +21,7 @@ use Rattle.sx_core.specs.File.{SortRow, ConRow, PlaceRow, FormRow, Declaration, 
 use Rattle.sx_core.specs.File.{form_line, JudgementRow, PremiseRow, if_line, not_line, RuleRows}
 use Rattle.sx_core.specs.File.{CoreFile}
 use Rattle.sx_term.specs.Limits.{most_depth}
+use Rattle.sx_lines.specs.Distinct.{AreTextsDistinct}
 
 -- the sort lines among the declarations
 abbrev pub sort_rows : List Declaration → List SortRow
@@ -48,14 +49,9 @@ abbrev pub IsName : List ℕ → Type 0
 IsName name = IsTrue (is_name true name)
 
 -- each is a name
-abbrev pub AreNames : List (List ℕ) → Type 0
-AreNames [] = Unit {0}
-AreNames (name ∷ names) = IsName name × AreNames names
-
--- no name stands twice
-abbrev pub AreDistinct : List (List ℕ) → Type 0
-AreDistinct [] = Unit {0}
-AreDistinct (name ∷ names) = (Contains names name → ⊥) × AreDistinct names
+abbrev pub AreStatedNames : List (List ℕ) → Type 0
+AreStatedNames [] = Unit {0}
+AreStatedNames (name ∷ names) = IsName name × AreStatedNames names
 
 -- the sort that a name stands for: a lexical one, or that of the sort line with its number
 abbrev pub NamesSort : List SortRow → List ℕ → Sort → Type 0
@@ -94,12 +90,12 @@ MayStandAt Sub sort = (n : ℕ) × (sort ≡ Typed n)
 MayStandAt Out sort = IsUntypedSort sort
 
 -- the lines state these places
-abbrev pub ArePlaces : List SortRow → List PlaceRow → List Place → Type 0
-ArePlaces rows [] [] = Unit {0}
-ArePlaces rows (row ∷ more) (place ∷ places) =
+abbrev pub AreStatedPlaces : List SortRow → List PlaceRow → List Place → Type 0
+AreStatedPlaces rows [] [] = Unit {0}
+AreStatedPlaces rows (row ∷ more) (place ∷ places) =
     (row.role ≡ place.role) × NamesSort rows row.sort place.sort ×
-    MayStandAt place.role place.sort × ArePlaces rows more places
-ArePlaces rows _ _ = ⊥
+    MayStandAt place.role place.sort × AreStatedPlaces rows more places
+AreStatedPlaces rows _ _ = ⊥
 
 -- how many of the places are subjects
 abbrev pub one_when : Bool → ℕ
@@ -114,7 +110,7 @@ subject_count (place ∷ places) = one_when (is_sub place.role) + subject_count 
 abbrev pub AreForms : List SortRow → List FormRow → List FormData → Type 0
 AreForms rows [] [] = Unit {0}
 AreForms rows (row ∷ more) (form ∷ forms) =
-    (row.name ≡ form.name) × ArePlaces rows row.places form.places ×
+    (row.name ≡ form.name) × AreStatedPlaces rows row.places form.places ×
     (subject_count form.places ≤ 1) × AreForms rows more forms
 AreForms rows _ _ = ⊥
 
@@ -173,18 +169,18 @@ pub record IsGoal (shapes : List Shape) (forms : List FormData) (row : Judgement
 -- the file says this, where its rules may be no rule set
 pub record Says (file : CoreFile) (p : Problem) : Type 0 where
   pub sorts : p.sorts ≡ map (λ row. row.name) (sort_rows file.declarations)
-  pub sort_names : AreNames p.sorts
-  pub sorts_distinct : AreDistinct (codes "id" ∷ codes "num" ∷ codes "str" ∷ p.sorts)
+  pub sort_names : AreStatedNames p.sorts
+  pub sorts_distinct : AreTextsDistinct (codes "id" ∷ codes "num" ∷ codes "str" ∷ p.sorts)
   pub cons : AreCons (sort_rows file.declarations) (con_rows file.declarations) p.cons p.shapes
-  pub con_names : AreNames p.cons
-  pub cons_distinct : AreDistinct p.cons
+  pub con_names : AreStatedNames p.cons
+  pub cons_distinct : AreTextsDistinct p.cons
   pub forms : AreForms (sort_rows file.declarations) (form_rows file.declarations) p.forms
-  pub form_names : AreNames (map (λ form. form.name) p.forms)
-  pub forms_distinct : AreDistinct (map (λ form. form.name) p.forms)
+  pub form_names : AreStatedNames (map (λ form. form.name) p.forms)
+  pub forms_distinct : AreTextsDistinct (map (λ form. form.name) p.forms)
   pub rules : AreRules (sort_rows file.declarations) p.forms file.rules p.rules
   pub goal : IsGoal p.shapes p.forms file.goal p.goal
 
 -- the file states this problem
-pub record States (file : CoreFile) (p : Problem) : Type 0 where
+pub record StatesProblem (file : CoreFile) (p : Problem) : Type 0 where
   pub says : Says file p
   pub rule_set : IsRuleSet p.shapes p.forms p.rules

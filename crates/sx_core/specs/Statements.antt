@@ -8,7 +8,8 @@ use Rattle.sx_rules.specs.Modes.{Goal, inputs}
 use Rattle.sx_rules.specs.Rules.{Judgement}
 use Rattle.sx_rules.specs.Views.{FormData, forms, places_at, modes_of, sorts_of}
 use Rattle.sx_core.specs.File.{JudgementRow, judgement_text}
-use Rattle.sx_core.specs.Stated.{IsName, NamesForm, IsJudgement, AreDistinct, subject_count}
+use Rattle.sx_core.specs.Stated.{IsName, NamesForm, IsJudgement, subject_count}
+use Rattle.sx_lines.specs.Distinct.{AreTextsDistinct}
 use Rattle.sx_core.specs.TermsText.{RowRead, IsDeepRow}
 use Rattle.sx_core.specs.declared.terms_row.RowError.{RowError}
 use Rattle.sx_core.specs.declared.terms_row.RowError.TheVariants.{Memory, Shape as Bad, TooDeep}
@@ -19,13 +20,13 @@ use Rattle.sx_core.specs.declared.form_table.FormTable.{FormTable}
 abbrev pub known_in : FormTable → List FormData
 known_in t = forms t.forms.items
 
-abbrev pub names_in : List FormData → List (List ℕ)
-names_in known = map (λ form. form.name) known
+abbrev pub form_names : List FormData → List (List ℕ)
+form_names known = map (λ form. form.name) known
 
 -- the table finds each form by its name, no name stands twice, and each form has a number
 pub record IsFormTable (t : FormTable) : Type 0 where
-  pub names : t.names ≡ names_in (known_in t)
-  pub distinct : AreDistinct (names_in (known_in t))
+  pub names : t.names ≡ form_names (known_in t)
+  pub distinct : AreTextsDistinct (form_names (known_in t))
   pub few : length (known_in t) < 2 ^ 32
 
 -- a blank, the name of this form, and the rest

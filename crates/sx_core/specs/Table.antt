@@ -5,24 +5,24 @@ use Rattle.sx_term.specs.Tree.{Tree}
 use Rattle.sx_term.specs.Core.{core}
 use Rattle.sx_core.specs.File.{SortRow, ConRow, FormRow, Declaration, sort_line, con_line}
 use Rattle.sx_core.specs.File.{form_line, JudgementRow, PremiseRow, if_line, not_line, RuleRows}
-use Rattle.sx_core.specs.File.{CoreFile, words_text, kind_text, place_text, judgement_text}
+use Rattle.sx_core.specs.File.{CoreFile, words_text, core_kind_text, place_text, judgement_text}
 use Rattle.sx_core.specs.Words.{Stops}
 use Rattle.sx_core.specs.declared.keyword.Keyword.{Keyword}
 use Rattle.sx_core.specs.declared.keyword.Keyword.TheVariants.{Head, Sort, Con, Form, Rule, If, Not}
 use Rattle.sx_core.specs.declared.keyword.Keyword.TheVariants.{Then, End, Goal}
 
 -- the words
-abbrev pub keyword_text : Keyword → List ℕ
-keyword_text Head = codes "sxcore"
-keyword_text Sort = codes "sort"
-keyword_text Con = codes "con"
-keyword_text Form = codes "form"
-keyword_text Rule = codes "rule"
-keyword_text If = codes "if"
-keyword_text Not = codes "not"
-keyword_text Then = codes "then"
-keyword_text End = codes "end"
-keyword_text Goal = codes "goal"
+abbrev pub core_keyword_text : Keyword → List ℕ
+core_keyword_text Head = codes "sxcore"
+core_keyword_text Sort = codes "sort"
+core_keyword_text Con = codes "con"
+core_keyword_text Form = codes "form"
+core_keyword_text Rule = codes "rule"
+core_keyword_text If = codes "if"
+core_keyword_text Not = codes "not"
+core_keyword_text Then = codes "then"
+core_keyword_text End = codes "end"
+core_keyword_text Goal = codes "goal"
 
 -- a rule's name, and the names of its variables' sorts
 pub record RuleRow : Type 0 where
@@ -50,7 +50,7 @@ Parts Goal = JudgementRow
 -- the parts as they are spelled, each after one blank
 abbrev pub parts_text : (k : Keyword) → Parts k → List ℕ
 parts_text Head parts = codes " 1"
-parts_text Sort row = words_text (row.name ∷ kind_text row.typed ∷ [])
+parts_text Sort row = words_text (row.name ∷ core_kind_text row.typed ∷ [])
 parts_text Con row = words_text (row.name ∷ row.sort ∷ row.kids)
 parts_text Form row = words_text (row.name ∷ map place_text row.places)
 parts_text Rule row = words_text (row.name ∷ row.sorts)
@@ -67,7 +67,7 @@ pub record Row : Type 0 where
 
 -- the line of a row
 abbrev pub row_text : Row → List ℕ
-row_text row = keyword_text row.keyword ++ parts_text row.keyword row.parts
+row_text row = core_keyword_text row.keyword ++ parts_text row.keyword row.parts
 
 -- a row with this word
 abbrev pub row : (k : Keyword) → Parts k → Row
@@ -99,7 +99,7 @@ rows_of file =
 
 -- the line begins with this word, and a blank or nothing comes after it
 pub record IsKeyword (text : List ℕ) (k : Keyword) (rest : List ℕ) : Type 0 where
-  pub parts : text ≡ keyword_text k ++ rest
+  pub parts : text ≡ core_keyword_text k ++ rest
   pub stops : Stops rest
 
 -- the line begins with none of the words

@@ -5,7 +5,7 @@ use Rattle.sx_term.specs.declared.text_error.TextError.TheVariants.{NotUtf8, Mem
 use Rattle.sx_lines.specs.Bytes.{space}
 use Rattle.sx_lines.specs.Blanks.{NoSpace}
 use Rattle.sx_core.specs.File.{words_text}
-use Rattle.sx_core.specs.Stated.{IsName, AreNames}
+use Rattle.sx_core.specs.Stated.{IsName, AreStatedNames}
 use Rattle.sx_core.specs.declared.terms_row.RowError.{RowError}
 use Rattle.sx_core.specs.declared.terms_row.RowError.TheVariants.{Memory, Shape, TooDeep}
 
@@ -50,17 +50,18 @@ NoName word Shape = IsName word → ⊥
 NoName word (TooDeep depth) = ⊥
 
 -- what it is in a row that bytes are no text
-abbrev pub text_error : TextError → RowError
-text_error (NotUtf8 place) = Shape
-text_error NoRoom = Memory
+abbrev pub core_text_error : TextError → RowError
+core_text_error (NotUtf8 place) = Shape
+core_text_error NoRoom = Memory
 
 -- just these names
 pub record AreNamesRead (text : List ℕ) (names : List (List ℕ)) : Type 0 where
   pub parts : text ≡ words_text names
-  pub named : AreNames names
+  pub named : AreStatedNames names
 
 -- there are no names alone
 abbrev pub NamesRefused : List ℕ → RowError → Type 0
 NamesRefused text Memory = Unit {0}
-NamesRefused text Shape = (names : List (List ℕ)) → AreNames names → text ≡ words_text names → ⊥
+NamesRefused text Shape = (names : List (List ℕ)) → AreStatedNames names → text ≡ words_text names →
+    ⊥
 NamesRefused text (TooDeep depth) = ⊥

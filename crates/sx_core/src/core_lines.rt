@@ -4,11 +4,11 @@ ghost use Rattle.std.specs.Prelude.{[], map, IfOk};
 ghost use Rattle.sx_lines.specs.Left.{left as left_of};
 ghost use Rattle.sx_lines.specs.Reading.{kept};
 ghost use Rattle.sx_term.specs.Shapes.{shapes};
-ghost use Rattle.sx_core.specs.Stated.{AreNames};
+ghost use Rattle.sx_core.specs.Stated.{AreStatedNames};
 ghost use Rattle.sx_core.specs.Resolving.{sort_names, rows_in, IsSortTable};
 ghost use Rattle.sx_core.specs.Fitting.{AreSorts};
-ghost use Rattle.sx_core.specs.CoreRead.{AreLinesRead};
-ghost use Rattle.sx_core.specs.Machine.{IsBegun};
+ghost use Rattle.sx_core.specs.CoreRead.{AreCoreLinesRead};
+ghost use Rattle.sx_core.specs.Machine.{IsReaderBegun};
 
 use crate::error::CoreFileError;
 use crate::finish::finish;
@@ -26,7 +26,7 @@ use sx_term::{Names, NoMemory, Shapes};
 
 /// The reader before the first line of a file with these sorts.
 fn begin(alloc: Global, sorts: SortTable) -> Result<Reader, NoMemory>
-    ensures { IfOk result (λ r. IsBegun sorts r) }
+    ensures { IfOk result (λ r. IsReaderBegun sorts r) }
 {
     let taken = match lexical_names(alloc) {
         Ok(names) => names,
@@ -62,9 +62,9 @@ pub(crate) fn read_rows(
     rest: Rest,
 ) -> Result<CoreProblem, CoreFileError>
     requires table { IsSortTable sorts }
-    requires named { AreNames (map (λ row. row.name) (rows_in sorts)) }
+    requires named { AreStatedNames (map (λ row. row.name) (rows_in sorts)) }
     requires all { AreSorts [] (kept (left_of rest)) (rows_in sorts) }
-    ensures { AreLinesRead (kept (left_of rest.entry)) result }
+    ensures { AreCoreLinesRead (kept (left_of rest.entry)) result }
 {
     let mut reader = begin(alloc, sorts)?;
     let mut left = rest;

@@ -5,7 +5,7 @@ ghost use Rattle.sx_rules.specs.Deep.{RulesAreShallow};
 ghost use Rattle.sx_rules.specs.Views as view;
 ghost use Rattle.sx_core.specs.Rows.{sort_row};
 ghost use Rattle.sx_core.specs.Machine as spec;
-ghost use Rattle.sx_core.specs.Machine.{IsMadeOf, IsEnded};
+ghost use Rattle.sx_core.specs.Machine.{IsProblemMade, IsEnded};
 
 use crate::error::{CoreFileError, bad_line};
 use crate::form_table::FormTable;
@@ -58,7 +58,7 @@ fn make_problem(
     goal: Goal,
 ) -> Result<CoreProblem, CoreFileError>
     requires { RulesAreShallow (map view.rule rules.items) }
-    ensures { IsMadeOf found (map view.named rules.items) (view.goal goal) result }
+    ensures { IsProblemMade found (map view.named rules.items) (view.goal goal) result }
 {
     let Found {
         sorts,

@@ -1,7 +1,7 @@
 //! The words that begin the lines of a core file.
 
 ghost use Rattle.std.specs.Prelude.{◌≡◌, List, ℕ, MatchOption};
-ghost use Rattle.sx_core.specs.Table.{keyword_text, IsKeyword, NoKeyword};
+ghost use Rattle.sx_core.specs.Table.{core_keyword_text, IsKeyword, NoKeyword};
 ghost use Rattle.sx_core.specs.declared.keyword.Keyword.{Keyword as KeywordOf};
 
 use crate::words::word_len;
@@ -23,8 +23,8 @@ pub(crate) enum Keyword {
 
 /// The word that begins a line, where it is one.
 fn keyword_of(word: &[u8]) -> Option<Keyword>
-    ensures { MatchOption result ((k : KeywordOf) → word.now ≡ keyword_text k → ⊥)
-        (λ k. word.now ≡ keyword_text k) }
+    ensures { MatchOption result ((k : KeywordOf) → word.now ≡ core_keyword_text k → ⊥)
+        (λ k. word.now ≡ core_keyword_text k) }
 {
     if word == b"sxcore".as_slice() {
         return Some(Keyword::Head);

@@ -2,7 +2,7 @@
 
 ghost use Rattle.std.specs.Prelude.{◌≡◌, ℕ, List, codes};
 ghost use Rattle.sx_core.specs.Table.{IsKeyword};
-ghost use Rattle.sx_core.specs.Reading.{context, IsFound, IsLineAnswer};
+ghost use Rattle.sx_core.specs.Reading.{context, AreNamesFound, IsLineAnswer};
 ghost use Rattle.sx_core.specs.declared.keyword.Keyword.TheVariants as keyword;
 
 use crate::found::Found;
@@ -28,7 +28,7 @@ fn head_line(found: &Found, text: &[u8], rest: &[u8]) -> Result<LineRead, RowErr
 
 /// The line of a sort, after its first word.
 fn sort_line(alloc: Global, found: &Found, text: &[u8], rest: &[u8]) -> Result<LineRead, RowError>
-    requires found { IsFound found.now }
+    requires found { AreNamesFound found.now }
     requires line { IsKeyword text.now keyword.Sort rest.now }
     ensures { IsLineAnswer (context found.now) text.now result }
 {
@@ -45,7 +45,7 @@ fn sort_line(alloc: Global, found: &Found, text: &[u8], rest: &[u8]) -> Result<L
 
 /// The line of a constructor, after its first word.
 fn con_line(alloc: Global, found: &Found, text: &[u8], rest: &[u8]) -> Result<LineRead, RowError>
-    requires found { IsFound found.now }
+    requires found { AreNamesFound found.now }
     requires line { IsKeyword text.now keyword.Con rest.now }
     ensures { IsLineAnswer (context found.now) text.now result }
 {
@@ -69,7 +69,7 @@ fn con_line(alloc: Global, found: &Found, text: &[u8], rest: &[u8]) -> Result<Li
 
 /// The line of a form, after its first word.
 fn form_line(alloc: Global, found: &Found, text: &[u8], rest: &[u8]) -> Result<LineRead, RowError>
-    requires found { IsFound found.now }
+    requires found { AreNamesFound found.now }
     requires line { IsKeyword text.now keyword.Form rest.now }
     ensures { IsLineAnswer (context found.now) text.now result }
 {
@@ -92,7 +92,7 @@ fn form_line(alloc: Global, found: &Found, text: &[u8], rest: &[u8]) -> Result<L
 
 /// The line that begins a rule, after its first word.
 fn rule_line(alloc: Global, found: &Found, text: &[u8], rest: &[u8]) -> Result<LineRead, RowError>
-    requires found { IsFound found.now }
+    requires found { AreNamesFound found.now }
     requires line { IsKeyword text.now keyword.Rule rest.now }
     ensures { IsLineAnswer (context found.now) text.now result }
 {
@@ -110,7 +110,7 @@ fn rule_line(alloc: Global, found: &Found, text: &[u8], rest: &[u8]) -> Result<L
 
 /// The line of a judgement premise, after its first word.
 fn if_line(alloc: Global, found: &Found, text: &[u8], rest: &[u8]) -> Result<LineRead, RowError>
-    requires found { IsFound found.now }
+    requires found { AreNamesFound found.now }
     requires line { IsKeyword text.now keyword.If rest.now }
     ensures { IsLineAnswer (context found.now) text.now result }
 {
@@ -122,7 +122,7 @@ fn if_line(alloc: Global, found: &Found, text: &[u8], rest: &[u8]) -> Result<Lin
 
 /// The line of two terms that are to be apart, after its first word.
 fn not_line(alloc: Global, found: &Found, text: &[u8], rest: &[u8]) -> Result<LineRead, RowError>
-    requires found { IsFound found.now }
+    requires found { AreNamesFound found.now }
     requires line { IsKeyword text.now keyword.Not rest.now }
     ensures { IsLineAnswer (context found.now) text.now result }
 {
@@ -134,7 +134,7 @@ fn not_line(alloc: Global, found: &Found, text: &[u8], rest: &[u8]) -> Result<Li
 
 /// The line of a conclusion, after its first word.
 fn then_line(alloc: Global, found: &Found, text: &[u8], rest: &[u8]) -> Result<LineRead, RowError>
-    requires found { IsFound found.now }
+    requires found { AreNamesFound found.now }
     requires line { IsKeyword text.now keyword.Then rest.now }
     ensures { IsLineAnswer (context found.now) text.now result }
 {
@@ -157,7 +157,7 @@ fn end_line(found: &Found, text: &[u8], rest: &[u8]) -> Result<LineRead, RowErro
 
 /// The line of the goal, after its first word.
 fn goal_line(alloc: Global, found: &Found, text: &[u8], rest: &[u8]) -> Result<LineRead, RowError>
-    requires found { IsFound found.now }
+    requires found { AreNamesFound found.now }
     requires line { IsKeyword text.now keyword.Goal rest.now }
     ensures { IsLineAnswer (context found.now) text.now result }
 {
@@ -175,7 +175,7 @@ pub(crate) fn read_line(
     text: &[u8],
     rest: &[u8],
 ) -> Result<LineRead, RowError>
-    requires found { IsFound found.now }
+    requires found { AreNamesFound found.now }
     requires line { IsKeyword text.now keyword rest.now }
     ensures { IsLineAnswer (context found.now) text.now result }
 {

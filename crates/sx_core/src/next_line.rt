@@ -5,7 +5,7 @@ ghost use Rattle.sx_core.specs.declared.stage.Stage.TheVariants as stages;
 ghost use Rattle.sx_core.specs.Machine as spec;
 ghost use Rattle.sx_core.specs.Machine.{IsUsual, NextRead, NextRefused};
 ghost use Rattle.sx_core.specs.Order.{phase_of, at_end};
-ghost use Rattle.sx_core.specs.Reading.{context, IsFound, IsRead};
+ghost use Rattle.sx_core.specs.Reading.{context, AreNamesFound, IsCoreLineRead};
 
 use crate::error::CoreFileError;
 use crate::keyword::split_keyword;
@@ -110,9 +110,9 @@ fn take_line(
     text: &[u8],
     read: LineRead,
 ) -> Result<Reader, CoreFileError>
-    requires found { IsFound reader.found }
+    requires found { AreNamesFound reader.found }
     requires usual { IsUsual reader }
-    requires read { IsRead (context reader.found) text.now read }
+    requires read { IsCoreLineRead (context reader.found) text.now read }
     ensures { MatchResult result (λ r. NextRead reader number text.now r)
         (λ e. NextRefused reader number text.now e) }
 {
@@ -129,7 +129,7 @@ fn later_line(
     number: u32,
     text: &[u8],
 ) -> Result<Reader, CoreFileError>
-    requires found { IsFound reader.found }
+    requires found { AreNamesFound reader.found }
     requires usual { IsUsual reader }
     ensures { MatchResult result (λ r. NextRead reader number text.now r)
         (λ e. NextRefused reader number text.now e) }
@@ -159,7 +159,7 @@ pub(crate) fn read_next(
     number: u32,
     text: &[u8],
 ) -> Result<Reader, CoreFileError>
-    requires { IsFound reader.found }
+    requires { AreNamesFound reader.found }
     ensures { MatchResult result (λ r. NextRead reader number text.now r)
         (λ e. NextRefused reader number text.now e) }
 {

@@ -6,10 +6,10 @@ ghost use Rattle.sx_term.specs.Shapes.{shape};
 ghost use Rattle.sx_rules.specs.declared.rule.Place.{Place as PlaceOf};
 ghost use Rattle.sx_rules.specs.Views.{FormData, form, is_sub};
 ghost use Rattle.sx_core.specs.Stated as spec;
-ghost use Rattle.sx_core.specs.Stated.{MayHave, MayStandAt, ArePlaces};
+ghost use Rattle.sx_core.specs.Stated.{MayHave, MayStandAt, AreStatedPlaces};
 ghost use Rattle.sx_term.specs.Untyped.{IsUntypedSort, AreUntypedSorts};
 ghost use Rattle.sx_core.specs.Rows.{con_row, place_row, form_row};
-ghost use Rattle.sx_core.specs.Resolving.{rows_in, IsSortTable, NoneIs, IsConOf, IsPlaceOf};
+ghost use Rattle.sx_core.specs.Resolving.{rows_in, IsSortTable, NoCoreRowIs, IsConOf, IsPlaceOf};
 ghost use Rattle.sx_core.specs.Resolving.{IsFormOf};
 
 use crate::rows::{ConRow, FormRow, PlaceRow};
@@ -68,7 +68,7 @@ fn may_stand(role: Role, sort: Sort) -> bool
 pub(crate) fn make_con(alloc: Global, table: &SortTable, row: &ConRow) -> Result<Con, RowError>
     requires { IsSortTable table.now }
     ensures { MatchResult result (λ c. IsConOf (rows_in table.now) (con_row row.now) (shape c))
-        (λ e. NoneIs (IsConOf (rows_in table.now) (con_row row.now)) e) }
+        (λ e. NoCoreRowIs (IsConOf (rows_in table.now) (con_row row.now)) e) }
 {
     match table.sort(&row.sort) {
         Some(sort) => match table.sorts(alloc, &row.kids) {
@@ -108,9 +108,9 @@ fn make_place(table: &SortTable, row: &PlaceRow) -> Option<Place>
 /// The places that the rows state.
 fn make_places(alloc: Global, table: &SortTable, rows: &[PlaceRow]) -> Result<Vec<Place>, RowError>
     requires { IsSortTable table.now }
-    ensures { MatchResult result (λ places. ArePlaces (rows_in table.now)
+    ensures { MatchResult result (λ places. AreStatedPlaces (rows_in table.now)
         (map place_row rows.now) places.items)
-        (λ e. NoneIs (ArePlaces (rows_in table.now) (map place_row rows.now)) e) }
+        (λ e. NoCoreRowIs (AreStatedPlaces (rows_in table.now) (map place_row rows.now)) e) }
 {
     let mut places = Vec::new(alloc);
     for i in 0..rows.len() {
@@ -148,7 +148,7 @@ pub(crate) fn subject_count(places: &[Place]) -> usize
 pub(crate) fn make_form(alloc: Global, table: &SortTable, row: &FormRow) -> Result<Form, RowError>
     requires { IsSortTable table.now }
     ensures { MatchResult result (λ f. IsFormOf (rows_in table.now) (form_row row.now) (form f))
-        (λ e. NoneIs (IsFormOf (rows_in table.now) (form_row row.now)) e) }
+        (λ e. NoCoreRowIs (IsFormOf (rows_in table.now) (form_row row.now)) e) }
 {
     match make_places(alloc, table, &row.places) {
         Ok(places) => {

@@ -2,7 +2,8 @@
 
 ghost use Rattle.std.specs.Prelude.{◌≡◌, ℕ, List, ◌++◌, codes, map, MatchOption, MatchResult};
 ghost use Rattle.sx_core.specs.File.{sort_line, con_line, form_line};
-ghost use Rattle.sx_core.specs.Rows.{sort_row, con_row, place_row, form_row, IsLineOf, NoRow};
+ghost use Rattle.sx_core.specs.Rows.{sort_row, con_row, place_row, form_row, IsDeclarationLine};
+ghost use Rattle.sx_core.specs.Rows.{NoRow};
 ghost use Rattle.sx_core.specs.Rows.{IsRoleRead, NoRole, IsPlaceWord, NoPlaceWord, IsKind, NoKind};
 ghost use Rattle.sx_core.specs.Rows.{IsPlaceRead, PlaceRefused, ArePlacesRead, PlacesRefused};
 
@@ -91,7 +92,7 @@ fn kind_of(text: &[u8]) -> Option<bool>
 
 /// The row of a sort, after its first word.
 pub(crate) fn read_sort(alloc: Global, text: &[u8]) -> Result<SortRow, RowError>
-    ensures { MatchResult result (λ row. IsLineOf (codes "sort" ++ text.now)
+    ensures { MatchResult result (λ row. IsDeclarationLine (codes "sort" ++ text.now)
         (sort_line (sort_row row))) (λ e. NoRow sort_line (codes "sort") text.now e) }
 {
     match read_name(alloc, text) {
@@ -105,7 +106,7 @@ pub(crate) fn read_sort(alloc: Global, text: &[u8]) -> Result<SortRow, RowError>
 
 /// The row of a constructor, after its first word.
 pub(crate) fn read_con(alloc: Global, text: &[u8]) -> Result<ConRow, RowError>
-    ensures { MatchResult result (λ row. IsLineOf (codes "con" ++ text.now)
+    ensures { MatchResult result (λ row. IsDeclarationLine (codes "con" ++ text.now)
         (con_line (con_row row))) (λ e. NoRow con_line (codes "con") text.now e) }
 {
     match read_name(alloc, text) {
@@ -129,7 +130,7 @@ pub(crate) fn read_con(alloc: Global, text: &[u8]) -> Result<ConRow, RowError>
 
 /// The row of a form, after its first word.
 pub(crate) fn read_form(alloc: Global, text: &[u8]) -> Result<FormRow, RowError>
-    ensures { MatchResult result (λ row. IsLineOf (codes "form" ++ text.now)
+    ensures { MatchResult result (λ row. IsDeclarationLine (codes "form" ++ text.now)
         (form_line (form_row row))) (λ e. NoRow form_line (codes "form") text.now e) }
 {
     match read_name(alloc, text) {

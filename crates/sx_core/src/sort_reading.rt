@@ -5,7 +5,7 @@ ghost use Rattle.sx_lines.specs.Left.{left as left_of};
 ghost use Rattle.sx_lines.specs.Reading.{kept};
 ghost use Rattle.sx_core.specs.File.{SortRow as SortOf};
 ghost use Rattle.sx_core.specs.Rows.{sort_row};
-ghost use Rattle.sx_core.specs.Stated.{AreNames};
+ghost use Rattle.sx_core.specs.Stated.{AreStatedNames};
 ghost use Rattle.sx_core.specs.Resolving.{sort_names, rows_in, IsSortTable};
 ghost use Rattle.sx_core.specs.Fitting.{AreSorts};
 ghost use Rattle.sx_core.specs.Machine.{IsSortLine, FindsSort};
@@ -96,7 +96,7 @@ fn numbered(table: SortTable) -> Result<SortTable, NoMemory>
 /// The sorts of the file: one for each line that is that of a sort whose name is not taken,
 /// wherever it stands.
 pub(crate) fn find_sorts(alloc: Global, rest: Rest) -> Result<SortTable, NoMemory>
-    ensures { IfOk result (λ t. IsSortTable t × AreNames (map (λ row. row.name) (rows_in t)) ×
+    ensures { IfOk result (λ t. IsSortTable t × AreStatedNames (map (λ row. row.name) (rows_in t)) ×
         AreSorts [] (kept (left_of rest.entry)) (rows_in t)) }
 {
     let mut table = SortTable {

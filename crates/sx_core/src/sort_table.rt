@@ -5,7 +5,7 @@ ghost use Rattle.std.specs.Prelude.{MatchOption, MatchResult, map};
 ghost use Rattle.sx_term.specs.declared.sort.Sort.{Sort as SortOf};
 ghost use Rattle.sx_core.specs.Rows.{sort_row};
 ghost use Rattle.sx_core.specs.Stated.{NamesSort, NameSorts};
-ghost use Rattle.sx_core.specs.Resolving.{sort_names, rows_in, IsSortTable, NoneIs};
+ghost use Rattle.sx_core.specs.Resolving.{sort_names, rows_in, IsSortTable, NoCoreRowIs};
 
 use crate::rows::SortRow;
 use crate::terms_row::RowError;
@@ -72,7 +72,7 @@ impl SortTable {
     pub(crate) fn sorts(&self, alloc: Global, names: &[Text]) -> Result<Vec<Sort>, RowError>
         requires { IsSortTable self.now }
         ensures { MatchResult result (λ sorts. NameSorts (rows_in self.now) names.now sorts.items)
-            (λ e. NoneIs (NameSorts (rows_in self.now) names.now) e) }
+            (λ e. NoCoreRowIs (NameSorts (rows_in self.now) names.now) e) }
     {
         let mut sorts = Vec::new(alloc);
         for i in 0..names.len() {

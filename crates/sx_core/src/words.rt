@@ -48,7 +48,7 @@ pub(crate) fn next_word<'a>(text: &'a [u8]) -> Option<(&'a [u8], &'a [u8])>
 }
 
 fn text_error(e: TextError) -> RowError
-    ensures { result ≡ spec.text_error e }
+    ensures { result ≡ spec.core_text_error e }
 {
     match e {
         TextError::Memory => RowError::Memory,

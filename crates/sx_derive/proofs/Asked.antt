@@ -18,7 +18,7 @@ use Rattle.sx_arena.specs.Binds.{env_at, BindsGrow}
 use Rattle.sx_arena.specs.Pairs.{ArePairs}
 use Rattle.sx_arena.specs.Places.{AreHeld}
 use Rattle.sx_derive.specs.Quiet.{IsQuiet, first_given, IsFirstFound}
-use Rattle.sx_derive.specs.Store.{IsStore, Grows, store_trees, store_envs}
+use Rattle.sx_derive.specs.Store.{IsStore, StoreGrows, store_trees, store_envs}
 use Rattle.sx_derive.specs.Walked.{events_in}
 use Rattle.sx_arena.proofs.Arenas.{maps_same, below_more}
 use Rattle.sx_arena.proofs.BindChains.{env_stays}
@@ -35,7 +35,7 @@ quiet_level modes rules hyps budget (suc levels) goal q = omega arith
 
 module _ (modes : Modes) (rules : List Rule) (pairs : List Pair) (s t : Store) (env levels budget : ℕ) (j : Judgement) (terms : List ℕ) (h : IsStore modes rules s) (hp : ArePairs (length (store_trees s)) pairs) (le : env ≤ length s.binds.cells.items)
     (a : AreHeld s.arena t.arena terms (inputs_of modes (judgement_instance (filled (env_at (store_envs s) env)) j))) (b : t.binds ≡ s.binds) (k : t.kids.items ≡ s.kids.items) (f : t.frames.items ≡ s.frames.items) where
-  pub made_grows : Grows modes rules s t
+  pub made_grows : StoreGrows modes rules s t
   made_grows = grows_terms modes rules s t h a.arena a.extends b k f
 
   -- the events by the numbers of the terms are those of the goal
@@ -45,7 +45,7 @@ module _ (modes : Modes) (rules : List Rule) (pairs : List Pair) (s t : Store) (
       λ i. goal_events modes rules (record { judgements = js; pairs = pairs_stay (store_trees s) (store_trees t) a.extends pairs hp i }) (n i) (record { form = j.form; terms = a.are i })
 
   module _ (u : Store) (kept : Vec ℕ Global) (same : kept.items ≡ terms) (js : List Judgement) (l : 0 < levels) where
-    terms_in : (v : Store) → Grows modes rules t v → AreTermsOf v (asked_goal modes s env j) kept.items
+    terms_in : (v : Store) → StoreGrows modes rules t v → AreTermsOf v (asked_goal modes s env j) kept.items
     terms_in v g = record {
       below = subst (λ is. AreBelow (length (store_trees v)) is) (sym same) (below_more (length (store_trees t)) (length (store_trees v)) (extends-length (store_trees t) (store_trees v) g.trees) terms a.within);
       are = ap (map (tree_at (store_trees v))) same ∙ maps_same (store_trees t) (store_trees v) g.trees terms a.within ∙ a.are;
@@ -56,7 +56,7 @@ module _ (modes : Modes) (rules : List Rule) (pairs : List Pair) (s t : Store) (
 
     module _ (got : Vec ℕ Global) (r : IsFirstFound modes rules t u (events_in modes rules pairs js t (levels - 1) j.form terms) (Some got)) (v : Store) (g : BindsGrow (trees u.arena) u.binds v.binds)
         (va : v.arena ≡ u.arena) (vk : v.kids.items ≡ u.kids.items) (vf : v.frames.items ≡ u.frames.items) where
-      uv : Grows modes rules u v
+      uv : StoreGrows modes rules u v
       uv = grows_binds modes rules u v r.0.store g va vk vf
 
       env_same : env_at (store_envs u) env ≡ env_at (store_envs s) env

@@ -3,14 +3,18 @@ use Rattle.std.proofs.Common.{◌≡◌, ℕ, zero, suc, ◌-◌, Bool, true, fa
 use Rattle.std.specs.Prelude.{nat_eq}
 use Rattle.sx_rules.specs.Deep.{AreShallow}
 use Rattle.sx_rules.specs.Instances.{instance}
-use Rattle.sx_rules.specs.Rules.{Judgement, Premise, holds, apart, Rule, Hypotheses, judgement_instance}
+use Rattle.sx_rules.specs.Rules.{Judgement, Premise, holds, apart, Rule, Hypotheses}
+use Rattle.sx_rules.specs.Rules.{judgement_instance}
 use Rattle.sx_rules.specs.Modes.{Modes, inputs_of, outputs_of, Goal, goal_of, AllModed}
 use Rattle.sx_rules.specs.Derivations.{Proof, Proofs, by, ShallowJudgements}
 use Rattle.sx_rules.specs.First.{Answer, IsFirst}
-use Rattle.sx_arena.specs.Matching.{Assignment, unbound, match_all, filled}
+use Rattle.sx_arena.specs.Matching.{Assignment, nothing_bound, match_all, filled}
 use Rattle.sx_arena.proofs.Matchings.{when_true}
 use Rattle.sx_arena.proofs.Filled.{true-apart}
-use Rattle.sx_derive.specs.Walk.{Cause, Event, try, give, stop, then_each, when, when_matched, limit_passed, unless_passed, are_apart, put_first, after_kid, premise_events, first_values, conclude, after_match, rule_events, rules_events, given_events, goal_events, events}
+use Rattle.sx_derive.specs.Walk.{Cause, Event, try, give, stop, then_each, when, when_matched}
+use Rattle.sx_derive.specs.Walk.{limit_passed, unless_passed, are_apart, put_first, after_kid}
+use Rattle.sx_derive.specs.Walk.{premise_events, first_values, conclude, after_match, rule_events}
+use Rattle.sx_derive.specs.Walk.{rules_events, given_events, goal_events, events}
 use Rattle.sx_derive.specs.Search.{EachGiven, HasStop}
 use Rattle.sx_derive.specs.Quiet.{count, IsQuiet, first_given}
 use Rattle.sx_derive.specs.Stuck.{Blame, path_of, PremisesStuck, RulesStuck, GivensStuck, IsStuck}
@@ -130,10 +134,10 @@ module _ (modes subjects : Modes) (rules : List Rule) (hyps : Hypotheses) (moded
     among_shallow r [] goal path blame g q s = subst (λ (b : Blame). BlameIsShallow b) (sym s) (g, tt)
     among_shallow r (rule ∷ rs) goal path blame g q (inl (env, e, s)) =
         let evs = goal_events modes rules hyps levels in
-        let m = when_true (nat_eq rule.conclusion.form goal.form) (match_all (inputs_of modes rule.conclusion) goal.terms unbound) env e in
+        let m = when_true (nat_eq rule.conclusion.form goal.form) (match_all (inputs_of modes rule.conclusion) goal.terms nothing_bound) env e in
         let here = quiet_left n (rule_events modes hyps evs r rule goal) (rules_events modes hyps evs (suc r) rs goal) (quiet_tried n _ q) in
-        let q1 = quiet_when n (nat_eq rule.conclusion.form goal.form) (when_matched (match_all (inputs_of modes rule.conclusion) goal.terms unbound) (after_match modes hyps evs r rule)) m.0 here in
-        let q2 = quiet_matched n (match_all (inputs_of modes rule.conclusion) goal.terms unbound) (after_match modes hyps evs r rule) env m.1 q1 in
+        let q1 = quiet_when n (nat_eq rule.conclusion.form goal.form) (when_matched (match_all (inputs_of modes rule.conclusion) goal.terms nothing_bound) (after_match modes hyps evs r rule)) m.0 here in
+        let q2 = quiet_matched n (match_all (inputs_of modes rule.conclusion) goal.terms nothing_bound) (after_match modes hyps evs r rule) env m.1 q1 in
         let q3 = quiet_each n (conclude modes r rule) (premise_events modes hyps evs rule.premises env) q2 in
         premises_shallow r rule goal path 0 rule.premises env blame g q3 (concludes_within modes r rule (premise_events modes hyps evs rule.premises env) q2.no_stop) s
     among_shallow r (rule ∷ rs) goal path blame g q (inr s) =

@@ -4,11 +4,13 @@ use Rattle.std.specs.Prelude.{nat_eq}
 use Rattle.sx_term.specs.Tree.{Tree}
 use Rattle.sx_term.specs.Core.{HasCore}
 use Rattle.sx_rules.specs.Instances.{StandsAmong}
-use Rattle.sx_rules.specs.Rules.{Judgement, Premise, holds, apart, Rule, Hypotheses, judgement_instance}
+use Rattle.sx_rules.specs.Rules.{Judgement, Premise, holds, apart, Rule, Hypotheses}
+use Rattle.sx_rules.specs.Rules.{judgement_instance}
 use Rattle.sx_rules.specs.Modes.{Modes, inputs_of, outputs_of, Goal, goal_of, AllModed}
-use Rattle.sx_rules.specs.Writable.{HaveTexts, JudgementsHaveTexts, PremisesHaveTexts, RulesHaveTexts}
+use Rattle.sx_rules.specs.Writable.{HaveTexts, JudgementsHaveTexts, PremisesHaveTexts}
+use Rattle.sx_rules.specs.Writable.{RulesHaveTexts}
 use Rattle.sx_rules.proofs.Texts.{map_instance-texts, map_text-variables, inputs-texts, outputs-texts, outputs_have_texts}
-use Rattle.sx_arena.specs.Matching.{Assignment, unbound, match_all, value_or, filled, IsBound}
+use Rattle.sx_arena.specs.Matching.{Assignment, nothing_bound, match_all, value_or, filled, IsBound}
 use Rattle.sx_arena.proofs.Matchings.{MatchesAll, match_all-matches, when_true}
 use Rattle.sx_arena.proofs.Exact.{filled_agrees}
 use Rattle.sx_derive.specs.Stuck.{Blame, path_of, PremisesStuck, RulesStuck, GivensStuck, IsStuck}
@@ -19,7 +21,7 @@ use Rattle.sx_derive.specs.Laws.{StuckGoalHasTexts}
 abbrev HasTextValues : Assignment → Type 0
 HasTextValues env = (v : ℕ) (u : Tree) → env v ≡ Some u → HasCore u
 
-unbound_texts : HasTextValues unbound
+unbound_texts : HasTextValues nothing_bound
 unbound_texts v u e = cc
 
 match_texts : (ps ts : List Tree) (env more : Assignment) → match_all ps ts env ≡ Some more → HaveTexts ts → HasTextValues env → HasTextValues more
@@ -76,8 +78,8 @@ module _ (modes subjects : Modes) (rules : List Rule) (hyps : Hypotheses) (moded
         RulesStuck modes subjects rules hyps Below r rs goal path blame → BlameHasTexts blame
     among_texts r [] goal path blame t g s = subst (λ (b : Blame). BlameHasTexts b) (sym s) (g, tt)
     among_texts r (rule ∷ rs) goal path blame t g (inl (env, e, s)) =
-        let m = when_true (nat_eq rule.conclusion.form goal.form) (match_all (inputs_of modes rule.conclusion) goal.terms unbound) env e in
-        premises_texts r rule goal path 0 rule.premises env blame g t.0.1 t.0.0 (match_texts (inputs_of modes rule.conclusion) goal.terms unbound env m.1 g unbound_texts) s
+        let m = when_true (nat_eq rule.conclusion.form goal.form) (match_all (inputs_of modes rule.conclusion) goal.terms nothing_bound) env e in
+        premises_texts r rule goal path 0 rule.premises env blame g t.0.1 t.0.0 (match_texts (inputs_of modes rule.conclusion) goal.terms nothing_bound env m.1 g unbound_texts) s
     among_texts r (rule ∷ rs) goal path blame t g (inr s) = among_texts (suc r) rs goal path blame t.1 g s.1
 
   given_texts : (AmongRules : Type 0) (js : List Judgement) (goal : Goal) (path : List ℕ) (blame : Blame) → JudgementsHaveTexts js → HaveTexts goal.terms →

@@ -2,14 +2,21 @@ use Rattle.std.proofs.Common.{◌≡◌, ℕ, zero, suc, ◌-◌, ◌&&◌, Bool
 use Rattle.std.specs.Prelude.{nat_eq}
 use Rattle.std.proofs.lemmas.Bool.{eq-eqb}
 use Rattle.sx_rules.specs.Instances.{instance}
-use Rattle.sx_arena.specs.Matching.{same_all, Assignment, unbound, match_when, match_all, filled}
-use Rattle.sx_rules.specs.Rules.{Judgement, Premise, holds, apart, Rule, Hypotheses, judgement_instance}
+use Rattle.sx_arena.specs.Matching.{same_all, Assignment, nothing_bound, match_when, match_all}
+use Rattle.sx_arena.specs.Matching.{filled}
+use Rattle.sx_rules.specs.Rules.{Judgement, Premise, holds, apart, Rule, Hypotheses}
+use Rattle.sx_rules.specs.Rules.{judgement_instance}
 use Rattle.sx_rules.specs.Modes.{Modes, inputs_of, outputs_of, Goal, goal_of, AllModed}
 use Rattle.sx_rules.specs.Derivations.{Proofs}
 use Rattle.sx_rules.specs.Orders.{order_of, IsBefore, IsAtMost}
-use Rattle.sx_derive.specs.Walk.{Cause, Event, try, give, stop, Answer, then_each, when, when_matched, limit_passed, unless_passed, are_apart, put_first, after_kid, premise_events, conclude, after_match, rule_events, rules_events, given_events, goal_events, events}
-use Rattle.sx_derive.specs.Search.{DerivesGoal, EachGiven, IsReached, HasStop, IsFirst, exhausted, are_wanted, found_when, walk}
-use Rattle.sx_derive.specs.Stuck.{no_rule, unequal, mismatch, Blame, path_of, PremisesStuck, RulesStuck, GivensStuck, IsStuck}
+use Rattle.sx_derive.specs.Walk.{Cause, Event, try, give, stop, Answer, then_each, when}
+use Rattle.sx_derive.specs.Walk.{when_matched, limit_passed, unless_passed, are_apart, put_first}
+use Rattle.sx_derive.specs.Walk.{after_kid, premise_events, conclude, after_match, rule_events}
+use Rattle.sx_derive.specs.Walk.{rules_events, given_events, goal_events, events}
+use Rattle.sx_derive.specs.Search.{DerivesGoal, EachGiven, IsReached, HasStop, IsFirst, exhausted}
+use Rattle.sx_derive.specs.Search.{are_wanted, found_when, walk}
+use Rattle.sx_derive.specs.Stuck.{no_rule, unequal, mismatch, Blame, path_of, PremisesStuck}
+use Rattle.sx_derive.specs.Stuck.{RulesStuck, GivensStuck, IsStuck}
 use Rattle.sx_derive.specs.Quiet.{first_given}
 use Rattle.sx_derive.specs.Laws.{StuckGoalExists, ExhaustedHasNoStop}
 use Rattle.sx_arena.proofs.Sameness.{and_left, and_right, and_both, nat_same, same_all_true, same_all_self}
@@ -137,20 +144,20 @@ module _ (modes subjects : Modes) (rules : List Rule) (hyps : Hypotheses) (moded
     rules_stuck r [] goal path h = (record { goal = goal; path = path; reason = no_rule }, refl)
     rules_stuck r (rule ∷ rs) goal path h =
         let below = goal_events modes rules hyps levels in
-        by_form (nat_eq rule.conclusion.form goal.form) (match_all (inputs_of modes rule.conclusion) goal.terms unbound) refl refl
+        by_form (nat_eq rule.conclusion.form goal.form) (match_all (inputs_of modes rule.conclusion) goal.terms nothing_bound) refl refl
         (λ s. h (stop_left (rule_events modes hyps below r rule goal) (rules_events modes hyps below (suc r) rs goal) s))
         (rules_stuck (suc r) rs goal path (λ s. h (stop_right (rule_events modes hyps below r rule goal) (rules_events modes hyps below (suc r) rs goal) s)))
       where
-        by_form : (b : Bool) (m : Option Assignment) → nat_eq rule.conclusion.form goal.form ≡ b → match_all (inputs_of modes rule.conclusion) goal.terms unbound ≡ m →
+        by_form : (b : Bool) (m : Option Assignment) → nat_eq rule.conclusion.form goal.form ≡ b → match_all (inputs_of modes rule.conclusion) goal.terms nothing_bound ≡ m →
             (HasStop (when b (when_matched m (after_match modes hyps (goal_events modes rules hyps levels) r rule))) → ⊥) →
             (blame : Blame) × RulesStuck modes subjects rules hyps Below (suc r) rs goal path blame →
             (blame : Blame) × RulesStuck modes subjects rules hyps Below r (rule ∷ rs) goal path blame
-        by_form false m e f n x = (x.0, inr (ap (λ (b : Bool). match_when b (match_all (inputs_of modes rule.conclusion) goal.terms unbound)) e, x.1))
-        by_form true None e f n x = (x.0, inr (ap (λ (b : Bool). match_when b (match_all (inputs_of modes rule.conclusion) goal.terms unbound)) e ∙ f, x.1))
+        by_form false m e f n x = (x.0, inr (ap (λ (b : Bool). match_when b (match_all (inputs_of modes rule.conclusion) goal.terms nothing_bound)) e, x.1))
+        by_form true None e f n x = (x.0, inr (ap (λ (b : Bool). match_when b (match_all (inputs_of modes rule.conclusion) goal.terms nothing_bound)) e ∙ f, x.1))
         by_form true (Some env) e f n x =
             let y = premises_stuck r rule goal path 0 rule.premises env
             (λ s. n (stop-then_each (conclude modes r rule) (premise_events modes hyps (goal_events modes rules hyps levels) rule.premises env) s)) in
-            (y.0, inl (env, ap (λ (b : Bool). match_when b (match_all (inputs_of modes rule.conclusion) goal.terms unbound)) e ∙ f, y.1))
+            (y.0, inl (env, ap (λ (b : Bool). match_when b (match_all (inputs_of modes rule.conclusion) goal.terms nothing_bound)) e ∙ f, y.1))
 
   givens_stuck : (AmongRules : Blame → Type 0) (js : List Judgement) (goal : Goal) (path : List ℕ) → (blame : Blame) × AmongRules blame →
       (blame : Blame) × GivensStuck modes subjects rules hyps (AmongRules blame) js goal path blame

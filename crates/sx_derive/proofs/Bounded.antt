@@ -2,11 +2,17 @@ use Rattle.std.proofs.Common.{◌≡◌, ℕ, zero, suc, ◌-◌, ◌≤◌, ◌
 use Rattle.std.specs.Prelude.{nat_eq}
 use Rattle.sx_term.specs.Tree.{Tree, Trees, node, lexeme, hole, none, ◌▹◌, depth_of, greatest_depth}
 use Rattle.sx_rules.specs.Instances.{instance, instances, Stands, StandsInKids, StandsAmong}
-use Rattle.sx_arena.specs.Matching.{same_all, Assignment, unbound, match_all, value_or, filled, IsBound}
-use Rattle.sx_rules.specs.Rules.{Judgement, Premise, holds, apart, Rule, Hypotheses, judgement_instance}
+use Rattle.sx_arena.specs.Matching.{same_all, Assignment, nothing_bound, match_all, value_or}
+use Rattle.sx_arena.specs.Matching.{filled, IsBound}
+use Rattle.sx_rules.specs.Rules.{Judgement, Premise, holds, apart, Rule, Hypotheses}
+use Rattle.sx_rules.specs.Rules.{judgement_instance}
 use Rattle.sx_rules.specs.Modes.{Modes, outputs, inputs_of, outputs_of, Goal, goal_of}
-use Rattle.sx_rules.specs.Derivations.{Proofs, by, given, height_of, most_height, AreShallow, HasShallowBinds, HaveShallowBinds, ShallowJudgements}
-use Rattle.sx_derive.specs.Walk.{Cause, Event, give, Answer, then_each, when_matched, limit_passed, unless_passed, are_apart, put_first, after_kid, premise_events, first_values, conclude, after_match, rule_events, rules_events, given_event, given_events, goal_events, events}
+use Rattle.sx_rules.specs.Derivations.{Proofs, by, given, height_of, most_height, AreShallow}
+use Rattle.sx_rules.specs.Derivations.{HasShallowBinds, HaveShallowBinds, ShallowJudgements}
+use Rattle.sx_derive.specs.Walk.{Cause, Event, give, Answer, then_each, when_matched, limit_passed}
+use Rattle.sx_derive.specs.Walk.{unless_passed, are_apart, put_first, after_kid, premise_events}
+use Rattle.sx_derive.specs.Walk.{first_values, conclude, after_match, rule_events, rules_events}
+use Rattle.sx_derive.specs.Walk.{given_event, given_events, goal_events, events}
 use Rattle.sx_derive.specs.Search.{EachGiven}
 use Rattle.sx_derive.specs.Laws.{AnswersAreBounded}
 use Rattle.sx_arena.proofs.Matchings.{MatchesAll, match_all-matches}
@@ -41,7 +47,7 @@ shallow_outputs (false ∷ bs) (t ∷ ts) h = shallow_outputs bs ts h.1
 abbrev IsShallow : Assignment → Type 0
 IsShallow env = (v : ℕ) (u : Tree) → env v ≡ Some u → depth_of u ≤ 1000
 
-unbound_shallow : IsShallow unbound
+unbound_shallow : IsShallow nothing_bound
 unbound_shallow v u e = cc
 
 match_shallow : (ps ts : List Tree) (env more : Assignment) → match_all ps ts env ≡ Some more → AreShallow ts → IsShallow env → IsShallow more
@@ -100,10 +106,10 @@ module _ (modes : Modes) (rules : List Rule) (hyps : Hypotheses) (hyps_shallow :
     rule_bounded r rule goal h =
         let P = IsBoundedAnswer (suc levels) in
         let patterns = inputs_of modes rule.conclusion in
-        given-when P (nat_eq rule.conclusion.form goal.form) (when_matched (match_all patterns goal.terms unbound) (after_match modes hyps below r rule))
-        (λ same_form. given-when_matched P (match_all patterns goal.terms unbound) (after_match modes hyps below r rule)
+        given-when P (nat_eq rule.conclusion.form goal.form) (when_matched (match_all patterns goal.terms nothing_bound) (after_match modes hyps below r rule))
+        (λ same_form. given-when_matched P (match_all patterns goal.terms nothing_bound) (after_match modes hyps below r rule)
         (λ env e. given-then_each (IsBoundedEnd levels) P (conclude modes r rule) (premise_events modes hyps below rule.premises env)
-        (premises_bounded rule.premises env (match_shallow patterns goal.terms unbound env e h unbound_shallow))
+        (premises_bounded rule.premises env (match_shallow patterns goal.terms nothing_bound env e h unbound_shallow))
         (λ found k.
         let made = outputs_of modes (judgement_instance (filled found.0) rule.conclusion) in
         let x : most_height found.1 ≤ levels = k.0 in

@@ -6,13 +6,15 @@ use Rattle.sx_rules.specs.Rules.{Rule}
 use Rattle.sx_rules.specs.Modes.{Modes}
 use Rattle.sx_rules.specs.Derivations.{Proofs, by, no_more, ◌⊳◌}
 use Rattle.sx_derive.specs.Walk.{first_values}
-use Rattle.sx_derive.specs.Machine.{Frame, joined}
+use Rattle.sx_derive.specs.Machine.{Frame, joined_proofs}
 use Rattle.sx_derive.specs.declared.chains.Head.{Head}
 use Rattle.sx_derive.specs.declared.chains.Head.TheVariants.{Given, By}
 use Rattle.sx_derive.specs.declared.chains.Kid.{Kid}
 use Rattle.sx_derive.specs.declared.chains.Waiting.{Waiting}
 use Rattle.sx_arena.specs.Grown.{Extends, grown_from}
-use Rattle.sx_derive.specs.Chains.{kids_at, head_proof, kid_step, HeadFits, KidFits, kids_of, AreKids, frame_of, frames_at, waiting_step, WaitingFits, frames_of, AreFrames}
+use Rattle.sx_derive.specs.Chains.{kids_at, head_proof, kid_step, HeadFits, KidFits, kids_of}
+use Rattle.sx_derive.specs.Chains.{AreKids, frame_of, frames_at, waiting_step, WaitingFits}
+use Rattle.sx_derive.specs.Chains.{frames_of, AreFrames}
 use Rattle.sx_arena.proofs.Growing.{extends-same, extends-length, extends-at, grown_from-one, grown-length, fits-one, grown-same}
 use Rattle.sx_arena.proofs.BindChains.{env_stays}
 
@@ -40,14 +42,14 @@ head_fits_more m n p q a b (By k v env kids) f = ((let z = f.0 in omega arith), 
 pub kids_stay : (es ds : List Assignment) → Extends es ds → (cs : List Kid) → AreKids es cs → (kids_of ds cs ≡ kids_of es cs) × AreKids ds cs
 kids_stay es ds x cs h = grown-same (kid_step es) (kid_step ds) (KidFits es) (KidFits ds)
     (λ ks c p. (
-      ap (λ q. joined (kids_at ks c.before) (q ⊳ no_more)) (sym (head_stays es ds ks ks x (extends-same ks) c.head p.head)),
+      ap (λ q. joined_proofs (kids_at ks c.before) (q ⊳ no_more)) (sym (head_stays es ds ks ks x (extends-same ks) c.head p.head)),
       record { head = head_fits_more (length es) (length ds) (length ks) (length ks) (extends-length es ds x) (omega arith) c.head p.head; before = p.before },
     ))
     [] cs h
 
 -- one more proof
 pub kids_one : (es : List Assignment) (old new : List Kid) (c : Kid) → AreKids es old → HeadFits (length es) (length old) c.head → c.before ≤ length old → new ≡ old ++ c ∷ [] →
-    AreKids es new × Extends (kids_of es old) (kids_of es new) × (kids_at (kids_of es new) (length old + 1) ≡ joined (kids_at (kids_of es old) c.before) (head_proof es (kids_of es old) c.head ⊳ no_more))
+    AreKids es new × Extends (kids_of es old) (kids_of es new) × (kids_at (kids_of es new) (length old + 1) ≡ joined_proofs (kids_at (kids_of es old) c.before) (head_proof es (kids_of es old) c.head ⊳ no_more))
 kids_one es old new c h f l e =
     let n = grown-length (kid_step es) old in
     let g : kids_of es new ≡ kids_of es old ++ kid_step es (kids_of es old) c ∷ [] = ap (grown_from (kid_step es) []) e ∙ grown_from-one (kid_step es) [] old c in

@@ -4,13 +4,14 @@ use Rattle.std.specs.declared.alloc.Global.{Global}
 use Rattle.sx_term.specs.Tree.{Tree}
 use Rattle.sx_rules.specs.Deep.{AreShallow}
 use Rattle.sx_rules.specs.Instances.{instance}
-use Rattle.sx_rules.specs.Rules.{Judgement, Premise, holds, apart, Rule, Hypotheses, judgement_instance}
+use Rattle.sx_rules.specs.Rules.{Judgement, Premise, holds, apart, Rule, Hypotheses}
+use Rattle.sx_rules.specs.Rules.{judgement_instance}
 use Rattle.sx_rules.specs.Modes.{Modes, Goal, outputs_of, AllModed}
 use Rattle.sx_arena.specs.Arena.{tree_at, AreBelow}
 use Rattle.sx_arena.specs.Binds.{env_at}
 use Rattle.sx_arena.specs.Limits.{are_apart}
 use Rattle.sx_arena.specs.Matching.{Assignment, match_all, filled}
-use Rattle.sx_arena.specs.Pairs.{pairs_of, IsTold}
+use Rattle.sx_arena.specs.Pairs.{pairs_of, IsTruthTold}
 use Rattle.sx_arena.specs.Places.{AreHeld}
 use Rattle.sx_arena.specs.declared.fact.Fact.{Fact}
 use Rattle.sx_arena.specs.declared.pairs.Pair.{Pair}
@@ -20,10 +21,11 @@ use Rattle.sx_arena.proofs.Growing.{extends-length}
 use Rattle.sx_arena.proofs.Parted.{pairs_more_terms, pairs_stay}
 use Rattle.sx_derive.specs.Asking.{asked_goal, asked_events, last_events, AreTermsOf, IsAnswered}
 use Rattle.sx_derive.specs.Candidates.{AreFacts}
-use Rattle.sx_derive.specs.Descents.{AreHyps, spot_goal, reason_in, ReasonBelow, PremisesLead, IsDescent, IsPremiseSpot}
+use Rattle.sx_derive.specs.Descents.{AreHyps, spot_goal, reason_in, ReasonBelow, PremisesLead}
+use Rattle.sx_derive.specs.Descents.{IsDescent, IsPremiseSpot}
 use Rattle.sx_derive.specs.Handing.{hyps_in}
 use Rattle.sx_derive.specs.Quiet.{IsQuiet, IsSilent, first_given}
-use Rattle.sx_derive.specs.Store.{IsStore, Grows, store_trees, store_envs}
+use Rattle.sx_derive.specs.Store.{IsStore, StoreGrows, store_trees, store_envs}
 use Rattle.sx_derive.specs.Stuck.{unequal, mismatch, Blame, path_of, IsStuck}
 use Rattle.sx_derive.specs.Walk.{Event, Answer, goal_events, premise_events}
 use Rattle.sx_derive.specs.declared.ask.Asked.TheVariants.{Unanswered, Differs, Matched}
@@ -43,7 +45,7 @@ use Rattle.sx_derive.proofs.Stored.{grows_same, grows_then, grows_terms}
 -- what holds before the premise number k
 pub record Descending (modes subjects : Modes) (rules : List Rule) (hyps : Hypotheses) (known : Bool) (budget levels number : ℕ) (rule : Rule) (old : Store) (facts : List Fact) (pairs : List Pair) (first : ℕ) (spot : Spot) (now : Store) (k : ℕ) (rest : List Premise) (env : ℕ) : Type 0 where
   pub are : AreHyps modes old facts pairs hyps
-  pub grows : Grows modes rules old now
+  pub grows : StoreGrows modes rules old now
   pub within : env ≤ length now.binds.cells.items
   pub quiet : IsSilent known budget (premise_events modes hyps (goal_events modes rules hyps levels) rest (env_at (store_envs now) env))
   pub leads : (blame : Blame) → PremisesLead modes subjects rules hyps budget levels number rule (spot_goal old spot) spot.path.items k rest (env_at (store_envs now) env) blame →
@@ -60,7 +62,7 @@ hyps_unique modes s facts pairs a b p q =
 pub for_hyps : (modes : Modes) (s : Store) (facts : List Fact) (pairs : List Pair) (a b : Hypotheses) → AreHyps modes s facts pairs a → AreHyps modes s facts pairs b → (P : Hypotheses → Type 0) → P a → P b
 for_hyps modes s facts pairs a b p q P x = subst P (hyps_unique modes s facts pairs a b p q) x
 
-pub hyps_stay : (modes : Modes) (rules : List Rule) (s t : Store) (facts : List Fact) (pairs : List Pair) (hyps : Hypotheses) → Grows modes rules s t → AreHyps modes s facts pairs hyps → AreHyps modes t facts pairs hyps
+pub hyps_stay : (modes : Modes) (rules : List Rule) (s t : Store) (facts : List Fact) (pairs : List Pair) (hyps : Hypotheses) → StoreGrows modes rules s t → AreHyps modes s facts pairs hyps → AreHyps modes t facts pairs hyps
 hyps_stay modes rules s t facts pairs hyps g h = record {
   facts_are = facts_stay modes (store_trees s) (store_trees t) g.trees hyps.judgements facts h.facts_are;
   pairs_below = pairs_more_terms (length (store_trees s)) (length (store_trees t)) (extends-length (store_trees s) (store_trees t) g.trees) pairs h.pairs_below;
@@ -68,7 +70,7 @@ hyps_stay modes rules s t facts pairs hyps g h = record {
 }
 
 -- the terms of a goal by its numbers stay
-pub spot_stays : (modes : Modes) (rules : List Rule) (s t : Store) (spot : Spot) → Grows modes rules s t → AreBelow (length (store_trees s)) spot.terms.items → AreBelow (length (store_trees t)) spot.terms.items × (spot_goal t spot ≡ spot_goal s spot)
+pub spot_stays : (modes : Modes) (rules : List Rule) (s t : Store) (spot : Spot) → StoreGrows modes rules s t → AreBelow (length (store_trees s)) spot.terms.items → AreBelow (length (store_trees t)) spot.terms.items × (spot_goal t spot ≡ spot_goal s spot)
 spot_stays modes rules s t spot g b = (
   below_more (length (store_trees s)) (length (store_trees t)) (extends-length (store_trees s) (store_trees t) g.trees) spot.terms.items b,
   λ i. record { form = spot.form; terms = maps_same (store_trees s) (store_trees t) g.trees spot.terms.items b i },
@@ -106,24 +108,24 @@ module _ (modes subjects : Modes) (rules : List Rule) (hyps : Hypotheses) (moded
 
   module _ (mid new : Store) (k env : ℕ) (rest : List Premise) where
     -- the goal itself is stuck
-    stuck_here : Grows modes rules old new → (reason : Reason) → ReasonBelow (length (store_trees new)) reason → Leads (record { goal = spot_goal old spot; path = spot.path.items; reason = reason_in new reason }) →
+    stuck_here : StoreGrows modes rules old new → (reason : Reason) → ReasonBelow (length (store_trees new)) reason → Leads (record { goal = spot_goal old spot; path = spot.path.items; reason = reason_in new reason }) →
         IsDescent modes subjects rules hyps budget levels new Leads (Stuck spot reason)
     stuck_here g reason b x =
         let s = spot_stays modes rules old new spot g below in
         (s.0, b, subst (λ (q : Goal). Leads (record { goal = q; path = spot.path.items; reason = reason_in new reason })) (sym s.1) x)
 
     module _ (t u : Tree) (d : D mid k (apart t u ∷ rest) env) (b : Bool)
-        (told : IsTold mid.arena new.arena b (are_apart (record { judgements = []; pairs = pairs_of (store_trees mid) pairs }) (instance (filled (env_at (store_envs mid) env)) t) (instance (filled (env_at (store_envs mid) env)) u)))
+        (told : IsTruthTold mid.arena new.arena b (are_apart (record { judgements = []; pairs = pairs_of (store_trees mid) pairs }) (instance (filled (env_at (store_envs mid) env)) t) (instance (filled (env_at (store_envs mid) env)) u)))
         (eb : new.binds ≡ mid.binds) (ek : new.kids.items ≡ mid.kids.items) (ef : new.frames.items ≡ mid.frames.items) where
       apart_is : are_apart hyps (instance (filled (env_at (store_envs mid) env)) t) (instance (filled (env_at (store_envs mid) env)) u) ≡ b
       apart_is =
           let a = hyps_stay modes rules old mid facts pairs hyps d.grows d.are in
           sym (told.is ∙ (λ i. are_apart (record { judgements = hyps.judgements; pairs = a.pairs_are i }) (instance (filled (env_at (store_envs mid) env)) t) (instance (filled (env_at (store_envs mid) env)) u)))
 
-      apart_grows : Grows modes rules mid new
+      apart_grows : StoreGrows modes rules mid new
       apart_grows = grows_terms modes rules mid new d.grows.store told.arena told.extends eb ek ef
 
-      pub apart_grown : Grows modes rules old new
+      pub apart_grown : StoreGrows modes rules old new
       apart_grown = grows_then modes rules old mid new d.grows apart_grows
 
       pub apart_fails : b ≡ false → IsDescent modes subjects rules hyps budget levels new Leads (Stuck spot (Equal number k))
@@ -174,7 +176,7 @@ module _ (modes subjects : Modes) (rules : List Rule) (hyps : Hypotheses) (moded
           (subst (λ (b : Bool). IsSilent b budget (premise_events modes hyps (goal_events modes rules hyps levels) (holds j ∷ []) (env_at (store_envs mid) env))) t
           (subst (λ (ps : List Premise). IsSilent known budget (premise_events modes hyps (goal_events modes rules hyps levels) (holds j ∷ ps) (env_at (store_envs mid) env))) e d.quiet)))
 
-      module _ (g : Grows modes rules mid new) where
+      module _ (g : StoreGrows modes rules mid new) where
         kid_goal : (kid : Spot) (terms : List ℕ) → IsPremiseSpot subjects rule j terms spot.path.items kid → AreTermsOf new (asked_goal modes mid env j) terms →
             AreBelow (length (store_trees new)) kid.terms.items × (spot_goal new kid ≡ asked_goal modes mid env j)
         kid_goal kid terms p t =
@@ -227,7 +229,7 @@ module _ (modes subjects : Modes) (rules : List Rule) (hyps : Hypotheses) (moded
     -- all premises pass
     module _ (d : D mid k [] env) (got : Vec ℕ Global) (held : AreHeld mid.arena new.arena got.items (outputs_of modes (judgement_instance (filled (env_at (store_envs mid) env)) rule.conclusion)))
         (eb : new.binds ≡ mid.binds) (ek : new.kids.items ≡ mid.kids.items) (ef : new.frames.items ≡ mid.frames.items) where
-      pub end_grown : Grows modes rules old new
+      pub end_grown : StoreGrows modes rules old new
       end_grown = grows_then modes rules old mid new d.grows (grows_terms modes rules mid new d.grows.store held.arena held.extends eb ek ef)
 
       pub end_stuck : IsDescent modes subjects rules hyps budget levels new Leads (Stuck spot (Mismatch None got))

@@ -3,12 +3,18 @@ use Rattle.std.proofs.Common.{◌≡◌, ℕ, zero, suc, ◌+◌, ◌≤◌, Boo
 use Rattle.std.specs.Prelude.{nat_eq, ◌&&◌, ◌-◌}
 use Rattle.sx_term.specs.Tree.{Tree}
 use Rattle.sx_rules.specs.Instances.{instance}
-use Rattle.sx_arena.specs.Matching.{same_all, Assignment, unbound, match_all, filled}
-use Rattle.sx_rules.specs.Rules.{Judgement, Premise, holds, apart, Rule, Hypotheses, judgement_instance}
+use Rattle.sx_arena.specs.Matching.{same_all, Assignment, nothing_bound, match_all, filled}
+use Rattle.sx_rules.specs.Rules.{Judgement, Premise, holds, apart, Rule, Hypotheses}
+use Rattle.sx_rules.specs.Rules.{judgement_instance}
 use Rattle.sx_rules.specs.Modes.{Modes, inputs_of, outputs_of, Goal, goal_of}
 use Rattle.sx_rules.specs.Derivations.{Proofs, by, given, nodes_of, nodes_of_all}
-use Rattle.sx_derive.specs.Walk.{Cause, Event, try, give, stop, Answer, then_each, when, when_matched, limit_passed, unless_passed, are_apart, put_first, after_kid, premise_events, first_values, conclude, after_match, rule_events, rules_events, given_event, given_events, goal_events, events}
-use Rattle.sx_derive.specs.Search.{Ending, found, are_wanted, found_when, walk, tries_unless, tries_of}
+use Rattle.sx_derive.specs.Walk.{Cause, Event, try, give, stop, Answer, then_each, when}
+use Rattle.sx_derive.specs.Walk.{when_matched, limit_passed, unless_passed, are_apart, put_first}
+use Rattle.sx_derive.specs.Walk.{after_kid, premise_events, first_values, conclude, after_match}
+use Rattle.sx_derive.specs.Walk.{rule_events, rules_events, given_event, given_events, goal_events}
+use Rattle.sx_derive.specs.Walk.{events}
+use Rattle.sx_derive.specs.Search.{Ending, found, are_wanted, found_when, walk, tries_unless}
+use Rattle.sx_derive.specs.Search.{tries_of}
 use Rattle.sx_derive.specs.Laws.{FoundHasFewNodes}
 
 -- each thing given weighs no more than the tries before it, with so many made before the first event
@@ -82,8 +88,8 @@ module _ (modes : Modes) (rules : List Rule) (hyps : Hypotheses) where
     rule_enough : (r : ℕ) (rule : Rule) (goal : Goal) → Enough weight_of 1 (rule_events modes hyps below r rule goal)
     rule_enough r rule goal =
         let patterns = inputs_of modes rule.conclusion in
-        enough-when weight_of (nat_eq rule.conclusion.form goal.form) 1 (when_matched (match_all patterns goal.terms unbound) (after_match modes hyps below r rule))
-        (enough-when_matched weight_of (match_all patterns goal.terms unbound) 1 (after_match modes hyps below r rule)
+        enough-when weight_of (nat_eq rule.conclusion.form goal.form) 1 (when_matched (match_all patterns goal.terms nothing_bound) (after_match modes hyps below r rule))
+        (enough-when_matched weight_of (match_all patterns goal.terms nothing_bound) 1 (after_match modes hyps below r rule)
         (λ env. enough-then_each (λ end. kids_weigh end + 1) weight_of (conclude modes r rule) 1 (premise_events modes hyps below rule.premises env)
         (enough-plus kids_weigh 1 0 1 (premise_events modes hyps below rule.premises env) (omega arith) (premises_enough rule.premises env))
         (λ found n l.

@@ -8,10 +8,12 @@ use Rattle.sx_derive.specs.Search.{found, stopped, spent, exhausted, walk}
 use Rattle.sx_derive.specs.declared.chains.Head.{Head}
 use Rattle.sx_arena.specs.declared.places.Limit.{Limit}
 use Rattle.sx_derive.specs.declared.store.Store.{Store}
-use Rattle.sx_derive.specs.declared.tasks.Ending.TheVariants.{Found, Passed, DepthSpent, Spent, Exhausted}
+use Rattle.sx_derive.specs.declared.tasks.Ending.TheVariants.{Found, Passed, DepthSpent, Spent}
+use Rattle.sx_derive.specs.declared.tasks.Ending.TheVariants.{Exhausted}
 use Rattle.sx_derive.specs.Handing.{answer_in}
 use Rattle.sx_derive.specs.Quiet.{IsQuiet, first_given, IsGivenIn, IsFirstFound}
-use Rattle.sx_derive.specs.Store.{IsStore, IsMark, IsChainsCut, IsCut, store_trees, store_envs, store_kids}
+use Rattle.sx_derive.specs.Store.{IsStore, IsMark, IsChainsCut, IsStoreCut, store_trees, store_envs}
+use Rattle.sx_derive.specs.Store.{store_kids}
 use Rattle.sx_derive.specs.Chains.{head_proof}
 use Rattle.sx_derive.specs.declared.store.Mark.{Mark}
 use Rattle.sx_arena.specs.Arena.{trees}
@@ -45,7 +47,7 @@ module _ (modes : Modes) (rules : List Rule) (old new : Store) (budget : ℕ) (e
         (chains_cut_grows modes rules old new last m h k w.0 c, subst (λ (ts : List Tree). IsGivenIn ts (first_given fs) (Some outs)) (sym (ap trees c.arena)) (given_outs head outs w))
 
     -- where nothing is, nothing that was made is needed
-    pub first_none : IsCut m new last → IsWalkedTo modes rules old new None budget es Exhausted → IsFirstFound modes rules old last fs None
+    pub first_none : IsStoreCut m new last → IsWalkedTo modes rules old new None budget es Exhausted → IsFirstFound modes rules old last fs None
     first_none c w = (cut_grows modes rules old new last m h k w.0 c, given_none w)
 
   pub first_passed : (l : Limit) → IsWalkedTo modes rules old new None budget es (Passed l) → ⊥

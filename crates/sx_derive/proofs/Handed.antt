@@ -12,10 +12,12 @@ use Rattle.sx_derive.specs.declared.step.Step.TheVariants.{Nothing, Passed, Dept
 use Rattle.sx_derive.specs.declared.store.Store.{Store}
 use Rattle.sx_arena.specs.Arena.{AreBelow}
 use Rattle.sx_derive.specs.Chains.{HeadFits, frame_of, waiting_step, WaitingFits}
-use Rattle.sx_derive.specs.Handing.{hyps_in, answer_in, frames_in, waiting_in, IsWaiting, IsResumed, IsHanded}
+use Rattle.sx_derive.specs.Handing.{hyps_in, answer_in, frames_in, waiting_in, IsWaiting, IsResumed}
+use Rattle.sx_derive.specs.Handing.{IsHanded}
 use Rattle.sx_arena.specs.Pairs.{ArePairs}
-use Rattle.sx_derive.specs.Step.{IsStep}
-use Rattle.sx_derive.specs.Store.{IsStore, Grows, store_trees, store_envs, store_kids, store_frames}
+use Rattle.sx_derive.specs.Step.{IsSearchStep}
+use Rattle.sx_derive.specs.Store.{IsStore, StoreGrows, store_trees, store_envs, store_kids}
+use Rattle.sx_derive.specs.Store.{store_frames}
 use Rattle.sx_arena.proofs.Growing.{grown-length, extends-length, grown-at}
 use Rattle.sx_derive.proofs.Chained.{frames_stay_at}
 use Rattle.sx_arena.proofs.Parted.{pairs_stay}
@@ -55,7 +57,7 @@ frame_read modes rules s h here c p l e =
 
 -- where a step is no answer it does not matter what becomes of one
 pub step_other : (modes : Modes) (rules : List Rule) (js : List Judgement) (s : Store) (next other : Answer → Result) (step : Step) (r : Result) → ((h : Head) (o : Vec ℕ Global) → step ≡ Done h o → ⊥) →
-    IsStep modes rules js s next step r → IsStep modes rules js s other step r
+    IsSearchStep modes rules js s next step r → IsSearchStep modes rules js s other step r
 step_other modes rules js s next other Nothing r n h = h
 step_other modes rules js s next other (Passed l) r n h = h
 step_other modes rules js s next other DepthSpent r n h = h
@@ -64,7 +66,7 @@ step_other modes rules js s next other (Goes f t l k) r n h = h
 
 -- the answer now, at the frames now, makes what the first answer makes
 pub record Handing (modes : Modes) (rules : List Rule) (pairs : List Pair) (old now : Store) (frames : ℕ) (first : Head) (firsts : List ℕ) (waiting : ℕ) (head : Head) (outs : List ℕ) : Type 0 where
-  pub grows : Grows modes rules old now
+  pub grows : StoreGrows modes rules old now
   pub within : waiting ≤ length now.frames.items
   pub fits : HeadFits (length (store_envs now)) (length (store_kids now)) head
   pub below : AreBelow (length (store_trees now)) outs
@@ -110,6 +112,6 @@ module _ (modes : Modes) (rules : List Rule) (pairs : List Pair) (old now new : 
   pub handed_stop : (step : Step) → ((h : Head) (o : Vec ℕ Global) → step ≡ Done h o → ⊥) → IsResumed modes rules pairs now new c head outs step → IsHanded modes rules pairs old new frames first firsts step
   handed_stop step n m = record {
     grows = grows_then modes rules old now new i.grows m.grows;
-    is = λ js. subst (λ (x : Result). IsStep modes rules js new answers step x) (sym (read_same step js))
+    is = λ js. subst (λ (x : Result). IsSearchStep modes rules js new answers step x) (sym (read_same step js))
         (step_other modes rules js new (hand_on modes (hyps_in pairs now js) (frames_in modes rules now c.before)) answers step (hand_on modes (hyps_in pairs now js) (waiting_in modes rules now c) (answer_in now head outs)) n (m.is js));
   }

@@ -8,14 +8,14 @@ use Rattle.sx_rules.specs.EntryView.{entry, entries}
 use Rattle.sx_rules.specs.Orders.{Entry, of_rule, order_of, order_of_all}
 use Rattle.sx_rules.specs.ProofView.{row_of}
 use Rattle.sx_arena.specs.Matching.{Assignment}
-use Rattle.sx_derive.specs.Machine.{joined}
+use Rattle.sx_derive.specs.Machine.{joined_proofs}
 use Rattle.sx_derive.specs.Chains.{kids_at, head_proof, HeadFits}
 use Rattle.sx_derive.specs.Listing.{head_kids, HeadsFit, AreHeads}
 use Rattle.sx_derive.specs.declared.chains.Head.{Head}
 use Rattle.sx_derive.specs.declared.chains.Head.TheVariants.{By}
 use Rattle.sx_derive.specs.declared.chains.Kid.{Kid}
 use Rattle.sx_derive.proofs.Proved.{KidRead}
-use Rattle.sx_derive.proofs.Stepped.{joined-assoc, joined-none}
+use Rattle.sx_derive.proofs.Stepped.{joined_proofs-assoc, joined_proofs-none}
 
 -- the proofs that heads stand for, one after another
 abbrev pub row_at : List Assignment → List Proofs → List Head → Proofs
@@ -25,13 +25,13 @@ row_at es ks heads = row_of (map (head_proof es ks) heads)
 pub record Heading (es : List Assignment) (ks : List Proofs) (kids here : ℕ) (heads : List Head) : Type 0 where
   pub within : here ≤ kids
   pub fit : HeadsFit (length es) (length ks) kids (reverse heads)
-  pub same : kids_at ks kids ≡ joined (kids_at ks here) (row_at es ks (reverse heads))
+  pub same : kids_at ks kids ≡ joined_proofs (kids_at ks here) (row_at es ks (reverse heads))
 
 pub heading_first : (es : List Assignment) (ks : List Proofs) (kids : ℕ) (heads : List Head) → heads ≡ [] → Heading es ks kids kids heads
 heading_first es ks kids heads e = record {
   within = (omega arith);
   fit = subst (λ (hs : List Head). HeadsFit (length es) (length ks) kids (reverse hs)) (sym e) tt;
-  same = sym (joined-none (kids_at ks kids)) ∙ ap (λ (hs : List Head). joined (kids_at ks kids) (row_at es ks (reverse hs))) (sym e);
+  same = sym (joined_proofs-none (kids_at ks kids)) ∙ ap (λ (hs : List Head). joined_proofs (kids_at ks kids) (row_at es ks (reverse hs))) (sym e);
 }
 
 pub heading_more : (es : List Assignment) (ks : List Proofs) (kids here : ℕ) (heads more : List Head) (c : Kid) → Heading es ks kids here heads → KidRead es ks here c → more ≡ heads ++ c.head ∷ [] → Heading es ks kids c.before more
@@ -43,14 +43,14 @@ heading_more es ks kids here heads more c h r g =
     record {
       within = (omega arith);
       fit = subst (λ (hs : List Head). HeadsFit (length es) (length ks) kids hs) (sym q) (r.head, (omega arith), h.fit);
-      same = h.same ∙ ap (λ (x : Proofs). joined x (row_at es ks (reverse heads))) r.kids ∙ joined-assoc (kids_at ks c.before) (head_proof es ks c.head ⊳ no_more) (row_at es ks (reverse heads))
-          ∙ ap (λ (hs : List Head). joined (kids_at ks c.before) (row_at es ks hs)) (sym q);
+      same = h.same ∙ ap (λ (x : Proofs). joined_proofs x (row_at es ks (reverse heads))) r.kids ∙ joined_proofs-assoc (kids_at ks c.before) (head_proof es ks c.head ⊳ no_more) (row_at es ks (reverse heads))
+          ∙ ap (λ (hs : List Head). joined_proofs (kids_at ks c.before) (row_at es ks hs)) (sym q);
     }
 
 pub heading_end : (es : List Assignment) (ks : List Proofs) (kids here : ℕ) (heads row : List Head) → Heading es ks kids here heads → here ≡ 0 → row ≡ reverse heads → AreHeads es ks kids row
 heading_end es ks kids here heads row h z r = record {
   fit = subst (λ (hs : List Head). HeadsFit (length es) (length ks) kids hs) (sym r) h.fit;
-  proofs = h.same ∙ ap (λ (n : ℕ). joined (kids_at ks n) (row_at es ks (reverse heads))) z ∙ ap (row_at es ks) (sym r);
+  proofs = h.same ∙ ap (λ (n : ℕ). joined_proofs (kids_at ks n) (row_at es ks (reverse heads))) z ∙ ap (row_at es ks) (sym r);
 }
 
 -- a head among those of a chain may stand in the store, and its kids before the chain

@@ -6,19 +6,22 @@ use Rattle.std.proofs.lemmas.Bool.{cases_lt}
 use Rattle.sx_rules.specs.Rules.{Judgement, Rule, Hypotheses}
 use Rattle.sx_rules.specs.Modes.{Modes, inputs_of, Goal, goal_of}
 use Rattle.sx_arena.specs.Arena.{trees, tree_at, AreBelow}
-use Rattle.sx_arena.specs.Binds.{env_at, BindsGrow, IsFit}
+use Rattle.sx_arena.specs.Binds.{env_at, BindsGrow, IsChainFit}
 use Rattle.sx_arena.specs.Facts.{IsFact, AreFacts}
-use Rattle.sx_arena.specs.Matching.{unbound, match_all}
+use Rattle.sx_arena.specs.Matching.{nothing_bound, match_all}
 use Rattle.sx_arena.specs.declared.fact.Fact.{Fact}
 use Rattle.sx_arena.specs.declared.pairs.Pair.{Pair}
 use Rattle.sx_arena.proofs.Arenas.{distinct, below_more, maps_same}
 use Rattle.sx_arena.proofs.Growing.{extends-length}
 use Rattle.sx_derive.specs.Candidates.{goal_in}
-use Rattle.sx_derive.specs.Descents.{AreHyps, spot_goal, PremisesLead, RulesLead, IsDescent, IsFirstRule, HasInputs, IsFirstFact}
+use Rattle.sx_derive.specs.Descents.{AreHyps, spot_goal, PremisesLead, RulesLead, IsDescent}
+use Rattle.sx_derive.specs.Descents.{IsFirstRule, HasInputs, IsFirstFact}
 use Rattle.sx_derive.specs.Quiet.{IsSilent}
-use Rattle.sx_derive.specs.Store.{IsStore, Grows, store_trees, store_envs}
-use Rattle.sx_derive.specs.Stuck.{no_rule, mismatch, Blame, rule_match, PremisesStuck, RulesStuck, GivensStuck, IsStuck}
-use Rattle.sx_derive.specs.Walk.{Event, Answer, premise_events, after_match, rule_events, rules_events, given_events, goal_events}
+use Rattle.sx_derive.specs.Store.{IsStore, StoreGrows, store_trees, store_envs}
+use Rattle.sx_derive.specs.Stuck.{no_rule, mismatch, Blame, rule_match, PremisesStuck, RulesStuck}
+use Rattle.sx_derive.specs.Stuck.{GivensStuck, IsStuck}
+use Rattle.sx_derive.specs.Walk.{Event, Answer, premise_events, after_match, rule_events}
+use Rattle.sx_derive.specs.Walk.{rules_events, given_events, goal_events}
 use Rattle.sx_derive.specs.declared.descent.Descent.{Descent}
 use Rattle.sx_derive.specs.declared.descent.Descent.TheVariants.{Stuck, Below}
 use Rattle.sx_derive.specs.declared.descent.Reason.TheVariants.{NoRule, Mismatch}
@@ -43,7 +46,7 @@ env_found (Some p) = p.1
 
 -- what holds before the rule with the number
 pub record Leading (modes : Modes) (rules : List Rule) (goal : Goal) (old now : Store) (number : ℕ) : Type 0 where
-  pub grows : Grows modes rules old now
+  pub grows : StoreGrows modes rules old now
   pub leads : (s : Store) (x : Option (ℕ × ℕ)) → IsFirstRule modes s goal number (drop number rules) x → IsFirstRule modes s goal 0 rules x
 
 plus_one : (k : ℕ) → suc k ≡ k + 1
@@ -89,13 +92,13 @@ module _ (modes : Modes) (rules : List Rule) (form : ℕ) (terms : List ℕ) (ol
     sought_stays : goal_in mid form terms ≡ sought
     sought_stays = λ i. record { form = form; terms = maps_same (store_trees old) (store_trees mid) h.grows.trees terms below i }
 
-    module _ (rule : Rule) (e : slice_get rules number ≡ Some rule) (g : Grows modes rules mid new) where
-      pub rule_fits : (env : ℕ) → IsFit (store_trees new) new.binds (rule_match modes rule (goal_in mid form terms)) (Some env) → IsFirstRule modes new sought 0 rules (Some (number, env))
+    module _ (rule : Rule) (e : slice_get rules number ≡ Some rule) (g : StoreGrows modes rules mid new) where
+      pub rule_fits : (env : ℕ) → IsChainFit (store_trees new) new.binds (rule_match modes rule (goal_in mid form terms)) (Some env) → IsFirstRule modes new sought 0 rules (Some (number, env))
       rule_fits env f =
           h.leads new (Some (number, env)) (subst (λ (rs : List Rule). IsFirstRule modes new sought number rs (Some (number, env))) (sym (drop_rule rules number rule e))
           (inl (env, refl, f.0, ap (rule_match modes rule) (sym sought_stays) ∙ f.1)))
 
-      pub rule_differs : IsFit (store_trees new) new.binds (rule_match modes rule (goal_in mid form terms)) None → Leading modes rules sought old new (number + 1)
+      pub rule_differs : IsChainFit (store_trees new) new.binds (rule_match modes rule (goal_in mid form terms)) None → Leading modes rules sought old new (number + 1)
       rule_differs f = record {
         grows = grows_then modes rules old mid new h.grows g;
         leads = λ s x k. h.leads s x (subst (λ (rs : List Rule). IsFirstRule modes s sought number rs x) (sym (drop_rule rules number rule e))
@@ -150,7 +153,7 @@ module _ (modes subjects : Modes) (rules : List Rule) (hyps : Hypotheses) (known
             found = refl;
             within = (let l = x.2 in omega arith);
             quiet = λ h. silent_conclude known budget modes r rule (premise_events modes hyps below_events rule.premises (env_at (store_envs s) env))
-                (silent_rule known budget (nat_eq rule.conclusion.form goal.form) (match_all (inputs_of modes rule.conclusion) goal.terms unbound) (after_match modes hyps below_events r rule) (env_at (store_envs s) env) m
+                (silent_rule known budget (nat_eq rule.conclusion.form goal.form) (match_all (inputs_of modes rule.conclusion) goal.terms nothing_bound) (after_match modes hyps below_events r rule) (env_at (store_envs s) env) m
                 (silent_left known budget (rule_events modes hyps below_events r rule goal) (rules_events modes hyps below_events (suc r) rs goal)
                 (silent_try known budget (rule_events modes hyps below_events r rule goal ++ rules_events modes hyps below_events (suc r) rs goal) h)));
             leads = λ blame h. inl (env_at (store_envs s) env, m, subst (λ (n : ℕ). PremisesStuck modes subjects rules hyps Under n rule goal path 0 rule.premises (env_at (store_envs s) env) blame) same_number h);
@@ -247,12 +250,12 @@ module _ (modes subjects : Modes) (rules : List Rule) (hyps : Hypotheses) (level
 
 -- more bindings
 pub fit_grows : {A E : Type 0} (modes : Modes) (rules : List Rule) (s t : Store) → IsStore modes rules s → t.arena ≡ s.arena → t.kids.items ≡ s.kids.items → t.frames.items ≡ s.frames.items →
-    (r : Result A E) → OnOk r (BindsGrow (trees s.arena) s.binds t.binds) → IfOk r (λ x. Grows modes rules s t)
+    (r : Result A E) → OnOk r (BindsGrow (trees s.arena) s.binds t.binds) → IfOk r (λ x. StoreGrows modes rules s t)
 fit_grows modes rules s t h a k f (Ok x) g = grows_binds modes rules s t h g a k f
 fit_grows modes rules s t h a k f (Err e) g = tt
 
 -- what is known after the first rule was sought
-module _ (modes subjects : Modes) (rules : List Rule) (hyps : Hypotheses) (known : Bool) (budget levels : ℕ) (old new : Store) (facts : List Fact) (pairs : List Pair) (spot : Spot) (are : AreHyps modes old facts pairs hyps) (below : AreBelow (length (store_trees old)) spot.terms.items) (g : Grows modes rules old new) where
+module _ (modes subjects : Modes) (rules : List Rule) (hyps : Hypotheses) (known : Bool) (budget levels : ℕ) (old new : Store) (facts : List Fact) (pairs : List Pair) (spot : Spot) (are : AreHyps modes old facts pairs hyps) (below : AreBelow (length (store_trees old)) spot.terms.items) (g : StoreGrows modes rules old new) where
   pub sought_none : IsFirstRule modes new (spot_goal old spot) 0 rules None → IsDescent modes subjects rules hyps budget levels new (RulesLead modes subjects rules hyps budget levels (spot_goal old spot) spot.path.items) (Stuck spot NoRule)
   sought_none f =
       let s = spot_stays modes rules old new spot g below in (

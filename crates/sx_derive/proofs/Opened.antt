@@ -13,12 +13,15 @@ use Rattle.sx_rules.specs.Sorts.{RulesAreSorted}
 use Rattle.sx_rules.specs.Views.{FormData, places_at, is_out, modes_of, sorts_of}
 use Rattle.sx_arena.specs.Facts.{AreFacts}
 use Rattle.sx_arena.specs.declared.fact.Fact.{Fact}
-use Rattle.sx_arena.specs.Matching.{Assignment, unbound, bind, match_variable, match_then, match_all, filled}
+use Rattle.sx_arena.specs.Matching.{Assignment, nothing_bound, bind, match_variable, match_then}
+use Rattle.sx_arena.specs.Matching.{match_all, filled}
 use Rattle.sx_arena.proofs.Sameness.{nat_same}
 use Rattle.sx_derive.specs.Open.{IsOpen}
 use Rattle.sx_derive.specs.Quiet.{IsSilent, first_given}
 use Rattle.sx_derive.specs.Search.{EachGiven}
-use Rattle.sx_derive.specs.Walk.{Event, try, give, stop, Answer, when_matched, limit_passed, first_values, conclude, premise_events, after_match, rule_events, rules_events, given_events, goal_events}
+use Rattle.sx_derive.specs.Walk.{Event, try, give, stop, Answer, when_matched, limit_passed}
+use Rattle.sx_derive.specs.Walk.{first_values, conclude, premise_events, after_match, rule_events}
+use Rattle.sx_derive.specs.Walk.{rules_events, given_events, goal_events}
 use Rattle.sx_derive.proofs.Blamed.{first_least}
 use Rattle.sx_derive.proofs.Silent.{silent_rest}
 use Rattle.sx_derive.proofs.Sound.{given-append, given-when, given-when_matched, given-unless_passed, given-then_each}
@@ -73,8 +76,8 @@ given_any (give a ∷ es) = (tt, given_any es)
 module _ (modes : Modes) (rules : List Rule) (hyps : Hypotheses) (none_held : hyps.judgements ≡ []) (fit : ConclusionsFit modes rules) where
   rule_outs : (below : Goal → List (Event Answer)) (r : ℕ) (rule : Rule) (goal : Goal) → length rule.conclusion.places ≡ length (modes rule.conclusion.form) → EachGiven (HasOuts modes goal) (rule_events modes hyps below r rule goal)
   rule_outs below r rule goal l =
-      given-when (HasOuts modes goal) (nat_eq rule.conclusion.form goal.form) (when_matched (match_all (inputs_of modes rule.conclusion) goal.terms unbound) (after_match modes hyps below r rule))
-      (λ same_form. given-when_matched (HasOuts modes goal) (match_all (inputs_of modes rule.conclusion) goal.terms unbound) (after_match modes hyps below r rule)
+      given-when (HasOuts modes goal) (nat_eq rule.conclusion.form goal.form) (when_matched (match_all (inputs_of modes rule.conclusion) goal.terms nothing_bound) (after_match modes hyps below r rule))
+      (λ same_form. given-when_matched (HasOuts modes goal) (match_all (inputs_of modes rule.conclusion) goal.terms nothing_bound) (after_match modes hyps below r rule)
       (λ env m. given-then_each (λ x. Unit {0}) (HasOuts modes goal) (conclude modes r rule) (premise_events modes hyps below rule.premises env) (given_any (premise_events modes hyps below rule.premises env))
       (λ found u.
       let made = outputs_of modes (judgement_instance (filled found.0) rule.conclusion) in

@@ -6,14 +6,14 @@ use Rattle.std.proofs.lemmas.List.{drop_all, length-map}
 use Rattle.sx_term.specs.Tree.{Tree, node, lexeme, hole}
 use Rattle.sx_term.specs.Term.{tree}
 use Rattle.sx_term.specs.declared.term.Term.{Term}
-use Rattle.sx_arena.specs.Binds.{envs, env_at, IsBinds, IsFound}
+use Rattle.sx_arena.specs.Binds.{envs, env_at, IsBinds, IsBoundTerm}
 use Rattle.sx_arena.specs.Matching.{Assignment}
 use Rattle.sx_arena.specs.Places.{selected}
 use Rattle.sx_arena.specs.declared.binds.Binds.{Binds}
 use Rattle.sx_arena.proofs.Placed.{selected_none, selected_more, selected_less, maps_drop}
 use Rattle.sx_derive.specs.Open.{IsOpen}
 
-pub found_none : (ts : List Tree) (u : Option Tree) (r : Option ℕ) (n : Bool) → IsFound ts u r → is_some r ≡ not n → IsTrue n ↔ (u ≡ None)
+pub found_none : (ts : List Tree) (u : Option Tree) (r : Option ℕ) (n : Bool) → IsBoundTerm ts u r → is_some r ≡ not n → IsTrue n ↔ (u ≡ None)
 found_none ts u None true f s = (λ t. f, λ e. refl)
 found_none ts u None false f s = let z : ⊥ = cc in absurd z
 found_none ts u (Some i) true f s = let z : ⊥ = cc in absurd z

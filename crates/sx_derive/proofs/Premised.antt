@@ -17,10 +17,11 @@ use Rattle.sx_derive.specs.declared.step.Step.{Step}
 use Rattle.sx_derive.specs.declared.step.Step.TheVariants.{Nothing}
 use Rattle.sx_arena.specs.Binds.{env_at, bind_step}
 use Rattle.sx_derive.specs.Chains.{kids_at, kid_step, frames_at, waiting_step}
-use Rattle.sx_arena.specs.Pairs.{pairs_of, ArePairs, IsTold}
+use Rattle.sx_arena.specs.Pairs.{pairs_of, ArePairs, IsTruthTold}
 use Rattle.sx_arena.specs.Views.{premise_of}
-use Rattle.sx_derive.specs.Store.{IsStore, Grows, store_trees, store_envs, store_kids, store_frames}
-use Rattle.sx_derive.specs.Step.{IsStep, IsConcluded, IsAsked}
+use Rattle.sx_derive.specs.Store.{IsStore, StoreGrows, store_trees, store_envs, store_kids}
+use Rattle.sx_derive.specs.Store.{store_frames}
+use Rattle.sx_derive.specs.Step.{IsSearchStep, IsConcluded, IsAsked}
 use Rattle.sx_derive.specs.Premises.{result_of, IsPremises, ArePassed}
 use Rattle.sx_arena.proofs.Growing.{grown-length, extends-length}
 use Rattle.sx_arena.proofs.BindChains.{env_stays}
@@ -52,7 +53,7 @@ pub record Stays (modes : Modes) (rules : List Rule) (s t : Store) (env kids fra
   pub kids_within : kids ≤ length t.kids.items
   pub frames_within : frames ≤ length t.frames.items
 
-pub stays : (modes : Modes) (rules : List Rule) (s t : Store) (env kids frames : ℕ) → Grows modes rules s t → env ≤ length s.binds.cells.items → kids ≤ length s.kids.items → frames ≤ length s.frames.items → Stays modes rules s t env kids frames
+pub stays : (modes : Modes) (rules : List Rule) (s t : Store) (env kids frames : ℕ) → StoreGrows modes rules s t → env ≤ length s.binds.cells.items → kids ≤ length s.kids.items → frames ≤ length s.frames.items → Stays modes rules s t env kids frames
 stays modes rules s t env kids frames g le lk lf =
     let me = grown-length (bind_step (store_trees s)) s.binds.cells.items in
     let mk = grown-length (kid_step (store_envs s)) s.kids.items in
@@ -80,7 +81,7 @@ module _ (modes : Modes) (rules : List Rule) (pairs : List Pair) (old mid new : 
       let s = stays modes rules old mid env kids frames a.grows le lk lf in
       record {
         grows = grows_then modes rules old mid new a.grows c.grows;
-        is = λ js next. subst (λ (r : Result). IsStep modes rules js new next step r)
+        is = λ js next. subst (λ (r : Result). IsSearchStep modes rules js new next step r)
             ((λ i. premises_result modes (record { judgements = js; pairs = pairs_of (store_trees old) pairs }) number rule levels (frames_at (store_frames modes rules old) frames) next [] (s.envs i) (s.kids_are i)) ∙ sym (a.same js next))
             (c.is js next);
       }
@@ -91,14 +92,14 @@ module _ (modes : Modes) (rules : List Rule) (pairs : List Pair) (old mid new : 
       let s = stays modes rules old mid env kids frames a.grows le lk lf in
       record {
         grows = grows_then modes rules old mid new a.grows c.grows;
-        is = λ js next. subst (λ (r : Result). IsStep modes rules js new next step r)
+        is = λ js next. subst (λ (r : Result). IsSearchStep modes rules js new next step r)
             ((λ i. premises_result modes (record { judgements = js; pairs = pairs_of (store_trees old) pairs }) number rule levels (s.frames_are i) next (holds j ∷ drop (k + 1) rule.premises) (s.envs i) (s.kids_are i)) ∙ sym (a.same js next))
             (c.is (record { judgements = js; pairs = pairs_of (store_trees old) pairs }) next rule f);
       }
 
   -- two terms that are to be apart
   apart_told : (b : Bool) (t u : Tree) (rest : List Premise) → ArePassed modes rules pairs old mid number rule levels env kids frames ps (apart t u ∷ rest) →
-      IsTold mid.arena new.arena b (are_apart (record { judgements = []; pairs = pairs_of (store_trees mid) pairs }) (instance (filled (env_at (store_envs mid) env)) t) (instance (filled (env_at (store_envs mid) env)) u)) →
+      IsTruthTold mid.arena new.arena b (are_apart (record { judgements = []; pairs = pairs_of (store_trees mid) pairs }) (instance (filled (env_at (store_envs mid) env)) t) (instance (filled (env_at (store_envs mid) env)) u)) →
       (js : List Judgement) (next : Answer → Result) → result_of modes rules pairs old number rule levels env kids frames js next ps ≡ result_when b (result_of modes rules pairs old number rule levels env kids frames js next rest)
   apart_told b t u rest a c js next =
       let s = stays modes rules old mid env kids frames a.grows le lk lf in
@@ -108,7 +109,7 @@ module _ (modes : Modes) (rules : List Rule) (pairs : List Pair) (old mid new : 
       a.same js next ∙ ap (λ x. result_when x (result_of modes rules pairs old number rule levels env kids frames js next rest)) e
 
   pub apart_fails : (b : Bool) (t u : Tree) (rest : List Premise) → ArePassed modes rules pairs old mid number rule levels env kids frames ps (apart t u ∷ rest) →
-      IsTold mid.arena new.arena b (are_apart (record { judgements = []; pairs = pairs_of (store_trees mid) pairs }) (instance (filled (env_at (store_envs mid) env)) t) (instance (filled (env_at (store_envs mid) env)) u)) →
+      IsTruthTold mid.arena new.arena b (are_apart (record { judgements = []; pairs = pairs_of (store_trees mid) pairs }) (instance (filled (env_at (store_envs mid) env)) t) (instance (filled (env_at (store_envs mid) env)) u)) →
       b ≡ false → new.binds ≡ mid.binds → new.kids.items ≡ mid.kids.items → new.frames.items ≡ mid.frames.items → IsPremises modes rules pairs old new number rule levels env kids frames ps Nothing
   apart_fails b t u rest a c f x y z = record {
     grows = grows_then modes rules old mid new a.grows (grows_terms modes rules mid new a.grows.store c.arena c.extends x y z);
@@ -116,7 +117,7 @@ module _ (modes : Modes) (rules : List Rule) (pairs : List Pair) (old mid new : 
   }
 
   pub apart_holds : (b : Bool) (t u : Tree) (rest : List Premise) → ArePassed modes rules pairs old mid number rule levels env kids frames ps (apart t u ∷ rest) →
-      IsTold mid.arena new.arena b (are_apart (record { judgements = []; pairs = pairs_of (store_trees mid) pairs }) (instance (filled (env_at (store_envs mid) env)) t) (instance (filled (env_at (store_envs mid) env)) u)) →
+      IsTruthTold mid.arena new.arena b (are_apart (record { judgements = []; pairs = pairs_of (store_trees mid) pairs }) (instance (filled (env_at (store_envs mid) env)) t) (instance (filled (env_at (store_envs mid) env)) u)) →
       b ≡ true → new.binds ≡ mid.binds → new.kids.items ≡ mid.kids.items → new.frames.items ≡ mid.frames.items → ArePassed modes rules pairs old new number rule levels env kids frames ps rest
   apart_holds b t u rest a c f x y z = record {
     grows = grows_then modes rules old mid new a.grows (grows_terms modes rules mid new a.grows.store c.arena c.extends x y z);

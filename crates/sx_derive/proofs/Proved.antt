@@ -10,20 +10,21 @@ use Rattle.sx_rules.specs.ProofView.{proof, boxed}
 use Rattle.sx_rules.proofs.ProofRows.{proof-at_by}
 use Rattle.sx_arena.specs.Matching.{Assignment, filled}
 use Rattle.sx_derive.specs.Walk.{first_values}
-use Rattle.sx_derive.specs.Machine.{joined}
+use Rattle.sx_derive.specs.Machine.{joined_proofs}
 use Rattle.sx_derive.specs.declared.chains.Head.{Head}
 use Rattle.sx_derive.specs.declared.chains.Head.TheVariants.{Given, By}
 use Rattle.sx_derive.specs.declared.chains.Kid.{Kid}
 use Rattle.sx_arena.specs.Binds.{env_at}
-use Rattle.sx_derive.specs.Chains.{kids_at, head_proof, kid_step, HeadFits, KidFits, kids_of, AreKids}
+use Rattle.sx_derive.specs.Chains.{kids_at, head_proof, kid_step, HeadFits, KidFits, kids_of}
+use Rattle.sx_derive.specs.Chains.{AreKids}
 use Rattle.sx_derive.specs.Listing.{head_kids}
 use Rattle.sx_arena.proofs.Growing.{extends-length, extends-same, grown-at}
 use Rattle.sx_derive.proofs.Chained.{kids_stay_at, head_stays}
-use Rattle.sx_derive.proofs.Stepped.{joined-assoc, joined-none}
+use Rattle.sx_derive.proofs.Stepped.{joined_proofs-assoc, joined_proofs-none}
 
 -- the cell at a number
 pub record KidRead (es : List Assignment) (ks : List Proofs) (here : ℕ) (c : Kid) : Type 0 where
-  pub kids : kids_at ks here ≡ joined (kids_at ks c.before) (head_proof es ks c.head ⊳ no_more)
+  pub kids : kids_at ks here ≡ joined_proofs (kids_at ks c.before) (head_proof es ks c.head ⊳ no_more)
   pub head : HeadFits (length es) (length ks) c.head
   pub less : head_kids c.head < here
   pub before : c.before < here
@@ -46,7 +47,7 @@ kid_read_at es cs h i c l e =
     let k = fits_kids (length es) (length front) c.head p.head in
     let x = extends-length front (kids_of es cs) r.3 in
     record {
-      kids = r.4 ∙ (λ j. joined (sym (kids_stay_at front (kids_of es cs) r.3 c.before w) j) (sym (head_stays es es front (kids_of es cs) (extends-same es) r.3 c.head p.head) j ⊳ no_more));
+      kids = r.4 ∙ (λ j. joined_proofs (sym (kids_stay_at front (kids_of es cs) r.3 c.before w) j) (sym (head_stays es es front (kids_of es cs) (extends-same es) r.3 c.head p.head) j ⊳ no_more));
       head = fits_more (length es) (length front) (length (kids_of es cs)) c.head x p.head;
       less = (omega arith);
       before = (omega arith);
@@ -60,12 +61,12 @@ kid_read es cs h here c p l e =
 -- the kids that are made so far are the last of the chain
 pub record Proving (ks : List Proofs) (kids here : ℕ) (proofs : List (Box ProofOf Global)) : Type 0 where
   pub within : here ≤ kids
-  pub same : kids_at ks kids ≡ joined (kids_at ks here) (boxed (reverse proofs))
+  pub same : kids_at ks kids ≡ joined_proofs (kids_at ks here) (boxed (reverse proofs))
 
 pub proving_first : (ks : List Proofs) (kids : ℕ) (proofs : List (Box ProofOf Global)) → proofs ≡ [] → Proving ks kids kids proofs
 proving_first ks kids proofs e = record {
   within = (omega arith);
-  same = sym (joined-none (kids_at ks kids)) ∙ ap (λ (ps : List (Box ProofOf Global)). joined (kids_at ks kids) (boxed (reverse ps))) (sym e);
+  same = sym (joined_proofs-none (kids_at ks kids)) ∙ ap (λ (ps : List (Box ProofOf Global)). joined_proofs (kids_at ks kids) (boxed (reverse ps))) (sym e);
 }
 
 pub proving_more : (es : List Assignment) (ks : List Proofs) (kids here : ℕ) (proofs more : List (Box ProofOf Global)) (c : Kid) (b : Box ProofOf Global) (p : ProofOf) → Proving ks kids here proofs → KidRead es ks here c →
@@ -77,13 +78,13 @@ proving_more es ks kids here proofs more c b p h r e f g =
     ap (λ (ps : List (Box ProofOf Global)). boxed (reverse ps)) g ∙ ap boxed (reverse-append proofs (b ∷ [])) ∙ ap (λ (x : Proof). x ⊳ boxed (reverse proofs)) (ap proof f ∙ e) in
     record {
       within = (omega arith);
-      same = h.same ∙ ap (λ (x : Proofs). joined x (boxed (reverse proofs))) r.kids ∙ joined-assoc (kids_at ks c.before) (head_proof es ks c.head ⊳ no_more) (boxed (reverse proofs))
-          ∙ ap (joined (kids_at ks c.before)) (sym q);
+      same = h.same ∙ ap (λ (x : Proofs). joined_proofs x (boxed (reverse proofs))) r.kids ∙ joined_proofs-assoc (kids_at ks c.before) (head_proof es ks c.head ⊳ no_more) (boxed (reverse proofs))
+          ∙ ap (joined_proofs (kids_at ks c.before)) (sym q);
     }
 
 pub proving_end : (es : List Assignment) (ks : List Proofs) (kids here number variables env : ℕ) (proofs : List (Box ProofOf Global)) (head : Head) (binds : Vec Term Global) (row : Vec (Box ProofOf Global) Global) → Proving ks kids here proofs → here ≡ 0 →
     head ≡ By number variables env kids → map tree binds.items ≡ first_values variables (filled (env_at es env)) → row.items ≡ reverse proofs → proof (ByOf number binds row) ≡ head_proof es ks head
 proving_end es ks kids here number variables env proofs head binds row h z e b r =
     proof-at_by (ByOf number binds row) number binds row refl
-    ∙ (λ i. by number (b i) ((ap boxed r ∙ sym (h.same ∙ ap (λ (n : ℕ). joined (kids_at ks n) (boxed (reverse proofs))) z)) i))
+    ∙ (λ i. by number (b i) ((ap boxed r ∙ sym (h.same ∙ ap (λ (n : ℕ). joined_proofs (kids_at ks n) (boxed (reverse proofs))) z)) i))
     ∙ sym (ap (head_proof es ks) e)

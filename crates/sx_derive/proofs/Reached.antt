@@ -3,12 +3,18 @@ use Rattle.std.specs.Prelude.{slice_get, nat_eq, ◌&&◌}
 use Rattle.std.proofs.lemmas.Bool.{eq-eqb}
 use Rattle.sx_term.specs.Tree.{Tree}
 use Rattle.sx_rules.specs.Instances.{instance, StandsAmong, bound_by}
-use Rattle.sx_arena.specs.Matching.{same_all, Assignment, unbound, match_all, filled, IsBound, Agrees}
-use Rattle.sx_rules.specs.Rules.{Judgement, Premise, holds, apart, Rule, Hypotheses, judgement_instance, judgements_of, AllApart}
-use Rattle.sx_rules.specs.Modes.{Modes, inputs_of, outputs_of, Goal, goal_of, AreModed, IsModed, AllModed}
+use Rattle.sx_arena.specs.Matching.{same_all, Assignment, nothing_bound, match_all, filled, IsBound}
+use Rattle.sx_arena.specs.Matching.{Agrees}
+use Rattle.sx_rules.specs.Rules.{Judgement, Premise, holds, apart, Rule, Hypotheses}
+use Rattle.sx_rules.specs.Rules.{judgement_instance, judgements_of, AllApart}
+use Rattle.sx_rules.specs.Modes.{Modes, inputs_of, outputs_of, Goal, goal_of, AreModed, IsModed}
+use Rattle.sx_rules.specs.Modes.{AllModed}
 use Rattle.sx_rules.specs.Derivations.{Proof, Proofs, by, given, no_more, ◌⊳◌, Derives, DeriveEach}
 use Rattle.sx_rules.specs.Orders.{of_given, order_of, order_of_all}
-use Rattle.sx_derive.specs.Walk.{Event, give, Answer, then_each, when_matched, limit_passed, are_apart, put_first, after_kid, premise_events, first_values, conclude, after_match, rule_events, rules_events, given_event, given_events, goal_events}
+use Rattle.sx_derive.specs.Walk.{Event, give, Answer, then_each, when_matched, limit_passed}
+use Rattle.sx_derive.specs.Walk.{are_apart, put_first, after_kid, premise_events, first_values}
+use Rattle.sx_derive.specs.Walk.{conclude, after_match, rule_events, rules_events, given_event}
+use Rattle.sx_derive.specs.Walk.{given_events, goal_events}
 use Rattle.sx_arena.proofs.Sameness.{and_both, same_all_self}
 use Rattle.sx_arena.proofs.Matchings.{match_all-matches, match_all_found, stays-bound}
 use Rattle.sx_rules.proofs.Moded.{inputs-map, outputs-map, moded-at}
@@ -22,8 +28,8 @@ AnswerBefore q a = Precedes (order_of a.0) (order_of q)
 abbrev pub IsAnswer : Proof → List Tree → Answer → Type 0
 IsAnswer q outs a = a ≡ (q, outs)
 
-unbound-agrees : (s : ℕ → Tree) → Agrees unbound s
-unbound-agrees s v u e = cc
+nothing_bound-agrees : (s : ℕ → Tree) → Agrees nothing_bound s
+nothing_bound-agrees s v u e = cc
 
 -- the end of the premises under a substitution
 pub record IsEnd (modes : Modes) (rule : Rule) (s : ℕ → Tree) (kids : Proofs) (found : Assignment × Proofs) : Type 0 where
@@ -145,11 +151,11 @@ module _ (modes : Modes) (rules : List Rule) (hyps : Hypotheses) where
       let below = goal_events modes rules hyps levels in
       let patterns = inputs_of modes rule.conclusion in
       let terms = inputs_of modes (judgement_instance s rule.conclusion) in
-      let m = match_all_found patterns terms unbound s (unbound-agrees s) (sym (inputs-map s (modes rule.conclusion.form) rule.conclusion.places)) in
-      let k = match_all-matches patterns terms unbound m.0 m.1 in
+      let m = match_all_found patterns terms nothing_bound s (nothing_bound-agrees s) (sym (inputs-map s (modes rule.conclusion.form) rule.conclusion.places)) in
+      let k = match_all-matches patterns terms nothing_bound m.0 m.1 in
       settle-when (AnswerBefore q) (IsAnswer q outs) (nat_eq rule.conclusion.form rule.conclusion.form)
-      (when_matched (match_all patterns terms unbound) (after_match modes hyps below r rule)) (eq-eqb rule.conclusion.form rule.conclusion.form refl)
-      (settle-when_matched (AnswerBefore q) (IsAnswer q outs) (match_all patterns terms unbound) (after_match modes hyps below r rule) m.0 m.1
+      (when_matched (match_all patterns terms nothing_bound) (after_match modes hyps below r rule)) (eq-eqb rule.conclusion.form rule.conclusion.form refl)
+      (settle-when_matched (AnswerBefore q) (IsAnswer q outs) (match_all patterns terms nothing_bound) (after_match modes hyps below r rule) m.0 m.1
       (settle-then_each (AnswerBefore q) (conclude modes r rule) (EndBefore kids) (IsEnd modes rule s kids) (IsAnswer q outs)
       (premise_events modes hyps below rule.premises m.0)
       (premises_reached levels rule s rule.premises kids m.0 (λ v. StandsAmong v patterns) m.2 k.every moded apart_ones each)
@@ -160,8 +166,8 @@ module _ (modes : Modes) (rules : List Rule) (hyps : Hypotheses) where
       Passes (AnswerBefore q) (rule_events modes hyps (goal_events modes rules hyps levels) n rule goal)
   other_rule_passes levels n rule goal q h =
       let below = goal_events modes rules hyps levels in
-      passes-when (AnswerBefore q) (nat_eq rule.conclusion.form goal.form) (when_matched (match_all (inputs_of modes rule.conclusion) goal.terms unbound) (after_match modes hyps below n rule))
-      (passes-when_matched (AnswerBefore q) (match_all (inputs_of modes rule.conclusion) goal.terms unbound) (after_match modes hyps below n rule)
+      passes-when (AnswerBefore q) (nat_eq rule.conclusion.form goal.form) (when_matched (match_all (inputs_of modes rule.conclusion) goal.terms nothing_bound) (after_match modes hyps below n rule))
+      (passes-when_matched (AnswerBefore q) (match_all (inputs_of modes rule.conclusion) goal.terms nothing_bound) (after_match modes hyps below n rule)
       (λ env. passes-then_each (AnswerBefore q) (conclude modes n rule) (premise_events modes hyps below rule.premises env)
       (λ found. let made = outputs_of modes (judgement_instance (filled found.0) rule.conclusion) in
       passes-unless_passed (AnswerBefore q) (limit_passed made) (give (by n (first_values (length rule.sorts) (filled found.0)) found.1, made) ∷ [])

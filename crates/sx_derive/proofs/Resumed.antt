@@ -10,7 +10,8 @@ use Rattle.sx_rules.specs.Modes.{Modes, outputs_of}
 use Rattle.sx_rules.specs.Deep.{RuleIsShallow, RulesAreShallow}
 use Rattle.sx_rules.specs.Derivations.{no_more, ◌⊳◌}
 use Rattle.sx_arena.specs.Matching.{Assignment, match_all}
-use Rattle.sx_derive.specs.Machine.{Frame, Result, result_matched, premises_result, hand_on, joined}
+use Rattle.sx_derive.specs.Machine.{Frame, Result, result_matched, premises_result, hand_on}
+use Rattle.sx_derive.specs.Machine.{joined_proofs}
 use Rattle.sx_derive.specs.declared.chains.Head.{Head}
 use Rattle.sx_derive.specs.declared.chains.Waiting.{Waiting}
 use Rattle.sx_arena.specs.declared.pairs.Pair.{Pair}
@@ -23,7 +24,7 @@ use Rattle.sx_derive.specs.Chains.{kids_at, kid_step, head_proof, HeadFits, wait
 use Rattle.sx_derive.specs.Handing.{hyps_in, answer_in, frames_in, waiting_in, IsWaiting, IsResumed}
 use Rattle.sx_arena.specs.Pairs.{pairs_of, ArePairs}
 use Rattle.sx_derive.specs.Premises.{IsPremises}
-use Rattle.sx_derive.specs.Step.{IsStep}
+use Rattle.sx_derive.specs.Step.{IsSearchStep}
 use Rattle.sx_derive.specs.Store.{IsStore, store_trees, store_envs, store_kids, store_frames}
 use Rattle.sx_arena.proofs.Growing.{grown-length, extends-length}
 use Rattle.sx_arena.proofs.BindChains.{env_stays}
@@ -80,7 +81,7 @@ module _ (modes : Modes) (rules : List Rule) (pairs : List Pair) (s t : Store) (
   -- what is made of the answer, by the frame's fields
   abbrev made_of : List Judgement → Option Assignment → Result
   made_of js m = result_matched m (λ env. premises_result modes (hyps_in pairs s js) c.rule rule c.levels (frames_in modes rules s c.before) (hand_on modes (hyps_in pairs s js) (frames_in modes rules s c.before))
-      (drop (c.premise + 1) rule.premises) env (joined (kids_at (store_kids s) c.kids) (head_proof (store_envs s) (store_kids s) head ⊳ no_more)))
+      (drop (c.premise + 1) rule.premises) env (joined_proofs (kids_at (store_kids s) c.kids) (head_proof (store_envs s) (store_kids s) head ⊳ no_more)))
 
   handed_is : (js : List Judgement) → hand_on modes (hyps_in pairs s js) (waiting_in modes rules s c) (answer_in s head outs)
       ≡ made_of js (match_all (outputs_of modes j) (map (tree_at (store_trees s)) outs) (env_at (store_envs s) c.env))
@@ -118,12 +119,12 @@ module _ (modes : Modes) (rules : List Rule) (pairs : List Pair) (s t : Store) (
       let ep : pairs_of (store_trees u) pairs ≡ pairs_of (store_trees s) pairs = pairs_stay (store_trees s) (store_trees u) su.trees pairs hp in
       let ef : frames_in modes rules u c.before ≡ frames_in modes rules s c.before = frames_stay_at (store_frames modes rules s) (store_frames modes rules u) su.frames c.before w.before in
       let ee : env_at (store_envs u) e ≡ env_at (store_envs t) e = env_stays (store_envs t) (store_envs u) o.0.envs e (omega arith) in
-      let ek : kids_at (store_kids u) kids ≡ joined (kids_at (store_kids s) c.kids) (head_proof (store_envs s) (store_kids s) head ⊳ no_more) =
+      let ek : kids_at (store_kids u) kids ≡ joined_proofs (kids_at (store_kids s) c.kids) (head_proof (store_envs s) (store_kids s) head ⊳ no_more) =
       ap (kids_at (store_kids u)) ke ∙ o.1
-      ∙ (λ i. joined (kids_stay_at (store_kids s) (store_kids t) st.kids c.kids wk i) (head_stays (store_envs s) (store_envs t) (store_kids s) (store_kids t) st.envs st.kids head hf i ⊳ no_more)) in
+      ∙ (λ i. joined_proofs (kids_stay_at (store_kids s) (store_kids t) st.kids c.kids wk i) (head_stays (store_envs s) (store_envs t) (store_kids s) (store_kids t) st.envs st.kids head hf i ⊳ no_more)) in
       record {
         grows = grows_then modes rules s u v su p.grows;
-        is = λ js. subst (λ (r : Result). IsStep modes rules js v (hand_on modes (hyps_in pairs s js) (frames_in modes rules s c.before)) step r)
+        is = λ js. subst (λ (r : Result). IsSearchStep modes rules js v (hand_on modes (hyps_in pairs s js) (frames_in modes rules s c.before)) step r)
             ((λ i. premises_result modes (record { judgements = js; pairs = ep i }) c.rule rule c.levels (ef i) (hand_on modes (hyps_in pairs s js) (frames_in modes rules s c.before)) (drop (c.premise + 1) rule.premises) (ee i) (ek i))
             ∙ sym (handed_is js ∙ ap (made_of js) m))
             (p.is js (hand_on modes (hyps_in pairs s js) (frames_in modes rules s c.before)));

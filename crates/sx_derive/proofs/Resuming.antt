@@ -8,13 +8,14 @@ use Rattle.sx_arena.specs.declared.fact.Fact.{Fact}
 use Rattle.sx_arena.specs.declared.pairs.Pair.{Pair}
 use Rattle.sx_derive.specs.Candidates.{AreFacts}
 use Rattle.sx_derive.specs.Resumable.{tries_then, Takes, IsReachedAt, IsReached, IsSettled}
-use Rattle.sx_derive.specs.Store.{IsStore, Grows, store_trees}
+use Rattle.sx_derive.specs.Store.{IsStore, StoreGrows, store_trees}
 use Rattle.sx_derive.specs.Tasks.{events_left, TaskFits, TasksFit}
-use Rattle.sx_derive.specs.Turns.{IsMet, IsTurn}
+use Rattle.sx_derive.specs.Turns.{IsMet, IsTaskTurn}
 use Rattle.sx_derive.specs.Walk.{Event, try, Answer}
 use Rattle.sx_derive.specs.declared.store.Store.{Store}
 use Rattle.sx_derive.specs.declared.tasks.Ending.{Ending as EndingOf}
-use Rattle.sx_derive.specs.declared.tasks.Ending.TheVariants.{Found, Passed, DepthSpent, Spent, Exhausted}
+use Rattle.sx_derive.specs.declared.tasks.Ending.TheVariants.{Found, Passed, DepthSpent, Spent}
+use Rattle.sx_derive.specs.declared.tasks.Ending.TheVariants.{Exhausted}
 use Rattle.sx_derive.specs.declared.tasks.Task.{Task as TaskOf}
 use Rattle.sx_arena.proofs.Facts.{facts_stay}
 use Rattle.sx_derive.proofs.Stored.{grows_same, grows_then}
@@ -73,7 +74,7 @@ module _ (modes : Modes) (rules : List Rule) (pairs : List Pair) (facts : List F
 
   -- the tries so far, and what is left
   pub record Reaching (now : Store) (tries last : ℕ) (tasks : List TaskOf) : Type 0 where
-    pub grows : Grows modes rules old now
+    pub grows : StoreGrows modes rules old now
     pub fits : TasksFit modes rules now (length facts + length rules) tasks
     pub less : tries ≤ budget
     pub steps : last ≡ first + tries
@@ -144,7 +145,7 @@ module _ (modes : Modes) (rules : List Rule) (pairs : List Pair) (facts : List F
 
         module _ (new : Store) (more : List TaskOf) where
           pub reaching_more : (one : List Judgement) → AreFacts modes (store_trees old) one facts →
-              ((js : List Judgement) → AreFacts modes (store_trees now) js facts → IsTurn modes rules pairs js None (length facts + length rules) now new task rest more None) → Reaching new (tries + 1) after more
+              ((js : List Judgement) → AreFacts modes (store_trees now) js facts → IsTaskTurn modes rules pairs js None (length facts + length rules) now new task rest more None) → Reaching new (tries + 1) after more
           reaching_more one b x =
               let y = x one (facts_then one b) in
               let m = w.less in
@@ -168,7 +169,7 @@ module _ (modes : Modes) (rules : List Rule) (pairs : List Pair) (facts : List F
           met_at js a es q Spent m = absurd m
           met_at js a es q Exhausted m = absurd m
 
-          pub reaching_ends : (ending : EndingOf) → ((js : List Judgement) → AreFacts modes (store_trees now) js facts → IsTurn modes rules pairs js None (length facts + length rules) now new task rest more (Some ending)) →
+          pub reaching_ends : (ending : EndingOf) → ((js : List Judgement) → AreFacts modes (store_trees now) js facts → IsTaskTurn modes rules pairs js None (length facts + length rules) now new task rest more (Some ending)) →
               (js : List Judgement) → AreFacts modes (store_trees old) js facts →
               IsReached modes rules pairs js (length facts + length rules) old new more budget first after (events_first js) (Ok (record { ending = ending; tries = tries + 1 }))
           reaching_ends ending x js a =

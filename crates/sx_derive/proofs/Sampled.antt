@@ -4,7 +4,10 @@ use Rattle.sx_rules.specs.Modes.{IsModed}
 use Rattle.sx_rules.specs.Derivations.{by, no_more, ◌⊳◌}
 use Rattle.sx_derive.specs.Walk.{events, goal_events, limit_passed}
 use Rattle.sx_derive.specs.Search.{walk, found, exhausted}
-use Rattle.sx_derive.specs.Samples.{SampleIsFound, no_hypotheses, sample_goal, bind_in, outer, x_name, y_name, int_type, str_type, sample_modes, sample_rules, here_rule, there_rule, var_rule}
+use Rattle.sx_derive.specs.Samples.{SampleIsFound, sample_goal, bind_in, outer, x_name, y_name}
+use Rattle.sx_derive.specs.Samples.{int_type, str_type, sample_modes, sample_rules, here_rule}
+use Rattle.sx_derive.specs.Samples.{there_rule, var_rule}
+use Rattle.sx_rules.specs.Rules.{no_hypotheses}
 
 here_moded : IsModed sample_modes here_rule
 here_moded = (λ v h. grind (arith, h), λ v. (λ h. grind (arith, h), λ h. grind (arith, h)))

@@ -2,11 +2,17 @@ use Rattle.std.proofs.Common.{◌≡◌, ℕ, zero, suc, ◌+◌, ◌<◌, Bool,
 use Rattle.std.specs.Prelude.{slice_get, nat_eq, ◌&&◌}
 use Rattle.sx_term.specs.Tree.{Tree}
 use Rattle.sx_rules.specs.Instances.{instance, StandsAmong, bound_by}
-use Rattle.sx_arena.specs.Matching.{same_all, Assignment, unbound, match_all, value_or, filled, IsBound, Extends, Agrees}
-use Rattle.sx_rules.specs.Rules.{Judgement, Premise, holds, apart, Rule, Hypotheses, judgement_instance, judgements_of, AreApart, AllApart}
-use Rattle.sx_rules.specs.Modes.{Modes, inputs_of, outputs_of, Goal, goal_of, AreModed, IsModed, AllModed}
+use Rattle.sx_arena.specs.Matching.{same_all, Assignment, nothing_bound, match_all, value_or}
+use Rattle.sx_arena.specs.Matching.{filled, IsBound, ExtendsAssignment, Agrees}
+use Rattle.sx_rules.specs.Rules.{Judgement, Premise, holds, apart, Rule, Hypotheses}
+use Rattle.sx_rules.specs.Rules.{judgement_instance, judgements_of, AreApart, AllApart}
+use Rattle.sx_rules.specs.Modes.{Modes, inputs_of, outputs_of, Goal, goal_of, AreModed, IsModed}
+use Rattle.sx_rules.specs.Modes.{AllModed}
 use Rattle.sx_rules.specs.Derivations.{Proofs, by, given, Derives, DeriveEach}
-use Rattle.sx_derive.specs.Walk.{Cause, Event, try, give, stop, Answer, then_each, when, when_matched, limit_passed, unless_passed, are_apart, put_first, after_kid, premise_events, first_values, conclude, after_match, rule_events, rules_events, given_event, given_events, goal_events}
+use Rattle.sx_derive.specs.Walk.{Cause, Event, try, give, stop, Answer, then_each, when}
+use Rattle.sx_derive.specs.Walk.{when_matched, limit_passed, unless_passed, are_apart, put_first}
+use Rattle.sx_derive.specs.Walk.{after_kid, premise_events, first_values, conclude, after_match}
+use Rattle.sx_derive.specs.Walk.{rule_events, rules_events, given_event, given_events, goal_events}
 use Rattle.sx_derive.specs.Search.{DerivesGoal, EachGiven}
 use Rattle.sx_arena.proofs.Sameness.{and_left, and_right, nat_same, same_all_true}
 use Rattle.sx_arena.proofs.Matchings.{match_all-matches, stays-bound, stays-agreed}
@@ -38,14 +44,14 @@ given-then_each P Q f (try ∷ es) h k = given-then_each P Q f es h k
 given-then_each P Q f (stop c ∷ es) h k = given-then_each P Q f es h k
 given-then_each P Q f (give a ∷ es) h k = given-append Q (f a) (then_each f es) (k a h.0) (given-then_each P Q f es h.1 k)
 
-unbound-only : {Z : Type 0} (v : ℕ) → IsBound unbound v ⊎ Z → Z
-unbound-only v (inl x) = let e : None ≡ Some x.0 = x.1 in cc
-unbound-only v (inr z) = z
+nothing_bound-only : {Z : Type 0} (v : ℕ) → IsBound nothing_bound v ⊎ Z → Z
+nothing_bound-only v (inl x) = let e : None ≡ Some x.0 = x.1 in cc
+nothing_bound-only v (inr z) = z
 
 module _ (modes : Modes) (rules : List Rule) (hyps : Hypotheses) where
   -- what is told of the end of the premises from here on
   pub record IsSoundEnd (rule : Rule) (ps : List Premise) (env : Assignment) (found : Assignment × Proofs) : Type 0 where
-    pub extends : Extends env found.0
+    pub extends : ExtendsAssignment env found.0
     pub scoped : (v : ℕ) → IsBound found.0 v → v < length rule.sorts
     pub outputs_bound : (v : ℕ) → StandsAmong v (outputs_of modes rule.conclusion) → IsBound found.0 v
     pub all_apart : (s : ℕ → Tree) → Agrees found.0 s → AllApart hyps s ps
@@ -127,12 +133,12 @@ module _ (modes : Modes) (rules : List Rule) (hyps : Hypotheses) where
         let P = DerivesGoal modes rules hyps goal in
         let patterns = inputs_of modes rule.conclusion in
         let n = length rule.sorts in
-        given-when P (nat_eq rule.conclusion.form goal.form) (when_matched (match_all patterns goal.terms unbound) (after_match modes hyps below r rule))
-        (λ same_form. given-when_matched P (match_all patterns goal.terms unbound) (after_match modes hyps below r rule)
+        given-when P (nat_eq rule.conclusion.form goal.form) (when_matched (match_all patterns goal.terms nothing_bound) (after_match modes hyps below r rule))
+        (λ same_form. given-when_matched P (match_all patterns goal.terms nothing_bound) (after_match modes hyps below r rule)
         (λ env e.
-        let k = match_all-matches patterns goal.terms unbound env e in
+        let k = match_all-matches patterns goal.terms nothing_bound env e in
         given-then_each (IsSoundEnd rule rule.premises env) P (conclude modes r rule) (premise_events modes hyps below rule.premises env)
-        (premises_sound rule rule.premises env (λ v. StandsAmong v patterns) k.every (λ v h. unbound-only v (k.only v h)) m)
+        (premises_sound rule rule.premises env (λ v. StandsAmong v patterns) k.every (λ v h. nothing_bound-only v (k.only v h)) m)
         (λ found h.
         let binds = first_values n (filled found.0) in
         let s = bound_by binds in

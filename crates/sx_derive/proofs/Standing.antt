@@ -20,8 +20,9 @@ use Rattle.sx_arena.proofs.Parted.{pairs_more_terms, pairs_stay}
 use Rattle.sx_derive.specs.Candidates.{AreFacts}
 use Rattle.sx_derive.specs.Handing.{answer_in}
 use Rattle.sx_derive.specs.Problems.{IsProblem}
-use Rattle.sx_derive.specs.Resumable.{IsReady, Stands, StandsBefore, Takes, IsNextOf, IsErrorOf, IsReachedAt, IsReached}
-use Rattle.sx_derive.specs.Store.{Grows, IsStore, store_trees, store_envs, store_kids}
+use Rattle.sx_derive.specs.Resumable.{IsSearchReady, Stands, StandsBefore, Takes, IsNextOf}
+use Rattle.sx_derive.specs.Resumable.{IsErrorOf, IsReachedAt, IsReached}
+use Rattle.sx_derive.specs.Store.{StoreGrows, IsStore, store_trees, store_envs, store_kids}
 use Rattle.sx_derive.specs.Tasks.{events_left, TasksFit}
 use Rattle.sx_derive.specs.Walk.{Cause, too_deep, too_big, Event, try, give, stop, Answer, events}
 use Rattle.sx_derive.specs.declared.chains.Head.{Head}
@@ -31,12 +32,15 @@ use Rattle.sx_derive.specs.declared.problem.Problem.{Problem}
 use Rattle.sx_derive.specs.declared.reach.Reached.{Reached}
 use Rattle.sx_derive.specs.declared.search.Search.{Search}
 use Rattle.sx_derive.specs.declared.search_error.SearchError.{SearchError}
-use Rattle.sx_derive.specs.declared.search_error.SearchError.TheVariants.{Memory, DepthSpent as SpentDepth}
+use Rattle.sx_derive.specs.declared.search_error.SearchError.TheVariants.{Memory}
+use Rattle.sx_derive.specs.declared.search_error.SearchError.TheVariants.{DepthSpent as SpentDepth}
 use Rattle.sx_derive.specs.declared.state.State.{State}
-use Rattle.sx_derive.specs.declared.state.State.TheVariants.{Open, Failed, Passed as AtLimit, DepthSpent as AtDepth}
+use Rattle.sx_derive.specs.declared.state.State.TheVariants.{Open, Failed, Passed as AtLimit}
+use Rattle.sx_derive.specs.declared.state.State.TheVariants.{DepthSpent as AtDepth}
 use Rattle.sx_derive.specs.declared.store.Store.{Store}
 use Rattle.sx_derive.specs.declared.tasks.Ending.{Ending as EndingOf}
-use Rattle.sx_derive.specs.declared.tasks.Ending.TheVariants.{Found as IsFound, Passed, DepthSpent, Spent, Exhausted}
+use Rattle.sx_derive.specs.declared.tasks.Ending.TheVariants.{Found as IsFound, Passed, DepthSpent}
+use Rattle.sx_derive.specs.declared.tasks.Ending.TheVariants.{Spent, Exhausted}
 use Rattle.sx_derive.specs.declared.store.Mark.{Mark}
 use Rattle.sx_derive.specs.declared.tasks.Task.{Task as TaskOf}
 use Rattle.sx_derive.proofs.Searching.{problem_events}
@@ -80,7 +84,7 @@ module _ (modes : Modes) (rules : List Rule) (hyps : Hypotheses) (old : Search) 
 
   -- what is reached from the events of the search
   met : (r : Reached) → IsReachedWith r → (ending : EndingOf) → r.ending ≡ ending →
-      Grows modes rules old.store s × TasksFit modes rules s (length old.facts.items + length rules) ts.items × IsReachedAt modes rules old.pairs.items hyps.judgements s ts.items budget first last es r.tries ending
+      StoreGrows modes rules old.store s × TasksFit modes rules s (length old.facts.items + length rules) ts.items × IsReachedAt modes rules old.pairs.items hyps.judgements s ts.items budget first last es r.tries ending
   met r x ending e =
       let y = x hyps.judgements (subst (λ (gs : List Fact). AreFacts modes (store_trees old.store) hyps.judgements gs) (sym ef) h.ready.facts) in
       let a = subst (λ (qs : List Pair). IsReachedAt modes rules qs hyps.judgements s ts.items budget first last (events_left modes rules qs hyps.judgements old.store old.tasks.items) r.tries r.ending) ep y.2 in
@@ -90,8 +94,8 @@ module _ (modes : Modes) (rules : List Rule) (hyps : Hypotheses) (old : Search) 
         subst (λ (q : EndingOf). IsReachedAt modes rules old.pairs.items hyps.judgements s ts.items budget first last es r.tries q) e b,
       )
 
-  module _ (g : Grows modes rules old.store s) (f : TasksFit modes rules s (length old.facts.items + length rules) ts.items) where
-    ready_at : (st : State) → IsReady modes rules hyps (at st)
+  module _ (g : StoreGrows modes rules old.store s) (f : TasksFit modes rules s (length old.facts.items + length rules) ts.items) where
+    ready_at : (st : State) → IsSearchReady modes rules hyps (at st)
     ready_at st = record {
       store = g.store;
       few = h.ready.few;

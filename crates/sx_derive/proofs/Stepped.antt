@@ -3,12 +3,20 @@ use Rattle.std.specs.Prelude.{nat_eq}
 use Rattle.std.proofs.lemmas.List.{append-nil}
 use Rattle.sx_term.specs.Tree.{Tree}
 use Rattle.sx_rules.specs.Instances.{instance}
-use Rattle.sx_arena.specs.Matching.{same_all, Assignment, unbound, match_all, filled}
-use Rattle.sx_rules.specs.Rules.{Judgement, Premise, holds, apart, Rule, Hypotheses, judgement_instance}
+use Rattle.sx_arena.specs.Matching.{same_all, Assignment, nothing_bound, match_all, filled}
+use Rattle.sx_rules.specs.Rules.{Judgement, Premise, holds, apart, Rule, Hypotheses}
+use Rattle.sx_rules.specs.Rules.{judgement_instance}
 use Rattle.sx_rules.specs.Modes.{Modes, inputs_of, outputs_of, Goal, goal_of}
 use Rattle.sx_rules.specs.Derivations.{Proofs, by, given, no_more, ◌⊳◌}
-use Rattle.sx_derive.specs.Walk.{Cause, Event, try, give, stop, Answer, then_each, when, when_matched, limit_passed, unless_passed, are_apart, put_first, after_kid, premise_events, first_values, conclude, after_match, rule_events, rules_events, given_event, given_events, goal_events}
-use Rattle.sx_derive.specs.Machine.{joined, Frame, Task, hypotheses_from, rules_from, Result, result_when, result_matched, result_unless, goal_result, premises_result, hand_on, rule_result, given_result, premises_after, after_frame, after_frames, tasks_events, result_events}
+use Rattle.sx_derive.specs.Walk.{Cause, Event, try, give, stop, Answer, then_each, when}
+use Rattle.sx_derive.specs.Walk.{when_matched, limit_passed, unless_passed, are_apart, put_first}
+use Rattle.sx_derive.specs.Walk.{after_kid, premise_events, first_values, conclude, after_match}
+use Rattle.sx_derive.specs.Walk.{rule_events, rules_events, given_event, given_events, goal_events}
+use Rattle.sx_derive.specs.Machine.{joined_proofs, Frame, Task, hypotheses_from, rules_from, Result}
+use Rattle.sx_derive.specs.Machine.{result_when, result_matched, result_unless, goal_result}
+use Rattle.sx_derive.specs.Machine.{premises_result, hand_on, rule_result, given_result}
+use Rattle.sx_derive.specs.Machine.{premises_after, after_frame, after_frames, tasks_events}
+use Rattle.sx_derive.specs.Machine.{result_events}
 use Rattle.sx_derive.specs.Laws.{MachineMakesEvents}
 
 -- events given one after another
@@ -45,13 +53,13 @@ then_each-unless_passed : {A B : Type 0} (f : A → List (Event B)) (c : Option 
 then_each-unless_passed f None es = refl
 then_each-unless_passed f (Some c) es = refl
 
-pub joined-assoc : (ps qs rs : Proofs) → joined (joined ps qs) rs ≡ joined ps (joined qs rs)
-joined-assoc no_more qs rs = refl
-joined-assoc (p ⊳ ps) qs rs = ap (λ xs. p ⊳ xs) (joined-assoc ps qs rs)
+pub joined_proofs-assoc : (ps qs rs : Proofs) → joined_proofs (joined_proofs ps qs) rs ≡ joined_proofs ps (joined_proofs qs rs)
+joined_proofs-assoc no_more qs rs = refl
+joined_proofs-assoc (p ⊳ ps) qs rs = ap (λ xs. p ⊳ xs) (joined_proofs-assoc ps qs rs)
 
-pub joined-none : (ps : Proofs) → joined ps no_more ≡ ps
-joined-none no_more = refl
-joined-none (p ⊳ ps) = ap (λ xs. p ⊳ xs) (joined-none ps)
+pub joined_proofs-none : (ps : Proofs) → joined_proofs ps no_more ≡ ps
+joined_proofs-none no_more = refl
+joined_proofs-none (p ⊳ ps) = ap (λ xs. p ⊳ xs) (joined_proofs-none ps)
 
 module _ (modes : Modes) (rules : List Rule) (hyps : Hypotheses) where
   -- the events of results
@@ -75,20 +83,20 @@ module _ (modes : Modes) (rules : List Rule) (hyps : Hypotheses) where
 
   -- a premise in work makes a frame
   kid_after : (r : ℕ) (rule : Rule) (levels : ℕ) (ps : List Premise) (patterns : List Tree) (env : Assignment) (kids : Proofs) (a : Answer) →
-      then_each (λ end. conclude modes r rule (end.0, joined kids end.1)) (after_kid (premise_events modes hyps (goal_events modes rules hyps levels) ps) patterns env a)
+      then_each (λ end. conclude modes r rule (end.0, joined_proofs kids end.1)) (after_kid (premise_events modes hyps (goal_events modes rules hyps levels) ps) patterns env a)
       ≡ after_frame modes rules hyps (record { number = r; rule = rule; rest = ps; patterns = patterns; env = env; kids = kids; levels = levels }) a
   kid_after r rule levels ps patterns env kids a =
       let next = premise_events modes hyps (goal_events modes rules hyps levels) ps in
-      then_each-when_matched (λ end. conclude modes r rule (end.0, joined kids end.1)) (match_all patterns a.1 env) (λ more. then_each (put_first a.0) (next more))
+      then_each-when_matched (λ end. conclude modes r rule (end.0, joined_proofs kids end.1)) (match_all patterns a.1 env) (λ more. then_each (put_first a.0) (next more))
       ∙ ap (when_matched (match_all patterns a.1 env)) (λ i more. step more i)
     where
       step : (more : Assignment) →
-          then_each (λ end. conclude modes r rule (end.0, joined kids end.1)) (then_each (put_first a.0) (premise_events modes hyps (goal_events modes rules hyps levels) ps more))
-          ≡ premises_after modes rules hyps r rule levels ps more (joined kids (a.0 ⊳ no_more))
+          then_each (λ end. conclude modes r rule (end.0, joined_proofs kids end.1)) (then_each (put_first a.0) (premise_events modes hyps (goal_events modes rules hyps levels) ps more))
+          ≡ premises_after modes rules hyps r rule levels ps more (joined_proofs kids (a.0 ⊳ no_more))
       step more =
-          then_each-then_each (λ end. conclude modes r rule (end.0, joined kids end.1)) (put_first a.0) (premise_events modes hyps (goal_events modes rules hyps levels) ps more)
-          ∙ then_each-same (λ end. conclude modes r rule (end.0, joined kids (a.0 ⊳ end.1)) ++ []) (λ end. conclude modes r rule (end.0, joined (joined kids (a.0 ⊳ no_more)) end.1))
-          (λ end. append-nil (conclude modes r rule (end.0, joined kids (a.0 ⊳ end.1))) ∙ ap (λ ks. conclude modes r rule (end.0, ks)) (sym (joined-assoc kids (a.0 ⊳ no_more) end.1)))
+          then_each-then_each (λ end. conclude modes r rule (end.0, joined_proofs kids end.1)) (put_first a.0) (premise_events modes hyps (goal_events modes rules hyps levels) ps more)
+          ∙ then_each-same (λ end. conclude modes r rule (end.0, joined_proofs kids (a.0 ⊳ end.1)) ++ []) (λ end. conclude modes r rule (end.0, joined_proofs (joined_proofs kids (a.0 ⊳ no_more)) end.1))
+          (λ end. append-nil (conclude modes r rule (end.0, joined_proofs kids (a.0 ⊳ end.1))) ∙ ap (λ ks. conclude modes r rule (end.0, ks)) (sym (joined_proofs-assoc kids (a.0 ⊳ no_more) end.1)))
           (premise_events modes hyps (goal_events modes rules hyps levels) ps more)
 
   premises_result_events : (r : ℕ) (rule : Rule) (levels : ℕ) (frames : List Frame) → ((a : Answer) → result_events modes rules hyps (hand_on modes hyps frames a) ≡ after_frames modes rules hyps frames a) →
@@ -102,11 +110,11 @@ module _ (modes : Modes) (rules : List Rule) (hyps : Hypotheses) where
       unless_events (limit_passed made) (hand_on modes hyps frames a)
       ∙ ap (unless_passed (limit_passed made)) (h a ∙ sym (append-nil (run a)))
       ∙ sym (then_each-unless_passed run (limit_passed made) (give a ∷ []))
-      ∙ sym (ap (then_each run) (append-nil (conclude modes r rule (env, joined kids no_more)) ∙ ap (λ ks. conclude modes r rule (env, ks)) (joined-none kids)))
+      ∙ sym (ap (then_each run) (append-nil (conclude modes r rule (env, joined_proofs kids no_more)) ∙ ap (λ ks. conclude modes r rule (env, ks)) (joined_proofs-none kids)))
   premises_result_events r rule levels frames h (apart t u ∷ ps) env kids =
       let b = are_apart hyps (instance (filled env) t) (instance (filled env) u) in
       let run = after_frames modes rules hyps frames in
-      let close = (λ (end : Assignment × Proofs). conclude modes r rule (end.0, joined kids end.1)) in
+      let close = (λ (end : Assignment × Proofs). conclude modes r rule (end.0, joined_proofs kids end.1)) in
       let es = premise_events modes hyps (goal_events modes rules hyps levels) ps env in
       when_events b (premises_result modes hyps r rule levels frames (hand_on modes hyps frames) ps env kids)
       ∙ ap (when b) (premises_result_events r rule levels frames h ps env kids)
@@ -116,7 +124,7 @@ module _ (modes : Modes) (rules : List Rule) (hyps : Hypotheses) where
       let made = judgement_instance (filled env) j in
       let c = limit_passed (inputs_of modes made) in
       let run = after_frames modes rules hyps frames in
-      let close = (λ (end : Assignment × Proofs). conclude modes r rule (end.0, joined kids end.1)) in
+      let close = (λ (end : Assignment × Proofs). conclude modes r rule (end.0, joined_proofs kids end.1)) in
       let next = premise_events modes hyps (goal_events modes rules hyps levels) ps in
       let patterns = outputs_of modes j in
       let frame : Frame = record { number = r; rule = rule; rest = ps; patterns = patterns; env = env; kids = kids; levels = levels } in
@@ -136,7 +144,7 @@ module _ (modes : Modes) (rules : List Rule) (hyps : Hypotheses) where
   hand_on_events [] a = refl
   hand_on_events (f ∷ fs) a =
       let m = match_all f.patterns a.1 f.env in
-      let kids = joined f.kids (a.0 ⊳ no_more) in
+      let kids = joined_proofs f.kids (a.0 ⊳ no_more) in
       matched_events m (λ env. premises_result modes hyps f.number f.rule f.levels fs (hand_on modes hyps fs) f.rest env kids)
       ∙ ap (when_matched m) (λ i env. premises_result_events f.number f.rule f.levels fs (hand_on_events fs) f.rest env kids i)
       ∙ sym (then_each-when_matched (after_frames modes rules hyps fs) m (λ env. premises_after modes rules hyps f.number f.rule f.levels f.rest env kids))
@@ -146,7 +154,7 @@ module _ (modes : Modes) (rules : List Rule) (hyps : Hypotheses) where
       ≡ then_each (after_frames modes rules hyps frames) (rule_events modes hyps (goal_events modes rules hyps levels) r rule goal)
   rule_result_events r rule levels goal frames =
       let b = nat_eq rule.conclusion.form goal.form in
-      let m = match_all (inputs_of modes rule.conclusion) goal.terms unbound in
+      let m = match_all (inputs_of modes rule.conclusion) goal.terms nothing_bound in
       let run = after_frames modes rules hyps frames in
       let below = goal_events modes rules hyps levels in
       when_events b (result_matched m (λ env. premises_result modes hyps r rule levels frames (hand_on modes hyps frames) rule.premises env no_more))

@@ -4,7 +4,7 @@ use Rattle.sx_arena.specs.Matching.{Assignment}
 use Rattle.sx_rules.specs.Rules.{Rule}
 use Rattle.sx_rules.specs.Modes.{Modes}
 use Rattle.sx_rules.specs.Derivations.{Proofs, no_more, ◌⊳◌}
-use Rattle.sx_derive.specs.Machine.{joined}
+use Rattle.sx_derive.specs.Machine.{joined_proofs}
 use Rattle.sx_arena.specs.declared.arena.Arena.{Arena}
 use Rattle.sx_arena.specs.declared.binds.Binds.{Binds}
 use Rattle.sx_derive.specs.declared.chains.Kid.{Kid}
@@ -13,13 +13,15 @@ use Rattle.sx_derive.specs.declared.store.Store.{Store}
 use Rattle.sx_arena.specs.Grown.{Extends}
 use Rattle.sx_arena.specs.Arena.{trees, IsArena}
 use Rattle.sx_arena.specs.Binds.{envs, IsBinds, BindsGrow}
-use Rattle.sx_derive.specs.Chains.{kids_at, head_proof, HeadFits, kids_of, AreKids, frame_of, frames_at, WaitingFits, frames_of, AreFrames}
-use Rattle.sx_derive.specs.Store.{store_trees, store_envs, store_kids, store_frames, IsStore, Grows}
+use Rattle.sx_derive.specs.Chains.{kids_at, head_proof, HeadFits, kids_of, AreKids, frame_of}
+use Rattle.sx_derive.specs.Chains.{frames_at, WaitingFits, frames_of, AreFrames}
+use Rattle.sx_derive.specs.Store.{store_trees, store_envs, store_kids, store_frames, IsStore}
+use Rattle.sx_derive.specs.Store.{StoreGrows}
 use Rattle.sx_arena.proofs.Growing.{extends-same, extends-is, extends-then}
 use Rattle.sx_arena.proofs.BindChains.{envs_stay}
 use Rattle.sx_derive.proofs.Chained.{kids_stay, kids_one, frames_stay, frames_one}
 
-pub grows_same : (modes : Modes) (rules : List Rule) (s : Store) → IsStore modes rules s → Grows modes rules s s
+pub grows_same : (modes : Modes) (rules : List Rule) (s : Store) → IsStore modes rules s → StoreGrows modes rules s s
 grows_same modes rules s h = record {
   store = h;
   trees = extends-same (store_trees s);
@@ -31,7 +33,7 @@ grows_same modes rules s h = record {
   frame_cells = extends-same s.frames.items;
 }
 
-pub grows_then : (modes : Modes) (rules : List Rule) (a b c : Store) → Grows modes rules a b → Grows modes rules b c → Grows modes rules a c
+pub grows_then : (modes : Modes) (rules : List Rule) (a b c : Store) → StoreGrows modes rules a b → StoreGrows modes rules b c → StoreGrows modes rules a c
 grows_then modes rules a b c p q = record {
   store = q.store;
   trees = extends-then (store_trees a) (store_trees b) (store_trees c) p.trees q.trees;
@@ -45,7 +47,7 @@ grows_then modes rules a b c p q = record {
 
 -- more terms or more bindings
 pub more_envs : (modes : Modes) (rules : List Rule) (s t : Store) → IsStore modes rules s → IsArena t.arena → IsBinds (trees t.arena) t.binds → Extends (store_trees s) (store_trees t) → Extends (store_envs s) (store_envs t) →
-    Extends s.binds.cells.items t.binds.cells.items → t.kids.items ≡ s.kids.items → t.frames.items ≡ s.frames.items → Grows modes rules s t
+    Extends s.binds.cells.items t.binds.cells.items → t.kids.items ≡ s.kids.items → t.frames.items ≡ s.frames.items → StoreGrows modes rules s t
 more_envs modes rules s t h a b x y cells k f =
     let c = kids_stay (store_envs s) (store_envs t) y s.kids.items h.kids in
     let e : store_kids t ≡ store_kids s = ap (kids_of (store_envs t)) k ∙ c.0 in
@@ -69,7 +71,7 @@ more_envs modes rules s t h a b x y cells k f =
     }
 
 pub grows_terms : (modes : Modes) (rules : List Rule) (s t : Store) → IsStore modes rules s → IsArena t.arena → Extends (store_trees s) (store_trees t) →
-    t.binds ≡ s.binds → t.kids.items ≡ s.kids.items → t.frames.items ≡ s.frames.items → Grows modes rules s t
+    t.binds ≡ s.binds → t.kids.items ≡ s.kids.items → t.frames.items ≡ s.frames.items → StoreGrows modes rules s t
 grows_terms modes rules s t h a x b k f =
     let c = envs_stay (store_trees s) (store_trees t) x s.binds h.binds in
     more_envs modes rules s t h a (subst (λ (y : Binds). IsBinds (trees t.arena) y) (sym b) c.1) x
@@ -77,7 +79,7 @@ grows_terms modes rules s t h a x b k f =
     (extends-is s.binds.cells.items t.binds.cells.items (ap (λ (y : Binds). y.cells.items) b)) k f
 
 pub grows_binds : (modes : Modes) (rules : List Rule) (s t : Store) → IsStore modes rules s → BindsGrow (trees s.arena) s.binds t.binds →
-    t.arena ≡ s.arena → t.kids.items ≡ s.kids.items → t.frames.items ≡ s.frames.items → Grows modes rules s t
+    t.arena ≡ s.arena → t.kids.items ≡ s.kids.items → t.frames.items ≡ s.frames.items → StoreGrows modes rules s t
 grows_binds modes rules s t h b a k f =
     more_envs modes rules s t h (subst (λ (y : Arena). IsArena y) (sym a) h.arena) (subst (λ (y : Arena). IsBinds (trees y) t.binds) (sym a) b.binds)
     (extends-is (store_trees s) (store_trees t) (ap trees a)) (subst (λ (y : Arena). Extends (store_envs s) (envs (trees y) t.binds)) (sym a) b.extends) b.cells k f
@@ -85,7 +87,7 @@ grows_binds modes rules s t h b a k f =
 -- one more proof
 pub grows_kid : (modes : Modes) (rules : List Rule) (s t : Store) (c : Kid) → IsStore modes rules s → HeadFits (length (store_envs s)) (length s.kids.items) c.head → c.before ≤ length s.kids.items →
     t.arena ≡ s.arena → t.binds ≡ s.binds → t.kids.items ≡ s.kids.items ++ c ∷ [] → t.frames.items ≡ s.frames.items →
-    Grows modes rules s t × (kids_at (store_kids t) (length s.kids.items + 1) ≡ joined (kids_at (store_kids s) c.before) (head_proof (store_envs s) (store_kids s) c.head ⊳ no_more))
+    StoreGrows modes rules s t × (kids_at (store_kids t) (length s.kids.items + 1) ≡ joined_proofs (kids_at (store_kids s) c.before) (head_proof (store_envs s) (store_kids s) c.head ⊳ no_more))
 grows_kid modes rules s t c h p l a b k f =
     let e : store_envs t ≡ store_envs s = λ i. envs (trees (a i)) (b i) in
     let o = kids_one (store_envs s) s.kids.items t.kids.items c h.kids p l k in
@@ -114,7 +116,7 @@ grows_kid modes rules s t c h p l a b k f =
 -- one more frame
 pub grows_frame : (modes : Modes) (rules : List Rule) (s t : Store) (c : Waiting) → IsStore modes rules s → WaitingFits rules (store_envs s) (store_kids s) (store_frames modes rules s) c →
     t.arena ≡ s.arena → t.binds ≡ s.binds → t.kids.items ≡ s.kids.items → t.frames.items ≡ s.frames.items ++ c ∷ [] →
-    Grows modes rules s t × (frames_at (store_frames modes rules t) (length s.frames.items + 1) ≡ frame_of modes rules (store_envs s) (store_kids s) c ∷ frames_at (store_frames modes rules s) c.before)
+    StoreGrows modes rules s t × (frames_at (store_frames modes rules t) (length s.frames.items + 1) ≡ frame_of modes rules (store_envs s) (store_kids s) c ∷ frames_at (store_frames modes rules s) c.before)
 grows_frame modes rules s t c h p a b k f =
     let e : store_envs t ≡ store_envs s = λ i. envs (trees (a i)) (b i) in
     let m : store_kids t ≡ store_kids s = λ i. kids_of (e i) (k i) in

@@ -12,7 +12,7 @@ use Rattle.sx_derive.specs.Candidates.{goal_in, AreFacts}
 use Rattle.sx_derive.specs.Problems.{IsProblem}
 use Rattle.sx_derive.specs.Descents.{AreHyps, spot_goal, blame_in, IsDescent}
 use Rattle.sx_derive.specs.Quiet.{IsQuiet, IsSilent}
-use Rattle.sx_derive.specs.Store.{IsStore, Grows, store_trees}
+use Rattle.sx_derive.specs.Store.{IsStore, StoreGrows, store_trees}
 use Rattle.sx_derive.specs.Stuck.{Blame, IsStuck}
 use Rattle.sx_derive.specs.Walk.{goal_events, events}
 use Rattle.sx_derive.specs.declared.blame.Blame.{Blame as BlameOf}
@@ -29,7 +29,7 @@ use Rattle.sx_derive.proofs.Stored.{grows_same, grows_then}
 -- what holds with that many levels left, at a goal in the store
 pub record Sinking (modes subjects : Modes) (rules : List Rule) (hyps : Hypotheses) (budget levels : ℕ) (old : Store) (facts : List Fact) (pairs : List Pair) (first : Spot) (now : Store) (left : ℕ) (known : Bool) (here : Spot) : Type 0 where
   pub are : AreHyps modes old facts pairs hyps
-  pub grows : Grows modes rules old now
+  pub grows : StoreGrows modes rules old now
   pub below : AreBelow (length (store_trees now)) here.terms.items
   pub quiet : IsSilent known budget (goal_events modes rules hyps left (spot_goal now here))
   pub leads : (blame : Blame) → IsStuck modes subjects rules hyps left (spot_goal now here) here.path.items blame →
@@ -75,7 +75,7 @@ module _ (modes subjects : Modes) (rules : List Rule) (hyps : Hypotheses) (budge
           for_hyps modes old facts pairs hyps x d.are are (λ hs. IsStuck modes subjects rules hs levels (spot_goal old first) first.path.items (blame_of blame))
           (subst (λ (b : Blame). Leads b) (sym e) (sink_descent (Stuck spot reason) f).2)
 
-      pub sink_goes : Grows modes rules now new → (next : Spot) → From (Below next) → S new (left - 1) true next
+      pub sink_goes : StoreGrows modes rules now new → (next : Spot) → From (Below next) → S new (left - 1) true next
       sink_goes g next f =
           let x = sink_descent (Below next) f in
           record { are = d.are; grows = grows_then modes rules old now new d.grows g; below = x.0; quiet = x.2; leads = x.3 }

@@ -5,15 +5,16 @@ use Rattle.sx_term.specs.Tree.{Tree}
 use Rattle.sx_rules.specs.Rules.{Judgement, Rule, Hypotheses}
 use Rattle.sx_rules.specs.Modes.{Modes, Goal}
 use Rattle.sx_derive.specs.Walk.{try, goal_events}
-use Rattle.sx_derive.specs.Machine.{Frame, Task, hypotheses_from, rules_from, given_result, rule_result, tasks_events, result_events}
+use Rattle.sx_derive.specs.Machine.{Frame, Task, hypotheses_from, rules_from, given_result}
+use Rattle.sx_derive.specs.Machine.{rule_result, tasks_events, result_events}
 use Rattle.sx_arena.specs.declared.fact.Fact.{Fact}
 use Rattle.sx_arena.specs.declared.pairs.Pair.{Pair}
 use Rattle.sx_derive.specs.declared.step.Step.{Step}
 use Rattle.sx_derive.specs.declared.store.Store.{Store}
 use Rattle.sx_derive.specs.declared.tasks.Task.{Task as TaskOf}
-use Rattle.sx_derive.specs.Candidates.{goal_in, IsFact, AreFacts, IsTried}
+use Rattle.sx_derive.specs.Candidates.{goal_in, IsFact, AreFacts, IsCandidateTried}
 use Rattle.sx_derive.specs.Handing.{hyps_in, frames_in}
-use Rattle.sx_derive.specs.Tasks.{task_when, task_from, IsNext}
+use Rattle.sx_derive.specs.Tasks.{task_when, task_from, IsNextCandidate}
 use Rattle.sx_derive.proofs.Stepped.{machine_makes_events}
 
 less_true : (m n : ℕ) → m < n → nat_lt m n ≡ true
@@ -110,7 +111,7 @@ task_starts modes rules hyps levels goal = (machine_makes_events modes rules hyp
 
 module _ (modes : Modes) (rules : List Rule) (pairs : List Pair) (js : List Judgement) (old new : Store) (t : TaskOf) (step : Step) where
   pub given_is_next : (j : Judgement) → slice_get js t.next ≡ Some j → t.next < length js →
-      IsTried modes rules pairs old new (λ hyps. given_result modes hyps t.next j (goal_in old t.form t.terms.items) (frames_in modes rules old t.frames)) step → IsNext modes rules pairs js old new t step
+      IsCandidateTried modes rules pairs old new (λ hyps. given_result modes hyps t.next j (goal_in old t.form t.terms.items) (frames_in modes rules old t.frames)) step → IsNextCandidate modes rules pairs js old new t step
   given_is_next j e l h = record {
     grows = h.grows;
     result = given_result modes (hyps_in pairs old js) t.next j (goal_in old t.form t.terms.items) (frames_in modes rules old t.frames);
@@ -119,7 +120,7 @@ module _ (modes : Modes) (rules : List Rule) (pairs : List Pair) (js : List Judg
   }
 
   pub rule_is_next : (r : ℕ) (rule : Rule) → t.next ≡ length js + r → slice_get rules r ≡ Some rule →
-      IsTried modes rules pairs old new (λ hyps. rule_result modes hyps r rule t.levels (goal_in old t.form t.terms.items) (frames_in modes rules old t.frames)) step → IsNext modes rules pairs js old new t step
+      IsCandidateTried modes rules pairs old new (λ hyps. rule_result modes hyps r rule t.levels (goal_in old t.form t.terms.items) (frames_in modes rules old t.frames)) step → IsNextCandidate modes rules pairs js old new t step
   rule_is_next r rule n e h = record {
     grows = h.grows;
     result = rule_result modes (hyps_in pairs old js) r rule t.levels (goal_in old t.form t.terms.items) (frames_in modes rules old t.frames);

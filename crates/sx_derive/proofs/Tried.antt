@@ -7,8 +7,9 @@ use Rattle.sx_term.specs.Tree.{Tree}
 use Rattle.sx_rules.specs.Rules.{Judgement, Rule, Hypotheses}
 use Rattle.sx_rules.specs.Modes.{Modes, inputs_of, outputs_of}
 use Rattle.sx_rules.specs.Derivations.{given, no_more}
-use Rattle.sx_arena.specs.Matching.{same_all, Assignment, unbound, match_all}
-use Rattle.sx_derive.specs.Machine.{Result, answers, result_when, result_matched, premises_result, hand_on, rule_result, given_result}
+use Rattle.sx_arena.specs.Matching.{same_all, Assignment, nothing_bound, match_all}
+use Rattle.sx_derive.specs.Machine.{Result, answers, result_when, result_matched, premises_result}
+use Rattle.sx_derive.specs.Machine.{hand_on, rule_result, given_result}
 use Rattle.sx_arena.specs.declared.fact.Fact.{Fact}
 use Rattle.sx_derive.specs.declared.chains.Head.{Head}
 use Rattle.sx_derive.specs.declared.chains.Head.TheVariants.{Given}
@@ -18,13 +19,14 @@ use Rattle.sx_derive.specs.declared.step.Step.TheVariants.{Nothing, Done}
 use Rattle.sx_derive.specs.declared.store.Store.{Store}
 use Rattle.sx_arena.specs.Arena.{trees, tree_at, AreBelow}
 use Rattle.sx_arena.specs.Binds.{env_at, BindsGrow}
-use Rattle.sx_derive.specs.Candidates.{goal_in, IsFact, IsTried}
+use Rattle.sx_derive.specs.Candidates.{goal_in, IsFact, IsCandidateTried}
 use Rattle.sx_derive.specs.Chains.{HeadFits}
 use Rattle.sx_derive.specs.Handing.{hyps_in, answer_in, frames_in, IsHanded}
 use Rattle.sx_arena.specs.Pairs.{pairs_of, ArePairs}
 use Rattle.sx_derive.specs.Premises.{IsPremises}
-use Rattle.sx_derive.specs.Step.{IsStep}
-use Rattle.sx_derive.specs.Store.{IsStore, Grows, store_trees, store_envs, store_kids, store_frames}
+use Rattle.sx_derive.specs.Step.{IsSearchStep}
+use Rattle.sx_derive.specs.Store.{IsStore, StoreGrows, store_trees, store_envs, store_kids}
+use Rattle.sx_derive.specs.Store.{store_frames}
 use Rattle.sx_arena.proofs.Arenas.{Distinct, distinct}
 use Rattle.sx_derive.proofs.Chained.{frames_stay_at}
 use Rattle.sx_derive.proofs.Handed.{step_other}
@@ -47,10 +49,10 @@ module _ (modes : Modes) (rules : List Rule) (pairs : List Pair) (s t : Store) (
   abbrev tried_as : Hypotheses → Result
   tried_as hyps = rule_result modes hyps number rule levels (goal_in s form terms) (frames_in modes rules s frames)
 
-  pub rule_other : (rule.conclusion.form ≡ form → ⊥) → IsTried modes rules pairs s s tried_as Nothing
+  pub rule_other : (rule.conclusion.form ≡ form → ⊥) → IsCandidateTried modes rules pairs s s tried_as Nothing
   rule_other d = record {
     grows = grows_same modes rules s h;
-    is = λ js. ap (λ b. result_when b (result_matched (match_all (inputs_of modes rule.conclusion) (map (tree_at (store_trees s)) terms) unbound) (λ env. premises_result modes (hyps_in pairs s js) number rule levels (frames_in modes rules s frames) (hand_on modes (hyps_in pairs s js) (frames_in modes rules s frames)) rule.premises env no_more)))
+    is = λ js. ap (λ b. result_when b (result_matched (match_all (inputs_of modes rule.conclusion) (map (tree_at (store_trees s)) terms) nothing_bound) (λ env. premises_result modes (hyps_in pairs s js) number rule levels (frames_in modes rules s frames) (hand_on modes (hyps_in pairs s js) (frames_in modes rules s frames)) rule.premises env no_more)))
         (number_false rule.conclusion.form form d);
   }
 
@@ -58,35 +60,35 @@ module _ (modes : Modes) (rules : List Rule) (pairs : List Pair) (s t : Store) (
     abbrev matched_as : List Judgement → Option Assignment → Result
     matched_as js m = result_matched m (λ env. premises_result modes (hyps_in pairs s js) number rule levels (frames_in modes rules s frames) (hand_on modes (hyps_in pairs s js) (frames_in modes rules s frames)) rule.premises env no_more)
 
-    tried_is : (js : List Judgement) (m : Option Assignment) → match_all (inputs_of modes rule.conclusion) (map (tree_at (store_trees s)) terms) unbound ≡ m → tried_as (hyps_in pairs s js) ≡ matched_as js m
+    tried_is : (js : List Judgement) (m : Option Assignment) → match_all (inputs_of modes rule.conclusion) (map (tree_at (store_trees s)) terms) nothing_bound ≡ m → tried_as (hyps_in pairs s js) ≡ matched_as js m
     tried_is js m e =
-        ap (λ b. result_when b (matched_as js (match_all (inputs_of modes rule.conclusion) (map (tree_at (store_trees s)) terms) unbound))) (number_true rule.conclusion.form form same_form)
+        ap (λ b. result_when b (matched_as js (match_all (inputs_of modes rule.conclusion) (map (tree_at (store_trees s)) terms) nothing_bound))) (number_true rule.conclusion.form form same_form)
         ∙ ap (matched_as js) e
 
-    pub rule_none : match_all (inputs_of modes rule.conclusion) (map (tree_at (store_trees s)) terms) unbound ≡ None → IsTried modes rules pairs s t tried_as Nothing
+    pub rule_none : match_all (inputs_of modes rule.conclusion) (map (tree_at (store_trees s)) terms) nothing_bound ≡ None → IsCandidateTried modes rules pairs s t tried_as Nothing
     rule_none m = record {
       grows = grows_binds modes rules s t h g ta tk tf;
       is = λ js. tried_is js None m;
     }
 
-    module _ (hp : ArePairs (length (store_trees s)) pairs) (lf : frames ≤ length s.frames.items) (v : Store) (env : ℕ) (m : match_all (inputs_of modes rule.conclusion) (map (tree_at (store_trees s)) terms) unbound ≡ Some (env_at (store_envs t) env)) (step : Step)
+    module _ (hp : ArePairs (length (store_trees s)) pairs) (lf : frames ≤ length s.frames.items) (v : Store) (env : ℕ) (m : match_all (inputs_of modes rule.conclusion) (map (tree_at (store_trees s)) terms) nothing_bound ≡ Some (env_at (store_envs t) env)) (step : Step)
         (p : IsPremises modes rules pairs t v number rule levels env 0 frames rule.premises step) where
-      grown : Grows modes rules s v
+      grown : StoreGrows modes rules s v
       grown = grows_then modes rules s t v (grows_binds modes rules s t h g ta tk tf) p.grows
 
-      step_is : (js : List Judgement) → IsStep modes rules js v (hand_on modes (hyps_in pairs s js) (frames_in modes rules s frames)) step (tried_as (hyps_in pairs s js))
+      step_is : (js : List Judgement) → IsSearchStep modes rules js v (hand_on modes (hyps_in pairs s js) (frames_in modes rules s frames)) step (tried_as (hyps_in pairs s js))
       step_is js =
           let st = grows_binds modes rules s t h g ta tk tf in
           let z = (sizes modes rules s).frames in
           let ep : pairs_of (store_trees t) pairs ≡ pairs_of (store_trees s) pairs = pairs_stay (store_trees s) (store_trees t) st.trees pairs hp in
           let ef : frames_in modes rules t frames ≡ frames_in modes rules s frames = frames_stay_at (store_frames modes rules s) (store_frames modes rules t) st.frames frames (omega arith) in
           let next = hand_on modes (hyps_in pairs s js) (frames_in modes rules s frames) in
-          subst (λ (r : Result). IsStep modes rules js v next step r)
+          subst (λ (r : Result). IsSearchStep modes rules js v next step r)
           ((λ i. premises_result modes (record { judgements = js; pairs = ep i }) number rule levels (ef i) next rule.premises (env_at (store_envs t) env) no_more)
           ∙ sym (tried_is js (Some (env_at (store_envs t) env)) m))
           (p.is js next)
 
-      pub rule_stop : ((a : Head) (o : Vec ℕ Global) → step ≡ Done a o → ⊥) → IsTried modes rules pairs s v tried_as step
+      pub rule_stop : ((a : Head) (o : Vec ℕ Global) → step ≡ Done a o → ⊥) → IsCandidateTried modes rules pairs s v tried_as step
       rule_stop n = record {
         grows = grown;
         is = λ js. step_other modes rules js v (hand_on modes (hyps_in pairs s js) (frames_in modes rules s frames)) answers step (tried_as (hyps_in pairs s js)) n (step_is js);
@@ -102,15 +104,15 @@ module _ (modes : Modes) (rules : List Rule) (pairs : List Pair) (s t : Store) (
           let k = told [] in
           ((k.0, k.1), λ js. (told js).2 ∙ (λ i. hand_on modes (record { judgements = js; pairs = sym ep i }) (sym ef i) (answer_in v head outs.items)))
         where
-          told : (js : List Judgement) → IsStep modes rules js v (hand_on modes (hyps_in pairs s js) (frames_in modes rules s frames)) (Done head outs) (tried_as (hyps_in pairs s js))
-          told js = subst (λ (x : Step). IsStep modes rules js v (hand_on modes (hyps_in pairs s js) (frames_in modes rules s frames)) x (tried_as (hyps_in pairs s js))) e (step_is js)
+          told : (js : List Judgement) → IsSearchStep modes rules js v (hand_on modes (hyps_in pairs s js) (frames_in modes rules s frames)) (Done head outs) (tried_as (hyps_in pairs s js))
+          told js = subst (λ (x : Step). IsSearchStep modes rules js v (hand_on modes (hyps_in pairs s js) (frames_in modes rules s frames)) x (tried_as (hyps_in pairs s js))) e (step_is js)
 
-      pub rule_handed : (head : Head) (outs : Vec ℕ Global) → step ≡ Done head outs → (w : Store) (last : Step) → IsHanded modes rules pairs v w frames head outs.items last → IsTried modes rules pairs s w tried_as last
+      pub rule_handed : (head : Head) (outs : Vec ℕ Global) → step ≡ Done head outs → (w : Store) (last : Step) → IsHanded modes rules pairs v w frames head outs.items last → IsCandidateTried modes rules pairs s w tried_as last
       rule_handed head outs e w last k =
           let d = rule_done head outs e in
           record {
             grows = grows_then modes rules s v w grown k.grows;
-            is = λ js. subst (λ (r : Result). IsStep modes rules js w answers last r) (sym (d.1 js)) (k.is js);
+            is = λ js. subst (λ (r : Result). IsSearchStep modes rules js w answers last r) (sym (d.1 js)) (k.is js);
           }
 
 -- numbers are the same just where the terms are
@@ -151,13 +153,13 @@ module _ (modes : Modes) (rules : List Rule) (pairs : List Pair) (s : Store) (j 
       given_as hyps ≡ result_when x (hand_on modes hyps (frames_in modes rules s frames) (given number, outputs_of modes j))
   given_when x e hyps = ap (λ z. result_when z (hand_on modes hyps (frames_in modes rules s frames) (given number, outputs_of modes j))) e
 
-  pub given_form : (fact.form ≡ form → ⊥) → IsTried modes rules pairs s s given_as Nothing
+  pub given_form : (fact.form ≡ form → ⊥) → IsCandidateTried modes rules pairs s s given_as Nothing
   given_form d = record {
     grows = grows_same modes rules s h;
     is = λ js. given_when false (both_false (nat_eq j.form form) (same_all (inputs_of modes j) (map (tree_at (store_trees s)) terms)) (number_false j.form form (λ e. d (f.form ∙ e)))) (hyps_in pairs s js);
   }
 
-  pub given_other : (fact.inputs.items ≡ terms → ⊥) → IsTried modes rules pairs s s given_as Nothing
+  pub given_other : (fact.inputs.items ≡ terms → ⊥) → IsCandidateTried modes rules pairs s s given_as Nothing
   given_other d =
       let x = ap (λ us. same_all us (map (tree_at (store_trees s)) terms)) (sym f.inputs) ∙ numbers_differ (store_trees s) (distinct s.arena.cells h.arena) fact.inputs.items terms f.inputs_below b d in
       record {
@@ -165,7 +167,7 @@ module _ (modes : Modes) (rules : List Rule) (pairs : List Pair) (s : Store) (j 
         is = λ js. given_when false (second_false (nat_eq j.form form) (same_all (inputs_of modes j) (map (tree_at (store_trees s)) terms)) x) (hyps_in pairs s js);
       }
 
-  pub given_handed : fact.form ≡ form → fact.inputs.items ≡ terms → (outs : List ℕ) → outs ≡ fact.outputs.items → (w : Store) (step : Step) → IsHanded modes rules pairs s w frames (Given number) outs step → IsTried modes rules pairs s w given_as step
+  pub given_handed : fact.form ≡ form → fact.inputs.items ≡ terms → (outs : List ℕ) → outs ≡ fact.outputs.items → (w : Store) (step : Step) → IsHanded modes rules pairs s w frames (Given number) outs step → IsCandidateTried modes rules pairs s w given_as step
   given_handed e g outs o w step k =
       let x = number_true j.form form (sym f.form ∙ e) in
       let y = ap (λ us. same_all us (map (tree_at (store_trees s)) terms)) (sym f.inputs) ∙ numbers_same (store_trees s) fact.inputs.items terms g in
@@ -173,7 +175,7 @@ module _ (modes : Modes) (rules : List Rule) (pairs : List Pair) (s : Store) (j 
       let m : map (tree_at (store_trees s)) outs ≡ outputs_of modes j = ap (map (tree_at (store_trees s))) o ∙ f.outputs in
       record {
         grows = k.grows;
-        is = λ js. subst (λ (r : Result). IsStep modes rules js w answers step r)
+        is = λ js. subst (λ (r : Result). IsSearchStep modes rules js w answers step r)
             ((λ i. hand_on modes (hyps_in pairs s js) (frames_in modes rules s frames) (given number, m i)) ∙ sym (given_when true z (hyps_in pairs s js))) (k.is js);
       }
 

@@ -7,7 +7,8 @@ use Rattle.sx_rules.specs.Rules.{Judgement, Rule, Hypotheses}
 use Rattle.sx_rules.specs.Modes.{Modes}
 use Rattle.sx_derive.specs.Walk.{depth_spent, Event, try, give, stop, Answer}
 use Rattle.sx_derive.specs.Search.{walk, are_wanted, found_when, tries_of, tries_unless}
-use Rattle.sx_derive.specs.Machine.{Task, hypotheses_from, Result, nothing, stops, answers, goes_on, tasks_events, result_events}
+use Rattle.sx_derive.specs.Machine.{Task, hypotheses_from, Result, nothing, stops, answers, goes_on}
+use Rattle.sx_derive.specs.Machine.{tasks_events, result_events}
 use Rattle.sx_derive.specs.declared.chains.Head.{Head}
 use Rattle.sx_arena.specs.declared.pairs.Pair.{Pair}
 use Rattle.sx_arena.specs.declared.places.Limit.{Limit}
@@ -17,16 +18,19 @@ use Rattle.sx_derive.specs.declared.store.Mark.{Mark}
 use Rattle.sx_derive.specs.declared.store.Store.{Store}
 use Rattle.sx_derive.proofs.Stored.{grows_same, grows_then}
 use Rattle.sx_derive.specs.declared.tasks.Task.{Task as TaskOf}
-use Rattle.sx_derive.specs.declared.tasks.Ending.TheVariants.{Found, Passed as WasPassed, DepthSpent as WasSpent}
+use Rattle.sx_derive.specs.declared.tasks.Ending.TheVariants.{Found, Passed as WasPassed}
+use Rattle.sx_derive.specs.declared.tasks.Ending.TheVariants.{DepthSpent as WasSpent}
 use Rattle.sx_arena.specs.Arena.{tree_at, AreBelow}
 use Rattle.sx_derive.specs.Candidates.{goal_in}
 use Rattle.sx_derive.specs.Handing.{hyps_in, answer_in, frames_in}
 use Rattle.sx_arena.specs.Pairs.{ArePairs}
 use Rattle.sx_derive.specs.Chains.{HeadFits}
-use Rattle.sx_derive.specs.Step.{IsStep}
-use Rattle.sx_derive.specs.Store.{IsStore, Grows, IsMark, store_trees, store_envs, store_kids, store_frames}
-use Rattle.sx_derive.specs.Tasks.{task_from, task_in, stacked, events_left, TaskFits, TasksFit, Piled, IsNext, wanted_in, WantedBelow}
-use Rattle.sx_derive.specs.Turns.{IsTurn}
+use Rattle.sx_derive.specs.Step.{IsSearchStep}
+use Rattle.sx_derive.specs.Store.{IsStore, StoreGrows, IsMark, store_trees, store_envs, store_kids}
+use Rattle.sx_derive.specs.Store.{store_frames}
+use Rattle.sx_derive.specs.Tasks.{task_from, task_in, stacked, events_left, TaskFits, TasksFit}
+use Rattle.sx_derive.specs.Tasks.{Piled, IsNextCandidate, wanted_in, WantedBelow}
+use Rattle.sx_derive.specs.Turns.{IsTaskTurn}
 use Rattle.sx_arena.proofs.Arenas.{distinct, maps_same, below_more}
 use Rattle.sx_derive.proofs.Chained.{frames_stay_at}
 use Rattle.sx_arena.proofs.Growing.{extends-length}
@@ -41,7 +45,7 @@ module _ (modes : Modes) (rules : List Rule) (js : List Judgement) where
   stack_push s (x ∷ xs) t ts = stack_push s xs t (task_in modes rules js s x ∷ ts)
 
   -- more in the store changes no task
-  pub task_stays : (s t : Store) (n : ℕ) (k : TaskOf) → Grows modes rules s t → TaskFits modes rules s n k → task_in modes rules js t k ≡ task_in modes rules js s k
+  pub task_stays : (s t : Store) (n : ℕ) (k : TaskOf) → StoreGrows modes rules s t → TaskFits modes rules s n k → task_in modes rules js t k ≡ task_in modes rules js s k
   task_stays s t n k g f =
       let e = maps_same (store_trees s) (store_trees t) g.trees k.terms.items f.terms in
       let z = (sizes modes rules s).frames in
@@ -49,12 +53,12 @@ module _ (modes : Modes) (rules : List Rule) (js : List Judgement) where
       let q = frames_stay_at (store_frames modes rules s) (store_frames modes rules t) g.frames k.frames (omega arith) in
       λ i. task_from k.next js rules k.levels (record { form = k.form; terms = e i }) (q i)
 
-  pub stack_stays : (s t : Store) (n : ℕ) (xs : List TaskOf) (ts : List Task) → Grows modes rules s t → TasksFit modes rules s n xs → stacked modes rules js t xs ts ≡ stacked modes rules js s xs ts
+  pub stack_stays : (s t : Store) (n : ℕ) (xs : List TaskOf) (ts : List Task) → StoreGrows modes rules s t → TasksFit modes rules s n xs → stacked modes rules js t xs ts ≡ stacked modes rules js s xs ts
   stack_stays s t n [] ts g f = refl
   stack_stays s t n (x ∷ xs) ts g f = ap (λ k. stacked modes rules js t xs (k ∷ ts)) (task_stays s t n x g f.0) ∙ stack_stays s t n xs (task_in modes rules js s x ∷ ts) g f.1
 
 module _ (modes : Modes) (rules : List Rule) (n : ℕ) where
-  pub fit_more : (s t : Store) (k : TaskOf) → Grows modes rules s t → TaskFits modes rules s n k → TaskFits modes rules t n k
+  pub fit_more : (s t : Store) (k : TaskOf) → StoreGrows modes rules s t → TaskFits modes rules s n k → TaskFits modes rules t n k
   fit_more s t k g f =
       let a = (sizes modes rules s).frames in
       let b = (sizes modes rules t).frames in
@@ -66,7 +70,7 @@ module _ (modes : Modes) (rules : List Rule) (n : ℕ) where
         frames = (omega arith);
       }
 
-  pub fits_more : (s t : Store) (xs : List TaskOf) → Grows modes rules s t → TasksFit modes rules s n xs → TasksFit modes rules t n xs
+  pub fits_more : (s t : Store) (xs : List TaskOf) → StoreGrows modes rules s t → TasksFit modes rules s n xs → TasksFit modes rules t n xs
   fits_more s t [] g f = tt
   fits_more s t (x ∷ xs) g f = (fit_more s t x g f.0, fits_more s t xs g f.1)
 
@@ -82,7 +86,7 @@ module _ (modes : Modes) (rules : List Rule) (n : ℕ) where
   abbrev P : Store → List TaskOf → Store → Type 0
   P b xs s = Piled modes rules n b xs s
 
-  pub piled_grows : (b s : Store) (xs : List TaskOf) → P b xs s → Grows modes rules b s
+  pub piled_grows : (b s : Store) (xs : List TaskOf) → P b xs s → StoreGrows modes rules b s
   piled_grows b s [] p = p
   piled_grows b s (x ∷ xs) p = grows_then modes rules b p.0 s p.1.0 (piled_grows p.0 s xs p.1.3)
 
@@ -90,16 +94,16 @@ module _ (modes : Modes) (rules : List Rule) (n : ℕ) where
   piled_fits b s [] p = tt
   piled_fits b s (x ∷ xs) p = (fit_more modes rules n p.0 s x (piled_grows p.0 s xs p.1.3) p.1.2, piled_fits p.0 s xs p.1.3)
 
-  pub piled_push : (b c s : Store) (xs : List TaskOf) (t : TaskOf) → P b xs c → IsMark c t.mark → TaskFits modes rules c n t → Grows modes rules c s → P b (xs ++ t ∷ []) s
+  pub piled_push : (b c s : Store) (xs : List TaskOf) (t : TaskOf) → P b xs c → IsMark c t.mark → TaskFits modes rules c n t → StoreGrows modes rules c s → P b (xs ++ t ∷ []) s
   piled_push b c s [] t p k f g = (c, (p, k, f, g))
   piled_push b c s (x ∷ xs) t p k f g = (p.0, (p.1.0, p.1.1, p.1.2, piled_push p.0 c s xs t p.1.3 k f g))
 
   -- the store of the last task
-  pub piled_top : (b s : Store) (xs : List TaskOf) (t : TaskOf) → P b (xs ++ t ∷ []) s → (c : Store) × (P b xs c × IsMark c t.mark × TaskFits modes rules c n t × Grows modes rules c s)
+  pub piled_top : (b s : Store) (xs : List TaskOf) (t : TaskOf) → P b (xs ++ t ∷ []) s → (c : Store) × (P b xs c × IsMark c t.mark × TaskFits modes rules c n t × StoreGrows modes rules c s)
   piled_top b s [] t p = (p.0, (p.1.0, p.1.1, p.1.2, p.1.3))
   piled_top b s (x ∷ xs) t p = let r = piled_top p.0 s xs t p.1.3 in (r.0, ((p.0, (p.1.0, p.1.1, p.1.2, r.1.0)), r.1.1, r.1.2, r.1.3))
 
-  piled_later : (b c s : Store) (xs : List TaskOf) → P b xs c → Grows modes rules c s → P b xs s
+  piled_later : (b c s : Store) (xs : List TaskOf) → P b xs c → StoreGrows modes rules c s → P b xs s
   piled_later b c s [] p g = grows_then modes rules b c s p g
   piled_later b c s (x ∷ xs) p g = (p.0, (p.1.0, p.1.1, p.1.2, piled_later p.0 c s xs p.1.3 g))
 
@@ -107,7 +111,7 @@ module _ (modes : Modes) (rules : List Rule) (n : ℕ) where
   piled_pop b s xs t p = let r = piled_top b s xs t p in piled_later b r.0 s xs r.1.0 r.1.3
 
   -- tasks that stood in a store before have the same events
-  pub events_stay : (pairs : List Pair) (js : List Judgement) (c s : Store) (xs : List TaskOf) → ArePairs (length (store_trees c)) pairs → Grows modes rules c s → TasksFit modes rules c n xs →
+  pub events_stay : (pairs : List Pair) (js : List Judgement) (c s : Store) (xs : List TaskOf) → ArePairs (length (store_trees c)) pairs → StoreGrows modes rules c s → TasksFit modes rules c n xs →
       events_left modes rules pairs js s xs ≡ events_left modes rules pairs js c xs
   events_stay pairs js c s xs hp g f =
       λ i. tasks_events modes rules (record { judgements = js; pairs = pairs_stay (store_trees c) (store_trees s) g.trees pairs hp i }) (stack_stays modes rules js c s n xs [] g f i)
@@ -121,7 +125,7 @@ events_pop modes rules pairs js s xs k h =
 
 module _ (modes : Modes) (rules : List Rule) (pairs : List Pair) (js : List Judgement) (wanted : Option (Vec ℕ Global)) (n : ℕ) (old new : Store) (t after : TaskOf) (tasks : List TaskOf) (step : Step)
     (hs : IsStore modes rules old) (hp : ArePairs (length (store_trees old)) pairs) (hw : WantedBelow (length (store_trees old)) wanted) (ft : TaskFits modes rules old n t) (fs : TasksFit modes rules old n tasks)
-    (less : t.next < n) (x : IsNext modes rules pairs js old new t step)
+    (less : t.next < n) (x : IsNextCandidate modes rules pairs js old new t step)
     (a_next : after.next ≡ t.next + 1) (a_form : after.form ≡ t.form) (a_terms : after.terms.items ≡ t.terms.items) (a_levels : after.levels ≡ t.levels) (a_frames : after.frames ≡ t.frames) (a_mark : after.mark ≡ t.mark) where
   abbrev hyps : Hypotheses
   hyps = hyps_in pairs old js
@@ -158,7 +162,7 @@ module _ (modes : Modes) (rules : List Rule) (pairs : List Pair) (js : List Judg
         frames = (omega arith);
       }
 
-  left_piled : (first c : Store) → Piled modes rules n first tasks c → IsMark c t.mark → TaskFits modes rules c n t → Grows modes rules c old → Piled modes rules n first (tasks ++ after ∷ []) new
+  left_piled : (first c : Store) → Piled modes rules n first tasks c → IsMark c t.mark → TaskFits modes rules c n t → StoreGrows modes rules c old → Piled modes rules n first (tasks ++ after ∷ []) new
   left_piled first c p k f g =
       piled_push modes rules n first c new tasks after p (subst (λ (m : Mark). IsMark c m) (sym a_mark) k) (after_in c f) (grows_then modes rules c old new g x.grows)
 
@@ -184,9 +188,9 @@ module _ (modes : Modes) (rules : List Rule) (pairs : List Pair) (js : List Judg
       ∙ x.events (stacked modes rules js old tasks [])
       ∙ ap (λ q. try ∷ (result_events modes rules hyps q ++ tasks_events modes rules hyps left_stack)) e
 
-  pub turn_nothing : step ≡ Nothing → IsTurn modes rules pairs js wanted n old new t tasks (tasks ++ after ∷ []) None
+  pub turn_nothing : step ≡ Nothing → IsTaskTurn modes rules pairs js wanted n old new t tasks (tasks ++ after ∷ []) None
   turn_nothing e =
-      let r : x.result ≡ nothing = subst (λ (y : Step). IsStep modes rules js new answers y x.result) e x.is in
+      let r : x.result ≡ nothing = subst (λ (y : Step). IsSearchStep modes rules js new answers y x.result) e x.is in
       let q = old_is nothing r in
       record {
         grows = x.grows;
@@ -199,9 +203,9 @@ module _ (modes : Modes) (rules : List Rule) (pairs : List Pair) (js : List Judg
         );
       }
 
-  pub turn_passed : (l : Limit) → step ≡ Passed l → IsTurn modes rules pairs js wanted n old new t tasks (tasks ++ after ∷ []) (Some (WasPassed l))
+  pub turn_passed : (l : Limit) → step ≡ Passed l → IsTaskTurn modes rules pairs js wanted n old new t tasks (tasks ++ after ∷ []) (Some (WasPassed l))
   turn_passed l e =
-      let r = subst (λ (y : Step). IsStep modes rules js new answers y x.result) e x.is in
+      let r = subst (λ (y : Step). IsSearchStep modes rules js new answers y x.result) e x.is in
       let q = old_is (stops r.0) r.2 in
       record {
         grows = x.grows;
@@ -214,9 +218,9 @@ module _ (modes : Modes) (rules : List Rule) (pairs : List Pair) (js : List Judg
         );
       }
 
-  pub turn_spent : step ≡ DepthSpent → IsTurn modes rules pairs js wanted n old new t tasks (tasks ++ after ∷ []) (Some WasSpent)
+  pub turn_spent : step ≡ DepthSpent → IsTaskTurn modes rules pairs js wanted n old new t tasks (tasks ++ after ∷ []) (Some WasSpent)
   turn_spent e =
-      let r : x.result ≡ stops depth_spent = subst (λ (y : Step). IsStep modes rules js new answers y x.result) e x.is in
+      let r : x.result ≡ stops depth_spent = subst (λ (y : Step). IsSearchStep modes rules js new answers y x.result) e x.is in
       let q = old_is (stops depth_spent) r in
       record {
         grows = x.grows;
@@ -228,9 +232,9 @@ module _ (modes : Modes) (rules : List Rule) (pairs : List Pair) (js : List Judg
 
   pub turn_goes : (form : ℕ) (terms : Vec ℕ Global) (levels frames : ℕ) (mark : Mark) (more : TaskOf) → IsMark new mark → step ≡ Goes form terms levels frames →
       more ≡ record { next = 0; form = form; terms = terms; levels = levels; frames = frames; mark = mark } →
-      IsTurn modes rules pairs js wanted n old new t tasks ((tasks ++ after ∷ []) ++ more ∷ []) None
+      IsTaskTurn modes rules pairs js wanted n old new t tasks ((tasks ++ after ∷ []) ++ more ∷ []) None
   turn_goes form terms levels frames mark more mk e f =
-      let r = subst (λ (y : Step). IsStep modes rules js new answers y x.result) e x.is in
+      let r = subst (λ (y : Step). IsSearchStep modes rules js new answers y x.result) e x.is in
       let goal = goal_in new form terms.items in
       let fr = frames_in modes rules new frames in
       let q = old_is (goes_on (hypotheses_from 0 js levels goal fr)) r.2 in
@@ -258,12 +262,12 @@ module _ (modes : Modes) (rules : List Rule) (pairs : List Pair) (js : List Judg
 
   module _ (head : Head) (outs : Vec ℕ Global) (e : step ≡ Done head outs) where
     told : HeadFits (length (store_envs new)) (length (store_kids new)) head × AreBelow (length (store_trees new)) outs.items × (x.result ≡ answers (answer_in new head outs.items))
-    told = subst (λ (y : Step). IsStep modes rules js new answers y x.result) e x.is
+    told = subst (λ (y : Step). IsSearchStep modes rules js new answers y x.result) e x.is
 
     pub done_below : AreBelow (length (store_trees new)) outs.items
     done_below = told.1
 
-    pub turn_found : are_wanted (wanted_in old wanted) (map (tree_at (store_trees new)) outs.items) ≡ true → IsTurn modes rules pairs js wanted n old new t tasks (tasks ++ after ∷ []) (Some (Found head outs))
+    pub turn_found : are_wanted (wanted_in old wanted) (map (tree_at (store_trees new)) outs.items) ≡ true → IsTaskTurn modes rules pairs js wanted n old new t tasks (tasks ++ after ∷ []) (Some (Found head outs))
     turn_found w =
         let q = old_is (answers (answer_in new head outs.items)) told.2 in
         record {
@@ -277,7 +281,7 @@ module _ (modes : Modes) (rules : List Rule) (pairs : List Pair) (js : List Judg
           );
         }
 
-    pub turn_other : are_wanted (wanted_in old wanted) (map (tree_at (store_trees new)) outs.items) ≡ false → IsTurn modes rules pairs js wanted n old new t tasks (tasks ++ after ∷ []) None
+    pub turn_other : are_wanted (wanted_in old wanted) (map (tree_at (store_trees new)) outs.items) ≡ false → IsTaskTurn modes rules pairs js wanted n old new t tasks (tasks ++ after ∷ []) None
     turn_other w =
         let q = old_is (answers (answer_in new head outs.items)) told.2 in
         record {
@@ -293,22 +297,22 @@ module _ (modes : Modes) (rules : List Rule) (pairs : List Pair) (js : List Judg
         }
 
 -- the outputs are wanted just where the numbers are the same
-pub wanted_true : (modes : Modes) (rules : List Rule) (old new : Store) (w : Vec ℕ Global) (outs : List ℕ) → Grows modes rules old new → AreBelow (length (store_trees old)) w.items → outs ≡ w.items → are_wanted (wanted_in old (Some w)) (map (tree_at (store_trees new)) outs) ≡ true
+pub wanted_true : (modes : Modes) (rules : List Rule) (old new : Store) (w : Vec ℕ Global) (outs : List ℕ) → StoreGrows modes rules old new → AreBelow (length (store_trees old)) w.items → outs ≡ w.items → are_wanted (wanted_in old (Some w)) (map (tree_at (store_trees new)) outs) ≡ true
 wanted_true modes rules old new w outs g b e =
     ap (λ ts. are_wanted (Some ts) (map (tree_at (store_trees new)) outs)) (sym (maps_same (store_trees old) (store_trees new) g.trees w.items b)) ∙ numbers_same (store_trees new) outs w.items e
 
-pub wanted_false : (modes : Modes) (rules : List Rule) (old new : Store) (w : Vec ℕ Global) (outs : List ℕ) → Grows modes rules old new → AreBelow (length (store_trees old)) w.items → AreBelow (length (store_trees new)) outs → (outs ≡ w.items → ⊥) → are_wanted (wanted_in old (Some w)) (map (tree_at (store_trees new)) outs) ≡ false
+pub wanted_false : (modes : Modes) (rules : List Rule) (old new : Store) (w : Vec ℕ Global) (outs : List ℕ) → StoreGrows modes rules old new → AreBelow (length (store_trees old)) w.items → AreBelow (length (store_trees new)) outs → (outs ≡ w.items → ⊥) → are_wanted (wanted_in old (Some w)) (map (tree_at (store_trees new)) outs) ≡ false
 wanted_false modes rules old new w outs g b c d =
     ap (λ ts. are_wanted (Some ts) (map (tree_at (store_trees new)) outs)) (sym (maps_same (store_trees old) (store_trees new) g.trees w.items b))
     ∙ numbers_differ (store_trees new) (distinct new.arena.cells g.store.arena) outs w.items c (below_more (length (store_trees old)) (length (store_trees new)) (extends-length (store_trees old) (store_trees new) g.trees) w.items b) d
 
 -- what the test says, by cases on what is wanted
-pub tested_true : (modes : Modes) (rules : List Rule) (old new : Store) (wanted : Option (Vec ℕ Global)) (outs : List ℕ) (b : Bool) → Grows modes rules old new → WantedBelow (length (store_trees old)) wanted →
+pub tested_true : (modes : Modes) (rules : List Rule) (old new : Store) (wanted : Option (Vec ℕ Global)) (outs : List ℕ) (b : Bool) → StoreGrows modes rules old new → WantedBelow (length (store_trees old)) wanted →
     MatchOption wanted (b ≡ true) (λ w. IsTrue b ↔ (outs ≡ w.items)) → b ≡ true → are_wanted (wanted_in old wanted) (map (tree_at (store_trees new)) outs) ≡ true
 tested_true modes rules old new None outs b g l t e = refl
 tested_true modes rules old new (Some w) outs b g l t e = wanted_true modes rules old new w outs g l (t.0 e)
 
-pub tested_false : (modes : Modes) (rules : List Rule) (old new : Store) (wanted : Option (Vec ℕ Global)) (outs : List ℕ) (b : Bool) → Grows modes rules old new → WantedBelow (length (store_trees old)) wanted → AreBelow (length (store_trees new)) outs →
+pub tested_false : (modes : Modes) (rules : List Rule) (old new : Store) (wanted : Option (Vec ℕ Global)) (outs : List ℕ) (b : Bool) → StoreGrows modes rules old new → WantedBelow (length (store_trees old)) wanted → AreBelow (length (store_trees new)) outs →
     MatchOption wanted (b ≡ true) (λ w. IsTrue b ↔ (outs ≡ w.items)) → b ≡ false → are_wanted (wanted_in old wanted) (map (tree_at (store_trees new)) outs) ≡ false
 tested_false modes rules old new None outs b g l c t e = (let q : true ≡ false = sym t ∙ e in cc)
 tested_false modes rules old new (Some w) outs b g l c t e = wanted_false modes rules old new w outs g l c (λ f. let q : true ≡ false = sym (t.1 f) ∙ e in let z : ⊥ = cc in z)

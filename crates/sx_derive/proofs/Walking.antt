@@ -16,9 +16,10 @@ use Rattle.sx_derive.specs.declared.tasks.Ending.TheVariants.{Spent, Exhausted}
 use Rattle.sx_arena.specs.Arena.{AreBelow, Extends}
 use Rattle.sx_derive.specs.Candidates.{goal_in, AreFacts}
 use Rattle.sx_derive.specs.Handing.{hyps_in}
-use Rattle.sx_derive.specs.Store.{IsStore, Grows, IsMark, IsCut, store_trees}
-use Rattle.sx_derive.specs.Tasks.{events_left, TaskFits, TasksFit, Piled, wanted_in, WantedBelow, IsEnding, IsOutcome}
-use Rattle.sx_derive.specs.Turns.{IsPopped, IsTurn}
+use Rattle.sx_derive.specs.Store.{IsStore, StoreGrows, IsMark, IsStoreCut, store_trees}
+use Rattle.sx_derive.specs.Tasks.{events_left, TaskFits, TasksFit, Piled, wanted_in, WantedBelow}
+use Rattle.sx_derive.specs.Tasks.{IsEnding, IsOutcome}
+use Rattle.sx_derive.specs.Turns.{IsPopped, IsTaskTurn}
 use Rattle.sx_derive.specs.Walked.{events_in, IsWalked}
 use Rattle.sx_arena.proofs.Facts.{facts_stay}
 use Rattle.sx_arena.proofs.Arenas.{maps_same, below_more}
@@ -46,7 +47,7 @@ module _ (modes : Modes) (rules : List Rule) (pairs : List Pair) (facts : List F
 
   -- what is left of the walk with the tries that are left
   pub record Walking (now : Store) (left last : ℕ) (tasks : List TaskOf) : Type 0 where
-    pub grows : Grows modes rules old now
+    pub grows : StoreGrows modes rules old now
     pub fits : TasksFit modes rules now (length facts + length rules) tasks
     pub piled : Piled modes rules (length facts + length rules) old tasks now
     pub less : left ≤ budget
@@ -86,13 +87,13 @@ module _ (modes : Modes) (rules : List Rule) (pairs : List Pair) (facts : List F
 
       -- the store that there was when the task was made
       abbrev Top : Type 0
-      Top = (c : Store) × (Piled modes rules (length facts + length rules) old rest c × IsMark c task.mark × TaskFits modes rules c (length facts + length rules) task × Grows modes rules c now)
+      Top = (c : Store) × (Piled modes rules (length facts + length rules) old rest c × IsMark c task.mark × TaskFits modes rules c (length facts + length rules) task × StoreGrows modes rules c now)
 
       top : (js : List Judgement) → AreFacts modes (store_trees old) js facts → Top
       top js a = piled_top modes rules (length facts + length rules) old now rest task ((p js now (sym (facts_length modes (store_trees old) js facts a))).3 old w.piled)
 
       -- where the chains are cut back to it nothing changes
-      pub walking_cut : ArePairs (length (store_trees old)) pairs → (cut : Store) → IsCut task.mark now cut → (one : List Judgement) → AreFacts modes (store_trees old) one facts → Walking cut left last (rest ++ task ∷ [])
+      pub walking_cut : ArePairs (length (store_trees old)) pairs → (cut : Store) → IsStoreCut task.mark now cut → (one : List Judgement) → AreFacts modes (store_trees old) one facts → Walking cut left last (rest ++ task ∷ [])
       walking_cut hp cut k one b =
           let n = length facts + length rules in
           let t = top one b in
@@ -141,14 +142,14 @@ module _ (modes : Modes) (rules : List Rule) (pairs : List Pair) (facts : List F
           ((omega arith), (omega arith))
 
       module _ (l : 0 < left) (hw : WantedBelow (length (store_trees old)) wanted) (new : Store) (more : List TaskOf) where
-        turned : (o : Option EndingOf) (x : (js : List Judgement) → AreFacts modes (store_trees now) js facts → IsTurn modes rules pairs js wanted (length facts + length rules) now new task rest more o) →
+        turned : (o : Option EndingOf) (x : (js : List Judgement) → AreFacts modes (store_trees now) js facts → IsTaskTurn modes rules pairs js wanted (length facts + length rules) now new task rest more o) →
             (js : List Judgement) → AreFacts modes (store_trees old) js facts → IsOutcome new (wanted_in old wanted) (left - 1) (events_left modes rules pairs js now tasks) (events_left modes rules pairs js new more) o
         turned o x js a =
             let i = (x js (facts_now js a)).outcome (left - 1) in
             subst (λ es. IsOutcome new (wanted_in old wanted) (left - 1) es (events_left modes rules pairs js new more) o) (sym (popped_is js a))
             (subst (λ v. IsOutcome new v (left - 1) (events_left modes rules pairs js now (rest ++ task ∷ [])) (events_left modes rules pairs js new more) o) (wanted_stays old now w.grows.trees wanted hw) i)
 
-        pub walking_more : (x : (js : List Judgement) → AreFacts modes (store_trees now) js facts → IsTurn modes rules pairs js wanted (length facts + length rules) now new task rest more None) →
+        pub walking_more : (x : (js : List Judgement) → AreFacts modes (store_trees now) js facts → IsTaskTurn modes rules pairs js wanted (length facts + length rules) now new task rest more None) →
             (js : List Judgement) → AreFacts modes (store_trees old) js facts → (after : ℕ) → after ≡ last + 1 → Walking new (left - 1) after more
         walking_more x one b after f =
             let y = x one (facts_now one b) in
@@ -168,7 +169,7 @@ module _ (modes : Modes) (rules : List Rule) (pairs : List Pair) (facts : List F
                   (let z = t in omega arith);
             }
 
-        pub walking_ends : (ending : EndingOf) (x : (js : List Judgement) → AreFacts modes (store_trees now) js facts → IsTurn modes rules pairs js wanted (length facts + length rules) now new task rest more (Some ending)) →
+        pub walking_ends : (ending : EndingOf) (x : (js : List Judgement) → AreFacts modes (store_trees now) js facts → IsTaskTurn modes rules pairs js wanted (length facts + length rules) now new task rest more (Some ending)) →
             (after : ℕ) → after ≡ last + 1 → (js : List Judgement) → AreFacts modes (store_trees old) js facts → IsWalked modes rules old new wanted budget (events_first js) first after (Ok ending)
         walking_ends ending x after f js a =
             let y = x js (facts_now js a) in

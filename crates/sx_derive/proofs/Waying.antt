@@ -17,7 +17,8 @@ use Rattle.sx_rules.specs.Modes.{outputs}
 use Rattle.sx_rules.specs.Deep.{AreShallow}
 use Rattle.sx_arena.proofs.Placed.{selected_more, selected_less, selected_none, maps_drop}
 use Rattle.sx_derive.specs.Stuck.{place_in, place_in_kids, first_place}
-use Rattle.sx_derive.specs.Ways.{IsWay, subject_mask}
+use Rattle.sx_derive.specs.Ways.{IsWay}
+use Rattle.sx_rules.specs.SubjectTerms.{subject_mask}
 
 plus_one : (i : ℕ) → suc i ≡ i + 1
 plus_one i = omega arith

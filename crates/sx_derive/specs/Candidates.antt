@@ -8,8 +8,8 @@ use Rattle.sx_derive.specs.declared.step.Step.{Step}
 use Rattle.sx_derive.specs.declared.store.Store.{Store}
 use Rattle.sx_arena.specs.Arena.{tree_at}
 use Rattle.sx_derive.specs.Handing.{hyps_in}
-use Rattle.sx_derive.specs.Store.{Grows, store_trees}
-use Rattle.sx_derive.specs.Step.{IsStep}
+use Rattle.sx_derive.specs.Store.{StoreGrows, store_trees}
+use Rattle.sx_derive.specs.Step.{IsSearchStep}
 pub use Rattle.sx_arena.specs.Facts.{IsFact, AreFacts}
 
 -- a goal by its numbers
@@ -17,8 +17,9 @@ abbrev pub goal_in : Store → ℕ → List ℕ → Goal
 goal_in s form terms = record { form = form; terms = map (tree_at (store_trees s)) terms }
 
 -- what comes of a candidate is what the machine says, by the store before it
-pub record IsTried (modes : Modes) (rules : List Rule) (pairs : List Pair) (old new : Store)
+pub record IsCandidateTried (modes : Modes) (rules : List Rule) (pairs : List Pair)
+    (old new : Store)
     (result : Hypotheses → Result) (step : Step) : Type 0 where
-  pub grows : Grows modes rules old new
+  pub grows : StoreGrows modes rules old new
   pub is : (js : List Judgement) →
-      IsStep modes rules js new answers step (result (hyps_in pairs old js))
+      IsSearchStep modes rules js new answers step (result (hyps_in pairs old js))

@@ -23,12 +23,12 @@ use Rattle.sx_rules.specs.Rules.{Judgement, Premise, holds, apart, Rule}
 use Rattle.sx_rules.specs.Modes.{Modes, outputs_of}
 use Rattle.sx_rules.specs.Derivations.{Proof, Proofs, by, given, no_more, ◌⊳◌}
 use Rattle.sx_derive.specs.Walk.{first_values}
-use Rattle.sx_derive.specs.Machine.{Frame, joined}
+use Rattle.sx_derive.specs.Machine.{Frame, joined_proofs}
 use Rattle.sx_derive.specs.declared.chains.Head.{Head}
 use Rattle.sx_derive.specs.declared.chains.Head.TheVariants.{Given, By}
 use Rattle.sx_derive.specs.declared.chains.Kid.{Kid}
 use Rattle.sx_derive.specs.declared.chains.Waiting.{Waiting}
-use Rattle.sx_arena.specs.Grown.{grown_from, Fits}
+use Rattle.sx_arena.specs.Grown.{grown_from, CellsFit}
 use Rattle.sx_arena.specs.Binds.{env_at}
 
 -- a chain of proofs: 0 has none, and n + 1 is the one that ends with cell n
@@ -45,7 +45,7 @@ head_proof es ks (By number variables env kids) =
 
 -- the chain of a cell: the one before it, with the proof of its head behind
 abbrev pub kid_step : List Assignment → List Proofs → Kid → Proofs
-kid_step es ks c = joined (kids_at ks c.before) (head_proof es ks c.head ⊳ no_more)
+kid_step es ks c = joined_proofs (kids_at ks c.before) (head_proof es ks c.head ⊳ no_more)
 
 -- the head names only bindings and proofs that are there
 abbrev pub HeadFits : ℕ → ℕ → Head → Type 0
@@ -63,7 +63,7 @@ kids_of es cs = grown_from (kid_step es) [] cs
 
 -- each cell names only what stands before it
 abbrev pub AreKids : List Assignment → List Kid → Type 0
-AreKids es cs = Fits (kid_step es) (KidFits es) [] cs
+AreKids es cs = CellsFit (kid_step es) (KidFits es) [] cs
 
 -- the frame of a cell: the rule is in work at a judgement premise
 abbrev pub patterns_of : Modes → Option Premise → List Tree
@@ -123,4 +123,4 @@ frames_of modes rules es ks cs = grown_from (waiting_step modes rules es ks) [] 
 -- each cell fits those before it
 abbrev pub AreFrames : Modes → List Rule → List Assignment → List Proofs → List Waiting → Type 0
 AreFrames modes rules es ks cs =
-    Fits (waiting_step modes rules es ks) (WaitingFits rules es ks) [] cs
+    CellsFit (waiting_step modes rules es ks) (WaitingFits rules es ks) [] cs

@@ -6,13 +6,13 @@ use Rattle.sx_rules.specs.declared.rule.Judgement.{Judgement as JudgementOf}
 use Rattle.sx_arena.specs.Binds.{env_at}
 use Rattle.sx_arena.specs.Facts.{AreFacts}
 use Rattle.sx_arena.specs.Matching.{Assignment}
-use Rattle.sx_arena.specs.Views.{rules_of, modes_of, rule_of, judgement_of}
+use Rattle.sx_arena.specs.Views.{rules_of, set_modes, rule_of, judgement_of}
 use Rattle.sx_derive.specs.Asking.{asked_events, last_events}
 use Rattle.sx_derive.specs.Descents.{AreHyps, spot_goal, PremisesLead, RulesLead, IsDescent}
-use Rattle.sx_derive.specs.Store.{IsStore, Grows, store_trees, store_envs}
+use Rattle.sx_derive.specs.Store.{IsStore, StoreGrows, store_trees, store_envs}
 use Rattle.sx_derive.specs.Stuck.{Blame, IsStuck}
 use Rattle.sx_derive.specs.Walk.{Event, Answer, premise_events, goal_events, rules_events}
-use Rattle.sx_derive.specs.Ways.{subjects_of}
+use Rattle.sx_derive.specs.Ways.{subject_modes}
 use Rattle.sx_derive.specs.declared.bounds.Bounds.{Bounds}
 use Rattle.sx_derive.specs.declared.candidate.Candidate.{Candidate}
 use Rattle.sx_derive.specs.declared.descent.Descent.{Descent}
@@ -22,74 +22,75 @@ use Rattle.sx_derive.specs.declared.store.Store.{Store}
 
 -- the store is one of a search by the rules
 abbrev pub IsStoreOf : Given → Store → Type 0
-IsStoreOf g s = IsStore (modes_of g.rules.now) (rules_of g.rules.now) s
+IsStoreOf g s = IsStore (set_modes g.rules.now) (rules_of g.rules.now) s
 
 -- the store goes on from the other in a search by the rules
 abbrev pub GrowsIn : Given → Store → Store → Type 0
-GrowsIn g old new = Grows (modes_of g.rules.now) (rules_of g.rules.now) old new
+GrowsIn g old new = StoreGrows (set_modes g.rules.now) (rules_of g.rules.now) old new
 
 -- the facts are the judgements by their numbers
 abbrev pub HasFacts : Given → Store → List Judgement → Type 0
-HasFacts g s js = AreFacts (modes_of g.rules.now) (store_trees s) js g.facts.now
+HasFacts g s js = AreFacts (set_modes g.rules.now) (store_trees s) js g.facts.now
 
 -- the facts and the pairs are the hypotheses by their numbers
 abbrev pub HasHyps : Given → Store → Hypotheses → Type 0
-HasHyps g s hyps = AreHyps (modes_of g.rules.now) s g.facts.now g.pairs.now hyps
+HasHyps g s hyps = AreHyps (set_modes g.rules.now) s g.facts.now g.pairs.now hyps
 
 -- the events of a goal with that many levels, its own counted
 abbrev pub events_by : Given → Hypotheses → ℕ → Store → Spot → List (Event Answer)
 events_by g hyps levels s spot =
-    goal_events (modes_of g.rules.now) (rules_of g.rules.now) hyps levels (spot_goal s spot)
+    goal_events (set_modes g.rules.now) (rules_of g.rules.now) hyps levels (spot_goal s spot)
 
 -- the events of a goal among the rules, with that many levels below it
 abbrev pub rules_events_by : Given → Hypotheses → ℕ → Store → Spot → List (Event Answer)
 rules_events_by g hyps levels s spot =
-    rules_events (modes_of g.rules.now) hyps
-    (goal_events (modes_of g.rules.now) (rules_of g.rules.now) hyps levels) 0 (rules_of g.rules.now)
+    rules_events (set_modes g.rules.now) hyps
+    (goal_events (set_modes g.rules.now) (rules_of g.rules.now) hyps levels) 0
+    (rules_of g.rules.now)
     (spot_goal s spot)
 
 -- the events of a candidate's premises, with that many levels
 abbrev pub candidate_events : Given → Hypotheses → ℕ → Store → Candidate →
     List (Event (Assignment × Proofs))
 candidate_events g hyps levels s c =
-    premise_events (modes_of g.rules.now) hyps
-    (goal_events (modes_of g.rules.now) (rules_of g.rules.now) hyps levels)
+    premise_events (set_modes g.rules.now) hyps
+    (goal_events (set_modes g.rules.now) (rules_of g.rules.now) hyps levels)
     (rule_of c.rule.now).premises (env_at (store_envs s) c.env)
 
 -- the events of the goal of a premise under the bindings of a chain
 abbrev pub asked_by : Given → List Judgement → Store → ℕ → ℕ → JudgementOf → List (Event Answer)
 asked_by g js s env levels j =
-    asked_events (modes_of g.rules.now) (rules_of g.rules.now) g.pairs.now js s env levels
+    asked_events (set_modes g.rules.now) (rules_of g.rules.now) g.pairs.now js s env levels
     (judgement_of j)
 
 -- the events of the premise where it is a rule's last one
 abbrev pub last_by : Given → List Judgement → Store → ℕ → ℕ → JudgementOf →
     List (Event (Assignment × Proofs))
 last_by g js s env levels j =
-    last_events (modes_of g.rules.now) (rules_of g.rules.now) g.pairs.now js s env levels
+    last_events (set_modes g.rules.now) (rules_of g.rules.now) g.pairs.now js s env levels
     (judgement_of j)
 
 -- the premises of a goal's candidate lead to the blame
 abbrev pub CandidateLeads : Given → Hypotheses → Bounds → Store → Spot → Candidate → Blame → Type 0
 CandidateLeads g hyps bounds s spot c =
-    PremisesLead (modes_of g.rules.now) (subjects_of g.rules.now) (rules_of g.rules.now) hyps
+    PremisesLead (set_modes g.rules.now) (subject_modes g.rules.now) (rules_of g.rules.now) hyps
     bounds.budget bounds.levels c.number (rule_of c.rule.now) (spot_goal s spot) spot.path.items 0
     (rule_of c.rule.now).premises (env_at (store_envs s) c.env)
 
 -- the rules lead from the goal to the blame
 abbrev pub GoalLeads : Given → Hypotheses → Bounds → Store → Spot → Blame → Type 0
 GoalLeads g hyps bounds s spot =
-    RulesLead (modes_of g.rules.now) (subjects_of g.rules.now) (rules_of g.rules.now) hyps
+    RulesLead (set_modes g.rules.now) (subject_modes g.rules.now) (rules_of g.rules.now) hyps
     bounds.budget bounds.levels (spot_goal s spot) spot.path.items
 
 -- the goal, with that many levels, its own counted, is stuck with the blame
 abbrev pub IsStuckBy : Given → Hypotheses → ℕ → Store → Spot → Blame → Type 0
 IsStuckBy g hyps levels s spot =
-    IsStuck (modes_of g.rules.now) (subjects_of g.rules.now) (rules_of g.rules.now) hyps levels
+    IsStuck (set_modes g.rules.now) (subject_modes g.rules.now) (rules_of g.rules.now) hyps levels
     (spot_goal s spot) spot.path.items
 
 -- the descent is to a blame that is led to, or to a goal from which all that is led to is
 abbrev pub DescendsTo : Given → Hypotheses → Bounds → Store → (Blame → Type 0) → Descent → Type 0
 DescendsTo g hyps bounds s Leads =
-    IsDescent (modes_of g.rules.now) (subjects_of g.rules.now) (rules_of g.rules.now) hyps
+    IsDescent (set_modes g.rules.now) (subject_modes g.rules.now) (rules_of g.rules.now) hyps
     bounds.budget bounds.levels s Leads

@@ -12,8 +12,8 @@ use Rattle.sx_derive.specs.declared.store.Store.{Store}
 use Rattle.sx_arena.specs.Arena.{tree_at}
 use Rattle.sx_derive.specs.Chains.{head_proof, frames_at, waiting_step, WaitingFits}
 use Rattle.sx_arena.specs.Pairs.{pairs_of}
-use Rattle.sx_derive.specs.Store.{Grows, store_trees, store_envs, store_kids, store_frames}
-use Rattle.sx_derive.specs.Step.{IsStep}
+use Rattle.sx_derive.specs.Store.{StoreGrows, store_trees, store_envs, store_kids, store_frames}
+use Rattle.sx_derive.specs.Step.{IsSearchStep}
 
 -- the hypotheses, with the pairs by their numbers
 abbrev pub hyps_in : List Pair → Store → List Judgement → Hypotheses
@@ -42,9 +42,9 @@ IsWaiting modes rules s c =
 -- the next
 pub record IsResumed (modes : Modes) (rules : List Rule) (pairs : List Pair) (old new : Store)
     (c : Waiting) (head : Head) (outs : List ℕ) (step : Step) : Type 0 where
-  pub grows : Grows modes rules old new
+  pub grows : StoreGrows modes rules old new
   pub is : (js : List Judgement) →
-      IsStep modes rules js new
+      IsSearchStep modes rules js new
       (hand_on modes (hyps_in pairs old js) (frames_in modes rules old c.before)) step
       (hand_on modes (hyps_in pairs old js) (waiting_in modes rules old c)
       (answer_in old head outs))
@@ -52,8 +52,8 @@ pub record IsResumed (modes : Modes) (rules : List Rule) (pairs : List Pair) (ol
 -- what comes of the answer at the frames of the chain
 pub record IsHanded (modes : Modes) (rules : List Rule) (pairs : List Pair) (old new : Store)
     (frames : ℕ) (head : Head) (outs : List ℕ) (step : Step) : Type 0 where
-  pub grows : Grows modes rules old new
+  pub grows : StoreGrows modes rules old new
   pub is : (js : List Judgement) →
-      IsStep modes rules js new answers step
+      IsSearchStep modes rules js new answers step
       (hand_on modes (hyps_in pairs old js) (frames_in modes rules old frames)
       (answer_in old head outs))

@@ -19,7 +19,7 @@ use Rattle.std.specs.Prelude.{
 }
 use Rattle.sx_term.specs.Tree.{Tree}
 use Rattle.sx_rules.specs.Instances.{instance}
-use Rattle.sx_arena.specs.Matching.{same_all, Assignment, unbound, match_all, filled}
+use Rattle.sx_arena.specs.Matching.{same_all, Assignment, nothing_bound, match_all, filled}
 use Rattle.sx_rules.specs.Rules.{
   Judgement,
   Premise,
@@ -51,9 +51,9 @@ use Rattle.sx_derive.specs.Walk.{
 }
 
 -- the proofs of the one list and then those of the other
-abbrev pub joined : Proofs → Proofs → Proofs
-joined no_more qs = qs
-joined (p ⊳ ps) qs = p ⊳ joined ps qs
+abbrev pub joined_proofs : Proofs → Proofs → Proofs
+joined_proofs no_more qs = qs
+joined_proofs (p ⊳ ps) qs = p ⊳ joined_proofs ps qs
 
 -- a rule whose premise is in work: the premises after it, the premise's outputs, the bindings, the
 -- kids so far and the levels below
@@ -129,13 +129,13 @@ hand_on modes hyps [] a = answers a
 hand_on modes hyps (f ∷ fs) a =
     result_matched (match_all f.patterns a.1 f.env) (λ env.
     premises_result modes hyps f.number f.rule f.levels fs (hand_on modes hyps fs) f.rest env
-    (joined f.kids (a.0 ⊳ no_more)))
+    (joined_proofs f.kids (a.0 ⊳ no_more)))
 
 -- a rule against a goal
 abbrev pub rule_result : Modes → Hypotheses → ℕ → Rule → ℕ → Goal → List Frame → Result
 rule_result modes hyps r rule levels goal frames =
     result_when (nat_eq rule.conclusion.form goal.form)
-    (result_matched (match_all (inputs_of modes rule.conclusion) goal.terms unbound) (λ env.
+    (result_matched (match_all (inputs_of modes rule.conclusion) goal.terms nothing_bound) (λ env.
     premises_result modes hyps r rule levels frames (hand_on modes hyps frames) rule.premises env
     no_more))
 
@@ -149,7 +149,7 @@ given_result modes hyps i j goal frames =
 abbrev pub premises_after : Modes → List Rule → Hypotheses → ℕ → Rule → ℕ → List Premise →
     Assignment → Proofs → List (Event Answer)
 premises_after modes rules hyps r rule levels ps env kids =
-    then_each (λ end. conclude modes r rule (end.0, joined kids end.1))
+    then_each (λ end. conclude modes r rule (end.0, joined_proofs kids end.1))
     (premise_events modes hyps (goal_events modes rules hyps levels) ps env)
 
 -- the events that follow an answer at one frame
@@ -157,7 +157,7 @@ abbrev pub after_frame : Modes → List Rule → Hypotheses → Frame → Answer
 after_frame modes rules hyps f a =
     when_matched (match_all f.patterns a.1 f.env) (λ env.
     premises_after modes rules hyps f.number f.rule f.levels f.rest env
-    (joined f.kids (a.0 ⊳ no_more)))
+    (joined_proofs f.kids (a.0 ⊳ no_more)))
 
 -- the events that follow an answer at the frames that wait for it, the nearest first
 abbrev pub after_frames : Modes → List Rule → Hypotheses → List Frame → Answer → List (Event Answer)

@@ -10,8 +10,8 @@ use Rattle.sx_derive.specs.declared.step.Step.{Step}
 use Rattle.sx_arena.specs.Binds.{env_at}
 use Rattle.sx_derive.specs.Chains.{kids_at, frames_at}
 use Rattle.sx_arena.specs.Pairs.{pairs_of}
-use Rattle.sx_derive.specs.Store.{Grows, store_trees, store_envs, store_kids, store_frames}
-use Rattle.sx_derive.specs.Step.{IsStep}
+use Rattle.sx_derive.specs.Store.{StoreGrows, store_trees, store_envs, store_kids, store_frames}
+use Rattle.sx_derive.specs.Step.{IsSearchStep}
 
 -- the result of the premises, by the store before them
 abbrev pub result_of : Modes → List Rule → List Pair → Store → ℕ → Rule → ℕ → ℕ → ℕ → ℕ →
@@ -25,15 +25,15 @@ result_of modes rules pairs s number rule levels env kids frames js next ps =
 pub record IsPremises (modes : Modes) (rules : List Rule) (pairs : List Pair) (old new : Store)
     (number : ℕ) (rule : Rule) (levels env kids frames : ℕ) (ps : List Premise) (step : Step) : Type
     0 where
-  pub grows : Grows modes rules old new
+  pub grows : StoreGrows modes rules old new
   pub is : (js : List Judgement) (next : Answer → Result) →
-      IsStep modes rules js new next step
+      IsSearchStep modes rules js new next step
       (result_of modes rules pairs old number rule levels env kids frames js next ps)
 
 -- the premises before the number k hold
 pub record ArePassed (modes : Modes) (rules : List Rule) (pairs : List Pair) (old mid : Store)
     (number : ℕ) (rule : Rule) (levels env kids frames : ℕ) (ps rest : List Premise) : Type 0 where
-  pub grows : Grows modes rules old mid
+  pub grows : StoreGrows modes rules old mid
   pub same : (js : List Judgement) (next : Answer → Result) →
       result_of modes rules pairs old number rule levels env kids frames js next ps
       ≡ result_of modes rules pairs old number rule levels env kids frames js next rest

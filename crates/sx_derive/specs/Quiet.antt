@@ -25,7 +25,7 @@ use Rattle.sx_derive.specs.Walk.{Event, try, give, stop, Answer}
 use Rattle.sx_derive.specs.Search.{HasStop}
 use Rattle.sx_derive.specs.declared.store.Store.{Store}
 use Rattle.sx_arena.specs.Arena.{tree_at, AreBelow}
-use Rattle.sx_derive.specs.Store.{Grows, store_trees}
+use Rattle.sx_derive.specs.Store.{StoreGrows, store_trees}
 
 -- how many tries stand among the events
 abbrev pub count : {A : Type 0} → List (Event A) → ℕ
@@ -62,4 +62,4 @@ IsGivenIn ts first (Some outs) =
 abbrev pub IsFirstFound : Modes → List Rule → Store → Store → List (Event Answer) →
     Option (Vec ℕ Global) → Type 0
 IsFirstFound modes rules old new es found =
-    Grows modes rules old new × IsGivenIn (store_trees new) (first_given es) found
+    StoreGrows modes rules old new × IsGivenIn (store_trees new) (first_given es) found

@@ -35,7 +35,7 @@ use Rattle.sx_arena.specs.declared.places.Limit.TheVariants.{TooDeep as DeepTerm
 use Rattle.sx_derive.specs.Candidates.{AreFacts}
 use Rattle.sx_derive.specs.Chains.{HeadFits}
 use Rattle.sx_derive.specs.Handing.{answer_in}
-use Rattle.sx_derive.specs.Store.{IsStore, Grows, store_trees, store_envs, store_kids}
+use Rattle.sx_derive.specs.Store.{IsStore, StoreGrows, store_trees, store_envs, store_kids}
 use Rattle.sx_derive.specs.Tasks.{events_left, TasksFit}
 use Rattle.sx_derive.specs.Walk.{
   Cause,
@@ -92,7 +92,8 @@ StandsBefore AtDepth rest es = es ≡ stop depth_spent ∷ rest
 StandsBefore Failed rest es = ⊥
 
 -- the search has the hypotheses by their numbers, and its tasks fit in its store
-pub record IsReady (modes : Modes) (rules : List Rule) (hyps : Hypotheses) (search : Search) : Type
+pub record IsSearchReady (modes : Modes) (rules : List Rule) (hyps : Hypotheses)
+    (search : Search) : Type
     0 where
   pub store : IsStore modes rules search.store
   pub few : length search.facts.items < 2 ^ 32
@@ -105,7 +106,7 @@ pub record IsReady (modes : Modes) (rules : List Rule) (hyps : Hypotheses) (sear
 -- the search stands for the events that are still to come, under the rules and the hypotheses
 pub record Stands (modes : Modes) (rules : List Rule) (hyps : Hypotheses) (search : Search)
     (es : List (Event Answer)) : Type 0 where
-  pub ready : IsReady modes rules hyps search
+  pub ready : IsSearchReady modes rules hyps search
   pub events : StandsBefore search.state
       (events_left modes rules search.pairs.items hyps.judgements search.store search.tasks.items)
       es
@@ -185,7 +186,7 @@ IsReachedAt modes rules pairs js s tasks budget first last es n Exhausted =
 abbrev pub IsReached : Modes → List Rule → List Pair → List Judgement → ℕ → Store → Store →
     List TaskOf → ℕ → ℕ → ℕ → List (Event Answer) → Result Reached NoMemory → Type 0
 IsReached modes rules pairs js candidates old new tasks budget first last es (Ok r) =
-    Grows modes rules old new × TasksFit modes rules new candidates tasks
+    StoreGrows modes rules old new × TasksFit modes rules new candidates tasks
     × IsReachedAt modes rules pairs js new tasks budget first last es r.tries r.ending
 IsReached modes rules pairs js candidates old new tasks budget first last es (Err e) =
     (n : ℕ) × (rest : List (Event Answer)) × Takes budget first last es rest n × (0 < n)

@@ -3,7 +3,7 @@ use Rattle.std.specs.Prelude.{◌≡◌, true, false, List, [], ◌∷◌, Some,
 use Rattle.sx_term.specs.declared.lex_kind.LexKind.TheVariants.{Id}
 use Rattle.sx_term.specs.Tree.{Tree, node, lexeme, hole, none, ◌▹◌}
 use Rattle.sx_term.specs.declared.sort.Sort.TheVariants.{Plain, Lex}
-use Rattle.sx_rules.specs.Rules.{Judgement, holds, apart, Rule, Hypotheses}
+use Rattle.sx_rules.specs.Rules.{Judgement, holds, apart, Rule, Hypotheses, no_hypotheses}
 use Rattle.sx_rules.specs.Modes.{Modes, Goal, AllModed}
 use Rattle.sx_rules.specs.Derivations.{by, no_more, ◌⊳◌}
 use Rattle.sx_derive.specs.Walk.{events}
@@ -82,10 +82,6 @@ outer = bind_in (node 0 none) x_name int_type
 -- the type of x in the environment x : Int , y : Str
 abbrev pub sample_goal : Goal
 sample_goal = record { form = 0; terms = bind_in outer y_name str_type ∷ var_of x_name ∷ [] }
-
--- no hypotheses
-abbrev pub no_hypotheses : Hypotheses
-no_hypotheses = record { judgements = []; pairs = [] }
 
 -- the walk finds that x has the type Int, by the rules var, there and here
 abbrev pub SampleIsFound : Type 0

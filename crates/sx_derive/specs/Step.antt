@@ -25,16 +25,17 @@ use Rattle.sx_derive.specs.declared.step.Step.TheVariants.{Nothing, Passed, Dept
 use Rattle.sx_arena.specs.Arena.{tree_at, AreBelow}
 use Rattle.sx_arena.specs.Places.{IsLimit}
 use Rattle.sx_derive.specs.Chains.{HeadFits, head_proof, frames_at}
-use Rattle.sx_derive.specs.Store.{Grows, store_trees, store_envs, store_kids, store_frames}
+use Rattle.sx_derive.specs.Store.{StoreGrows, store_trees, store_envs, store_kids, store_frames}
 
 -- the step stands for the result, where next says what becomes of an answer
-abbrev pub IsStep : Modes → List Rule → List Judgement → Store → (Answer → Result) → Step → Result →
+abbrev pub IsSearchStep : Modes → List Rule → List Judgement → Store → (Answer → Result) → Step →
+    Result →
     Type 0
-IsStep modes rules js s next Nothing r = r ≡ nothing
-IsStep modes rules js s next (Passed limit) r =
+IsSearchStep modes rules js s next Nothing r = r ≡ nothing
+IsSearchStep modes rules js s next (Passed limit) r =
     (cause : Cause) × IsLimit (Some cause) (Some limit) × (r ≡ stops cause)
-IsStep modes rules js s next DepthSpent r = r ≡ stops depth_spent
-IsStep modes rules js s next (Done head outputs) r =
+IsSearchStep modes rules js s next DepthSpent r = r ≡ stops depth_spent
+IsSearchStep modes rules js s next (Done head outputs) r =
     HeadFits (length (store_envs s)) (length (store_kids s)) head
     × AreBelow (length (store_trees s)) outputs.items
     × (r ≡ next (
@@ -42,7 +43,7 @@ IsStep modes rules js s next (Done head outputs) r =
       map (tree_at (store_trees s))
           outputs.items,
     ))
-IsStep modes rules js s next (Goes form terms levels frames) r =
+IsSearchStep modes rules js s next (Goes form terms levels frames) r =
     AreBelow (length (store_trees s)) terms.items × (frames ≤ length (store_frames modes rules s))
     × (r ≡ goes_on
     (hypotheses_from 0 js levels
@@ -62,9 +63,9 @@ concluded_result modes number rule s kids next =
 -- the store goes on, and the step is the answer of the rule, or a stop
 pub record IsConcluded (modes : Modes) (rules : List Rule) (old new : Store) (number : ℕ)
     (rule : Rule) (s : ℕ → Tree) (kids : Proofs) (step : Step) : Type 0 where
-  pub grows : Grows modes rules old new
+  pub grows : StoreGrows modes rules old new
   pub is : (js : List Judgement) (next : Answer → Result) →
-      IsStep modes rules js new next step (concluded_result modes number rule s kids next)
+      IsSearchStep modes rules js new next step (concluded_result modes number rule s kids next)
 
 -- the rule of the cell is there, and the premise is the judgement
 pub record Awaits (rules : List Rule) (j : Judgement) (c : Waiting) : Type 0 where
@@ -95,9 +96,9 @@ asked_result modes hyps rule j env kids frames c =
 -- the store goes on, and the step is the goal of the premise, or a stop
 pub record IsAsked (modes : Modes) (rules : List Rule) (old new : Store) (j : Judgement)
     (c : Waiting) (step : Step) : Type 0 where
-  pub grows : Grows modes rules old new
+  pub grows : StoreGrows modes rules old new
   pub is : (hyps : Hypotheses) (next : Answer → Result) (rule : Rule) →
       slice_get rules c.rule ≡ Some rule →
-      IsStep modes rules hyps.judgements new next step
+      IsSearchStep modes rules hyps.judgements new next step
       (asked_result modes hyps rule j (env_at (store_envs old) c.env)
       (kids_at (store_kids old) c.kids) (frames_at (store_frames modes rules old) c.before) c)

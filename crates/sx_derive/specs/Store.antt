@@ -39,7 +39,7 @@ pub record IsStore (modes : Modes) (rules : List Rule) (s : Store) : Type 0 wher
 
 -- the store goes on from the other: what was named before stands for the same, and bindings, proofs
 -- and frames stay where they are
-pub record Grows (modes : Modes) (rules : List Rule) (old new : Store) : Type 0 where
+pub record StoreGrows (modes : Modes) (rules : List Rule) (old new : Store) : Type 0 where
   pub store : IsStore modes rules new
   pub trees : Extends (store_trees old) (store_trees new)
   pub envs : Extends (store_envs old) (store_envs new)
@@ -50,7 +50,7 @@ pub record Grows (modes : Modes) (rules : List Rule) (old new : Store) : Type 0 
   pub frame_cells : Extends old.frames.items new.frames.items
 
 -- the store has the terms at the numbers, and only terms are new in it
-pub record AreMade (old new : Store) (numbers : List ℕ) (ts : List Tree) : Type 0 where
+pub record AreMadeInStore (old new : Store) (numbers : List ℕ) (ts : List Tree) : Type 0 where
   pub held : AreHeld old.arena new.arena numbers ts
   pub binds : new.binds ≡ old.binds
   pub kids : new.kids.items ≡ old.kids.items
@@ -71,7 +71,7 @@ pub record IsChainsCut (m : Mark) (old new : Store) : Type 0 where
   pub frames : new.frames.items ≡ take m.frames old.frames.items
 
 -- the terms and the chains are cut at the mark
-pub record IsCut (m : Mark) (old new : Store) : Type 0 where
+pub record IsStoreCut (m : Mark) (old new : Store) : Type 0 where
   pub terms : store_trees new ≡ take m.terms (store_trees old)
   pub arena : IsArena old.arena → IsArena new.arena
   pub binds : new.binds.cells.items ≡ take m.binds old.binds.cells.items

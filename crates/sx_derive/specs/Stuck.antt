@@ -20,7 +20,7 @@ use Rattle.std.specs.Prelude.{
 }
 use Rattle.sx_term.specs.Tree.{Tree, Trees, node, lexeme, hole, none, ◌▹◌}
 use Rattle.sx_rules.specs.Instances.{instance}
-use Rattle.sx_arena.specs.Matching.{Assignment, unbound, match_when, match_all, filled}
+use Rattle.sx_arena.specs.Matching.{Assignment, nothing_bound, match_when, match_all, filled}
 use Rattle.sx_rules.specs.Rules.{
   Judgement,
   Premise,
@@ -88,7 +88,7 @@ path_of subjects path rule j =
 abbrev pub rule_match : Modes → Rule → Goal → Option Assignment
 rule_match modes rule goal =
     match_when (nat_eq rule.conclusion.form goal.form)
-    (match_all (inputs_of modes rule.conclusion) goal.terms unbound)
+    (match_all (inputs_of modes rule.conclusion) goal.terms nothing_bound)
 
 module _ (modes subjects : Modes) (rules : List Rule) (hyps : Hypotheses) where
   -- the premises from number k on, of a goal's first candidate: the first that fails under first

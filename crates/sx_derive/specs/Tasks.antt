@@ -54,8 +54,8 @@ use Rattle.sx_derive.specs.Candidates.{goal_in}
 use Rattle.sx_derive.specs.Chains.{HeadFits}
 use Rattle.sx_derive.specs.Handing.{hyps_in, answer_in, frames_in}
 use Rattle.sx_arena.specs.Places.{IsLimit}
-use Rattle.sx_derive.specs.Step.{IsStep}
-use Rattle.sx_derive.specs.Store.{Grows, IsMark, store_trees, store_envs, store_kids}
+use Rattle.sx_derive.specs.Step.{IsSearchStep}
+use Rattle.sx_derive.specs.Store.{StoreGrows, IsMark, store_trees, store_envs, store_kids}
 
 -- the candidates from a number on: the hypotheses, and then the rules
 abbrev pub task_when : Bool → ℕ → List Judgement → List Rule → ℕ → Goal → List Frame → Task
@@ -104,17 +104,19 @@ TasksFit modes rules s candidates (t ∷ ts) =
 -- each task may stand in the store that there was when it was made, from which those of the later
 -- tasks and the store of now go on
 abbrev pub Piled : Modes → List Rule → ℕ → Store → List TaskOf → Store → Type 0
-Piled modes rules candidates first [] s = Grows modes rules first s
+Piled modes rules candidates first [] s = StoreGrows modes rules first s
 Piled modes rules candidates first (t ∷ ts) s =
-    (c : Store) × (Grows modes rules first c × IsMark c t.mark × TaskFits modes rules c candidates t
+    (c : Store) × (StoreGrows modes rules first c × IsMark c t.mark ×
+    TaskFits modes rules c candidates t
     × Piled modes rules candidates c ts s)
 
 -- what comes of the next candidate is a result, with whose events the try of the task goes on
-pub record IsNext (modes : Modes) (rules : List Rule) (pairs : List Pair) (js : List Judgement)
+pub record IsNextCandidate (modes : Modes) (rules : List Rule) (pairs : List Pair)
+    (js : List Judgement)
     (old new : Store) (t : TaskOf) (step : Step) : Type 0 where
-  pub grows : Grows modes rules old new
+  pub grows : StoreGrows modes rules old new
   pub result : Result
-  pub is : IsStep modes rules js new answers step result
+  pub is : IsSearchStep modes rules js new answers step result
   pub events : (ts : List Task) →
       tasks_events modes rules (hyps_in pairs old js) (task_in modes rules js old t ∷ ts)
       ≡ try ∷ (result_events modes rules (hyps_in pairs old js) result

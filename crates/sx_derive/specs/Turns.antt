@@ -19,7 +19,7 @@ use Rattle.sx_arena.specs.Arena.{AreBelow}
 use Rattle.sx_arena.specs.Places.{IsLimit}
 use Rattle.sx_derive.specs.Chains.{HeadFits}
 use Rattle.sx_derive.specs.Handing.{answer_in}
-use Rattle.sx_derive.specs.Store.{Grows, IsMark, store_trees, store_envs, store_kids}
+use Rattle.sx_derive.specs.Store.{StoreGrows, IsMark, store_trees, store_envs, store_kids}
 use Rattle.sx_derive.specs.Tasks.{events_left, TaskFits, TasksFit, Piled, wanted_in, IsOutcome}
 
 -- the last task that has a candidate left, and the tasks before it; or none has one
@@ -49,13 +49,13 @@ IsMet s (Some Spent) es rest = ⊥
 IsMet s (Some Exhausted) es rest = ⊥
 
 -- after a try of the task the walk goes on with the tasks that are left, or ends
-pub record IsTurn (modes : Modes) (rules : List Rule) (pairs : List Pair) (js : List Judgement)
+pub record IsTaskTurn (modes : Modes) (rules : List Rule) (pairs : List Pair) (js : List Judgement)
     (wanted : Option (Vec ℕ Global)) (candidates : ℕ) (old new : Store) (t : TaskOf)
     (tasks left_over : List TaskOf) (o : Option EndingOf) : Type 0 where
-  pub grows : Grows modes rules old new
+  pub grows : StoreGrows modes rules old new
   pub fits : TasksFit modes rules new candidates left_over
   pub piled : (first c : Store) → Piled modes rules candidates first tasks c → IsMark c t.mark →
-      TaskFits modes rules c candidates t → Grows modes rules c old →
+      TaskFits modes rules c candidates t → StoreGrows modes rules c old →
       Piled modes rules candidates first left_over new
   pub meets : wanted ≡ None → (es : List (Event Answer))
       × (events_left modes rules pairs js old (tasks ++ t ∷ []) ≡ try ∷ es)

@@ -21,7 +21,7 @@ use Rattle.std.specs.Prelude.{
 }
 use Rattle.sx_term.specs.Tree.{Tree}
 use Rattle.sx_rules.specs.Instances.{instance}
-use Rattle.sx_arena.specs.Matching.{same_all, Assignment, unbound, match_all, filled}
+use Rattle.sx_arena.specs.Matching.{same_all, Assignment, nothing_bound, match_all, filled}
 use Rattle.sx_rules.specs.Rules.{
   Judgement,
   Premise,
@@ -118,7 +118,7 @@ abbrev pub rule_events : Modes → Hypotheses → (Goal → List (Event Answer))
     List (Event Answer)
 rule_events modes hyps below r rule goal =
     when (nat_eq rule.conclusion.form goal.form)
-    (when_matched (match_all (inputs_of modes rule.conclusion) goal.terms unbound)
+    (when_matched (match_all (inputs_of modes rule.conclusion) goal.terms nothing_bound)
     (after_match modes hyps below r rule))
 
 -- the rules from number r on, each tried

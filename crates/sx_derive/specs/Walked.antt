@@ -11,7 +11,7 @@ use Rattle.sx_derive.specs.declared.store.Store.{Store}
 use Rattle.sx_derive.specs.declared.tasks.Ending.{Ending as EndingOf}
 use Rattle.sx_derive.specs.Candidates.{goal_in}
 use Rattle.sx_derive.specs.Handing.{hyps_in}
-use Rattle.sx_derive.specs.Store.{Grows}
+use Rattle.sx_derive.specs.Store.{StoreGrows}
 use Rattle.sx_derive.specs.Tasks.{wanted_in, IsEnding}
 
 -- the events of the goal with the numbers, with that many levels below it
@@ -25,7 +25,7 @@ events_in modes rules pairs js s levels form terms =
 abbrev pub IsWalked : Modes → List Rule → Store → Store → Option (Vec ℕ Global) → ℕ →
     List (Event Answer) → ℕ → ℕ → Result EndingOf NoMemory → Type 0
 IsWalked modes rules old new wanted budget es first last (Ok ending) =
-    Grows modes rules old new × IsEnding new ending (walk (wanted_in old wanted) budget es)
+    StoreGrows modes rules old new × IsEnding new ending (walk (wanted_in old wanted) budget es)
     × (last ≡ first + tries_of (wanted_in old wanted) budget es)
 IsWalked modes rules old new wanted budget es first last (Err e) =
     (first ≤ last) × (last ≤ first + tries_of (wanted_in old wanted) budget es)
@@ -34,4 +34,4 @@ IsWalked modes rules old new wanted budget es first last (Err e) =
 abbrev pub IsWalkedTo : Modes → List Rule → Store → Store → Option (Vec ℕ Global) → ℕ →
     List (Event Answer) → EndingOf → Type 0
 IsWalkedTo modes rules old new wanted budget es ending =
-    Grows modes rules old new × IsEnding new ending (walk (wanted_in old wanted) budget es)
+    StoreGrows modes rules old new × IsEnding new ending (walk (wanted_in old wanted) budget es)

@@ -22,13 +22,9 @@ use Rattle.sx_rules.specs.declared.rule_set.RuleSet.{RuleSet}
 use Rattle.sx_rules.specs.Modes.{Modes}
 use Rattle.sx_rules.specs.Views.{is_sub, forms, subjects_in}
 
--- which of the places are subjects
-abbrev pub subject_mask : List Place → List Bool
-subject_mask places = map (λ p. is_sub p.role) places
-
 -- for each form of the set, which of its places are subjects
-abbrev pub subjects_of : RuleSet → Modes
-subjects_of set = subjects_in (forms set.forms.items)
+abbrev pub subject_modes : RuleSet → Modes
+subject_modes set = subjects_in (forms set.forms.items)
 
 -- the path is longer by the way, where there is one, and is else as before
 abbrev pub IsWay : List ℕ → List ℕ → Option (List ℕ) → Bool → Type 0

@@ -9,7 +9,7 @@ ghost use Rattle.sx_arena.specs.Pairs.{ArePairs};
 ghost use Rattle.sx_derive.specs.Givens.{IsStoreOf, GrowsIn, HasFacts, asked_by, last_by};
 ghost use Rattle.sx_derive.specs.Quiet.{IsQuiet, IsSilent, first_given};
 ghost use Rattle.sx_derive.specs.Store.{store_trees};
-ghost use Rattle.sx_arena.specs.Views.{modes_of, judgement_of};
+ghost use Rattle.sx_arena.specs.Views.{set_modes, judgement_of};
 
 use crate::bounds::Bounds;
 use crate::first::first_answer;
@@ -48,7 +48,7 @@ pub(crate) fn ask(
         IsQuiet bounds.budget (asked_by given.now js store.old env bounds.levels judgement.now) }
     ensures grows { IfOk result (λ r. GrowsIn given.now store.old store.new) }
     ensures answered { IfOk result (λ r. (js : List JudgementOf) → HasFacts given.now store.old js →
-        IsAnswered (modes_of given.now.rules.now) store.old store.new env
+        IsAnswered (set_modes given.now.rules.now) store.old store.new env
         (judgement_of judgement.now)
         (first_given (asked_by given.now js store.old env bounds.levels judgement.now)) r) }
 {
@@ -100,7 +100,7 @@ pub(crate) fn ask_known(
         (last_by given.now js store.old env bounds.levels judgement.now) }
     ensures grows { IfOk result (λ r. GrowsIn given.now store.old store.new) }
     ensures answered { IfOk result (λ r. (js : List JudgementOf) → HasFacts given.now store.old js →
-        IsAnswered (modes_of given.now.rules.now) store.old store.new env
+        IsAnswered (set_modes given.now.rules.now) store.old store.new env
         (judgement_of judgement.now)
         (first_given (asked_by given.now js store.old env bounds.levels judgement.now)) r) }
 {

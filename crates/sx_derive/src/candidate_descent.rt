@@ -5,8 +5,8 @@ ghost use Rattle.std.specs.Option.{option_map};
 ghost use Rattle.sx_rules.specs.Deep.{RuleIsShallow};
 ghost use Rattle.sx_rules.specs.Rules.{Hypotheses};
 ghost use Rattle.sx_arena.specs.Arena.{AreBelow};
-ghost use Rattle.sx_arena.specs.Binds.{IsFit};
-ghost use Rattle.sx_arena.specs.Views.{rules_of, modes_of, rule_of};
+ghost use Rattle.sx_arena.specs.Binds.{IsChainFit};
+ghost use Rattle.sx_arena.specs.Views.{rules_of, set_modes, rule_of};
 ghost use Rattle.sx_derive.specs.Candidates.{goal_in};
 ghost use Rattle.sx_derive.specs.Descents.{IsFirstRule, HasInputs, IsFirstFact};
 ghost use Rattle.sx_derive.specs.Givens.{
@@ -20,7 +20,7 @@ ghost use Rattle.sx_derive.specs.Givens.{
   DescendsTo,
 };
 ghost use Rattle.sx_derive.specs.Quiet.{IsSilent};
-ghost use Rattle.sx_derive.specs.Store.{IsStore, Grows, store_trees};
+ghost use Rattle.sx_derive.specs.Store.{IsStore, StoreGrows, store_trees};
 ghost use Rattle.sx_derive.specs.Stuck.{rule_match};
 
 use crate::bounds::Bounds;
@@ -65,13 +65,14 @@ fn rule_fit(
     terms: &[usize],
 ) -> Result<Option<usize>, NoMemory>
     requires shallow { RuleIsShallow (rule_of rule.now) }
-    requires store { IsStore (modes_of rules.now) (rules_of rules.now) store.old }
+    requires store { IsStore (set_modes rules.now) (rules_of rules.now) store.old }
     requires terms { AreBelow (length (store_trees store.old)) terms.now }
     ensures grows { IfOk result
-        (λ _. Grows (modes_of rules.now) (rules_of rules.now) store.old store.new) }
+        (λ _. StoreGrows (set_modes rules.now) (rules_of rules.now) store.old store.new) }
     ensures fit { IfOk result
-        (λ x. IsFit (store_trees store.new) store.new.binds
-        (rule_match (modes_of rules.now) (rule_of rule.now) (goal_in store.old form terms.now)) x) }
+        (λ x. IsChainFit (store_trees store.new) store.new.binds
+        (rule_match (set_modes rules.now) (rule_of rule.now)
+        (goal_in store.old form terms.now)) x) }
 {
     if rule.conclusion.form != form {
         return Ok(None);
@@ -87,12 +88,12 @@ fn first_rule(
     form: u32,
     terms: &[usize],
 ) -> Result<Option<(u32, usize)>, NoMemory>
-    requires store { IsStore (modes_of rules.now) (rules_of rules.now) store.old }
+    requires store { IsStore (set_modes rules.now) (rules_of rules.now) store.old }
     requires terms { AreBelow (length (store_trees store.old)) terms.now }
     ensures grows { IfOk result
-        (λ _. Grows (modes_of rules.now) (rules_of rules.now) store.old store.new) }
+        (λ _. StoreGrows (set_modes rules.now) (rules_of rules.now) store.old store.new) }
     ensures first { IfOk result
-        (λ x. IsFirstRule (modes_of rules.now) store.new (goal_in store.old form terms.now) 0
+        (λ x. IsFirstRule (set_modes rules.now) store.new (goal_in store.old form terms.now) 0
         (rules_of rules.now) x) }
 {
     rules.facts();

@@ -4,13 +4,13 @@ ghost use Rattle.std.specs.Prelude.{◌≡◌, ◌≤◌, ◌<◌, Some, IfOk, l
 ghost use Rattle.sx_rules.specs.Deep.{RulesAreShallow};
 ghost use Rattle.sx_rules.specs.Rules.{Judgement, Rule};
 ghost use Rattle.sx_arena.specs.Arena.{AreBelow};
-ghost use Rattle.sx_derive.specs.Candidates.{goal_in, IsFact, IsTried};
+ghost use Rattle.sx_derive.specs.Candidates.{goal_in, IsFact, IsCandidateTried};
 ghost use Rattle.sx_derive.specs.Givens.{IsStoreOf};
 ghost use Rattle.sx_derive.specs.Handing.{frames_in};
 ghost use Rattle.sx_derive.specs.Machine.{rule_result, given_result};
 ghost use Rattle.sx_arena.specs.Pairs.{ArePairs};
 ghost use Rattle.sx_derive.specs.Store.{store_trees};
-ghost use Rattle.sx_arena.specs.Views.{rules_of, modes_of};
+ghost use Rattle.sx_arena.specs.Views.{rules_of, set_modes};
 
 use crate::chains::{Head, Waiting};
 use crate::given::Given;
@@ -37,11 +37,12 @@ pub(crate) fn try_rule(
     requires terms { AreBelow (length (store_trees store.old)) task.now.terms.items }
     ensures { IfOk result (λ step. (rule : Rule) →
         slice_get (rules_of given.now.rules.now) number ≡ Some rule →
-        IsTried (modes_of given.now.rules.now) (rules_of given.now.rules.now) given.now.pairs.now
+        IsCandidateTried (set_modes given.now.rules.now) (rules_of given.now.rules.now)
+        given.now.pairs.now
         store.old store.new
-        (λ hyps. rule_result (modes_of given.now.rules.now) hyps number rule task.now.levels
+        (λ hyps. rule_result (set_modes given.now.rules.now) hyps number rule task.now.levels
         (goal_in store.old task.now.form task.now.terms.items)
-        (frames_in (modes_of given.now.rules.now) (rules_of given.now.rules.now) store.old
+        (frames_in (set_modes given.now.rules.now) (rules_of given.now.rules.now) store.old
         task.now.frames)) step) }
 {
     let rule = rule_at(given.rules, number);
@@ -83,14 +84,15 @@ pub(crate) fn try_given(
     requires frames { task.now.frames ≤ length store.old.frames.items }
     requires terms { AreBelow (length (store_trees store.old)) task.now.terms.items }
     requires fact { (j : Judgement)
-        × IsFact (modes_of given.now.rules.now) (store_trees store.old) j fact.now }
+        × IsFact (set_modes given.now.rules.now) (store_trees store.old) j fact.now }
     ensures { IfOk result (λ step. (j : Judgement) →
-        IsFact (modes_of given.now.rules.now) (store_trees store.old) j fact.now →
-        IsTried (modes_of given.now.rules.now) (rules_of given.now.rules.now) given.now.pairs.now
+        IsFact (set_modes given.now.rules.now) (store_trees store.old) j fact.now →
+        IsCandidateTried (set_modes given.now.rules.now) (rules_of given.now.rules.now)
+        given.now.pairs.now
         store.old store.new
-        (λ hyps. given_result (modes_of given.now.rules.now) hyps number j (goal_in store.old
+        (λ hyps. given_result (set_modes given.now.rules.now) hyps number j (goal_in store.old
         task.now.form task.now.terms.items)
-        (frames_in (modes_of given.now.rules.now) (rules_of given.now.rules.now) store.old
+        (frames_in (set_modes given.now.rules.now) (rules_of given.now.rules.now) store.old
         task.now.frames)) step) }
 {
     if fact.form != task.form {

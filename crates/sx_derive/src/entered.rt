@@ -8,7 +8,7 @@ ghost use Rattle.sx_rules.specs.Derivations.{ShallowJudgements};
 ghost use Rattle.sx_rules.specs.Views.{goal as goal_of, hypotheses};
 ghost use Rattle.sx_arena.specs.Arena.{IsArena};
 ghost use Rattle.sx_arena.specs.Entered.{ArePairsShallow};
-ghost use Rattle.sx_arena.specs.Views.{rules_of, modes_of};
+ghost use Rattle.sx_arena.specs.Views.{rules_of, set_modes};
 ghost use Rattle.sx_derive.specs.Problems.{IsWantedIn, IsProblem, problem_of};
 ghost use Rattle.sx_derive.specs.Store.{IsStore};
 
@@ -58,9 +58,9 @@ pub(crate) fn enter_parts(
     requires apart { ArePairsShallow (hypotheses given.now).pairs }
     requires goal { AreShallow (goal_of goal.now).terms }
     requires wanted { MatchOption wanted Unit (λ w. AreShallow (map tree w.now.items)) }
-    requires store { IsStore (modes_of rules.now) (rules_of rules.now) store.old }
+    requires store { IsStore (set_modes rules.now) (rules_of rules.now) store.old }
     ensures { IfOk result
-        (λ e. IsProblem (modes_of rules.now) (rules_of rules.now) (hypotheses given.now)
+        (λ e. IsProblem (set_modes rules.now) (rules_of rules.now) (hypotheses given.now)
         (goal_of goal.now).terms (option_map (λ w. map tree w.now.items) wanted.entry)
         (problem_of store.new e)) }
 {

@@ -8,7 +8,7 @@ ghost use Rattle.sx_derive.specs.Givens.{IsStoreOf, HasFacts};
 ghost use Rattle.sx_derive.specs.Quiet.{IsQuiet, IsFirstFound};
 ghost use Rattle.sx_derive.specs.Store.{store_trees};
 ghost use Rattle.sx_derive.specs.Walked.{events_in};
-ghost use Rattle.sx_arena.specs.Views.{rules_of, modes_of};
+ghost use Rattle.sx_arena.specs.Views.{rules_of, set_modes};
 
 use crate::bounds::Bounds;
 use crate::given::Given;
@@ -33,12 +33,14 @@ pub(crate) fn first_answer(
     requires pairs { ArePairs (length (store_trees store.old)) given.now.pairs.now }
     requires terms { AreBelow (length (store_trees store.old)) terms.items }
     requires quiet { (js : List Judgement) → HasFacts given.now store.old js → IsQuiet bounds.budget
-        (events_in (modes_of given.now.rules.now) (rules_of given.now.rules.now) given.now.pairs.now
+        (events_in (set_modes given.now.rules.now) (rules_of given.now.rules.now)
+        given.now.pairs.now
         js store.old bounds.levels form terms.items) }
     ensures { IfOk result (λ r. (js : List Judgement) → HasFacts given.now store.old js →
-        IsFirstFound (modes_of given.now.rules.now) (rules_of given.now.rules.now) store.old
+        IsFirstFound (set_modes given.now.rules.now) (rules_of given.now.rules.now) store.old
         store.new
-        (events_in (modes_of given.now.rules.now) (rules_of given.now.rules.now) given.now.pairs.now
+        (events_in (set_modes given.now.rules.now) (rules_of given.now.rules.now)
+        given.now.pairs.now
         js store.old bounds.levels form terms.items) r) }
 {
     let mark = store.mark();

@@ -8,7 +8,7 @@ ghost use Rattle.sx_derive.specs.Givens.{IsStoreOf};
 ghost use Rattle.sx_derive.specs.Handing.{IsWaiting, IsResumed, IsHanded};
 ghost use Rattle.sx_arena.specs.Pairs.{ArePairs};
 ghost use Rattle.sx_derive.specs.Store.{store_trees, store_envs, store_kids};
-ghost use Rattle.sx_arena.specs.Views.{rules_of, modes_of};
+ghost use Rattle.sx_arena.specs.Views.{rules_of, set_modes};
 
 use crate::chains::{Head, Waiting, push_kid};
 use crate::given::Given;
@@ -30,12 +30,12 @@ fn resume(
     requires shallow { RulesAreShallow (rules_of given.now.rules.now) }
     requires store { IsStoreOf given.now store.old }
     requires pairs { ArePairs (length (store_trees store.old)) given.now.pairs.now }
-    requires frame { IsWaiting (modes_of given.now.rules.now) (rules_of given.now.rules.now)
+    requires frame { IsWaiting (set_modes given.now.rules.now) (rules_of given.now.rules.now)
         store.old frame }
     requires head { HeadFits (length (store_envs store.old)) (length (store_kids store.old)) head }
     requires outputs { AreBelow (length (store_trees store.old)) outputs.now }
     ensures { IfOk result
-        (λ step. IsResumed (modes_of given.now.rules.now) (rules_of given.now.rules.now)
+        (λ step. IsResumed (set_modes given.now.rules.now) (rules_of given.now.rules.now)
         given.now.pairs.now store.old store.new
         frame head outputs.now step) }
 {
@@ -79,7 +79,7 @@ pub(crate) fn hand_on(
     requires head { HeadFits (length (store_envs store.old)) (length (store_kids store.old)) head }
     requires outputs { AreBelow (length (store_trees store.old)) outputs.items }
     ensures { IfOk result
-        (λ step. IsHanded (modes_of given.now.rules.now) (rules_of given.now.rules.now)
+        (λ step. IsHanded (set_modes given.now.rules.now) (rules_of given.now.rules.now)
         given.now.pairs.now store.old store.new
         frames head outputs.items step) }
 {

@@ -20,14 +20,14 @@ ghost use Rattle.sx_rules.specs.Deep.{AreShallow};
 ghost use Rattle.sx_rules.specs.Derivations.{ShallowJudgements};
 ghost use Rattle.sx_rules.specs.Views.{goal as goal_of, hypotheses};
 ghost use Rattle.sx_arena.specs.Entered.{ArePairsShallow};
-ghost use Rattle.sx_arena.specs.Views.{rules_of, modes_of};
+ghost use Rattle.sx_arena.specs.Views.{rules_of, set_modes};
 ghost use Rattle.sx_derive.specs.Deriving.{IsNone, AreCounted};
 ghost use Rattle.sx_derive.specs.Listing.{IsListed, ListsFirst};
 ghost use Rattle.sx_derive.specs.Search.{walk, tries_of};
 ghost use Rattle.sx_derive.specs.Store.{IsStore};
 ghost use Rattle.sx_derive.specs.Tasks.{IsEnding};
 ghost use Rattle.sx_derive.specs.Walk.{events};
-ghost use Rattle.sx_derive.specs.Ways.{subjects_of};
+ghost use Rattle.sx_derive.specs.Ways.{subject_modes};
 
 use crate::derive_error::DeriveError;
 use crate::export_list::list_answer;
@@ -52,18 +52,18 @@ fn answer_list(
     requires holds { ShallowJudgements (hypotheses given.now).judgements }
     requires apart { ArePairsShallow (hypotheses given.now).pairs }
     requires goal { AreShallow (goal_of goal.now).terms }
-    requires store { IsStore (modes_of rules.now) (rules_of rules.now) searched.store }
+    requires store { IsStore (set_modes rules.now) (rules_of rules.now) searched.store }
     requires ending { (wanted : Option (List Tree))
         × IsEnding searched.store searched.ending
         (walk wanted budget
-        (events (modes_of rules.now) (rules_of rules.now) (hypotheses given.now) (goal_of goal.now)
+        (events (set_modes rules.now) (rules_of rules.now) (hypotheses given.now) (goal_of goal.now)
         1)) }
     ensures { (wanted : Option (List Tree)) →
         IsEnding searched.store searched.ending
         (walk wanted budget
-        (events (modes_of rules.now) (rules_of rules.now) (hypotheses given.now) (goal_of goal.now)
+        (events (set_modes rules.now) (rules_of rules.now) (hypotheses given.now) (goal_of goal.now)
         1)) →
-        IsListed (modes_of rules.now) (subjects_of rules.now) (rules_of rules.now)
+        IsListed (set_modes rules.now) (subject_modes rules.now) (rules_of rules.now)
         (hypotheses given.now) (goal_of goal.now) wanted budget result }
 {
     match outcome(alloc, rules, given, goal, budget, searched) {
@@ -101,17 +101,17 @@ pub fn derive_list<L: Ledger>(
     requires apart { ArePairsShallow (hypotheses given.now).pairs }
     requires goal { AreShallow (goal_of goal.now).terms }
     requires wanted { MatchOption wanted Unit (λ w. AreShallow (map tree w.now.items)) }
-    ensures answer { IsListed (modes_of rules.now) (subjects_of rules.now) (rules_of rules.now)
+    ensures answer { IsListed (set_modes rules.now) (subject_modes rules.now) (rules_of rules.now)
         (hypotheses given.now) (goal_of goal.now)
         (option_map (λ w. map tree w.now.items) wanted.entry) budget result }
     ensures first { IfOk result
-        (λ l. ListsFirst (modes_of rules.now) (rules_of rules.now) (hypotheses given.now)
+        (λ l. ListsFirst (set_modes rules.now) (rules_of rules.now) (hypotheses given.now)
         (goal_of goal.now) (option_map (λ w. map tree w.now.items) wanted.entry) budget l) }
-    ensures none { IsNone (modes_of rules.now) (rules_of rules.now) (hypotheses given.now)
+    ensures none { IsNone (set_modes rules.now) (rules_of rules.now) (hypotheses given.now)
         (goal_of goal.now) (option_map (λ w. map tree w.now.items) wanted.entry) result }
     ensures steps { AreCounted
         (tries_of (option_map (λ w. map tree w.now.items) wanted.entry) budget
-        (events (modes_of rules.now) (rules_of rules.now) (hypotheses given.now) (goal_of goal.now)
+        (events (set_modes rules.now) (rules_of rules.now) (hypotheses given.now) (goal_of goal.now)
         1)) steps.old steps.new result }
 {
     rules.facts();

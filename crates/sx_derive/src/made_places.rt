@@ -7,9 +7,9 @@ ghost use Rattle.sx_rules.specs.Modes.{inputs_of, outputs_of};
 ghost use Rattle.sx_rules.specs.Rules.{judgement_instance};
 ghost use Rattle.sx_arena.specs.Binds.{env_at};
 ghost use Rattle.sx_arena.specs.Matching.{filled};
-ghost use Rattle.sx_arena.specs.Views.{modes_of, judgement_of};
+ghost use Rattle.sx_arena.specs.Views.{set_modes, judgement_of};
 ghost use Rattle.sx_derive.specs.Givens.{IsStoreOf};
-ghost use Rattle.sx_derive.specs.Store.{AreMade, store_envs};
+ghost use Rattle.sx_derive.specs.Store.{AreMadeInStore, store_envs};
 
 use crate::given::Given;
 use crate::store::Store;
@@ -27,8 +27,8 @@ pub(crate) fn made_inputs(
     requires shallow { AreShallow (map tree judgement.now.places.items) }
     requires store { IsStoreOf given.now store.old }
     requires env { env ≤ length store.old.binds.cells.items }
-    ensures { IfOk result (λ r. AreMade store.old store.new r.items
-        (inputs_of (modes_of given.now.rules.now)
+    ensures { IfOk result (λ r. AreMadeInStore store.old store.new r.items
+        (inputs_of (set_modes given.now.rules.now)
         (judgement_instance (filled (env_at (store_envs store.old) env))
         (judgement_of judgement.now)))) }
 {
@@ -46,8 +46,8 @@ pub(crate) fn made_outputs(
     requires shallow { AreShallow (map tree judgement.now.places.items) }
     requires store { IsStoreOf given.now store.old }
     requires env { env ≤ length store.old.binds.cells.items }
-    ensures { IfOk result (λ r. AreMade store.old store.new r.items
-        (outputs_of (modes_of given.now.rules.now)
+    ensures { IfOk result (λ r. AreMadeInStore store.old store.new r.items
+        (outputs_of (set_modes given.now.rules.now)
         (judgement_instance (filled (env_at (store_envs store.old) env))
         (judgement_of judgement.now)))) }
 {

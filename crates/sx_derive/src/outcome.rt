@@ -6,14 +6,14 @@ ghost use Rattle.sx_rules.specs.Deep.{AreShallow};
 ghost use Rattle.sx_rules.specs.Derivations.{ShallowJudgements};
 ghost use Rattle.sx_rules.specs.Views.{goal as goal_of, hypotheses};
 ghost use Rattle.sx_arena.specs.Entered.{ArePairsShallow};
-ghost use Rattle.sx_arena.specs.Views.{rules_of, modes_of};
+ghost use Rattle.sx_arena.specs.Views.{rules_of, set_modes};
 ghost use Rattle.sx_derive.specs.Deriving.{IsToldBy};
 ghost use Rattle.sx_derive.specs.Listing.{SaysFound};
 ghost use Rattle.sx_derive.specs.Search.{walk};
 ghost use Rattle.sx_derive.specs.Store.{IsStore};
 ghost use Rattle.sx_derive.specs.Tasks.{IsEnding};
 ghost use Rattle.sx_derive.specs.Walk.{events};
-ghost use Rattle.sx_derive.specs.Ways.{subjects_of};
+ghost use Rattle.sx_derive.specs.Ways.{subject_modes};
 
 use crate::chains::Head;
 use crate::derive_error::DeriveError;
@@ -47,21 +47,21 @@ pub(crate) fn outcome(
     requires holds { ShallowJudgements (hypotheses given.now).judgements }
     requires apart { ArePairsShallow (hypotheses given.now).pairs }
     requires goal { AreShallow (goal_of goal.now).terms }
-    requires store { IsStore (modes_of rules.now) (rules_of rules.now) searched.store }
+    requires store { IsStore (set_modes rules.now) (rules_of rules.now) searched.store }
     requires ending { (wanted : Option (List Tree))
         × IsEnding searched.store searched.ending
         (walk wanted budget
-        (events (modes_of rules.now) (rules_of rules.now) (hypotheses given.now) (goal_of goal.now)
+        (events (set_modes rules.now) (rules_of rules.now) (hypotheses given.now) (goal_of goal.now)
         1)) }
     ensures { (wanted : Option (List Tree)) →
         IsEnding searched.store searched.ending
         (walk wanted budget
-        (events (modes_of rules.now) (rules_of rules.now) (hypotheses given.now) (goal_of goal.now)
+        (events (set_modes rules.now) (rules_of rules.now) (hypotheses given.now) (goal_of goal.now)
         1)) →
-        IsToldBy (SaysFound (modes_of rules.now) (rules_of rules.now)) (modes_of rules.now)
-        (subjects_of rules.now) (rules_of rules.now) (hypotheses given.now) (goal_of goal.now)
+        IsToldBy (SaysFound (set_modes rules.now) (rules_of rules.now)) (set_modes rules.now)
+        (subject_modes rules.now) (rules_of rules.now) (hypotheses given.now) (goal_of goal.now)
         budget (walk wanted budget
-        (events (modes_of rules.now) (rules_of rules.now) (hypotheses given.now) (goal_of goal.now)
+        (events (set_modes rules.now) (rules_of rules.now) (hypotheses given.now) (goal_of goal.now)
         1)) result }
 {
     let Searched { store, ending } = searched;

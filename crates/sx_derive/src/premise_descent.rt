@@ -17,7 +17,7 @@ ghost use Rattle.sx_derive.specs.Givens.{
 };
 ghost use Rattle.sx_derive.specs.Quiet.{IsSilent};
 ghost use Rattle.sx_derive.specs.Store.{store_trees};
-ghost use Rattle.sx_derive.specs.Ways.{subjects_of};
+ghost use Rattle.sx_derive.specs.Ways.{subject_modes};
 ghost use Rattle.sx_derive.specs.declared.descent.Descent.TheVariants.{Stuck};
 ghost use Rattle.sx_derive.specs.declared.descent.Reason.TheVariants.{Equal, Mismatch};
 
@@ -43,7 +43,7 @@ fn premise_spot(
 ) -> Result<Spot, NoMemory>
     requires shallow { AreShallow (map tree rule.now.conclusion.places.items) }
     ensures { IfOk result
-        (λ s. IsPremiseSpot (subjects_of rules.now) (rule_of rule.now) (judgement_of premise.now)
+        (λ s. IsPremiseSpot (subject_modes rules.now) (rule_of rule.now) (judgement_of premise.now)
         terms.items path.items s) }
 {
     let mut path = path;

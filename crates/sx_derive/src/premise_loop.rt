@@ -3,7 +3,7 @@
 ghost use Rattle.std.specs.Prelude.{◌≡◌, ◌≤◌, Some, IfOk, length, map, drop, slice_get};
 ghost use Rattle.sx_rules.specs.Deep.{RuleIsShallow};
 ghost use Rattle.sx_arena.specs.Pairs.{ArePairs};
-ghost use Rattle.sx_arena.specs.Views.{rule_of, rules_of, modes_of, premise_of};
+ghost use Rattle.sx_arena.specs.Views.{rule_of, rules_of, set_modes, premise_of};
 ghost use Rattle.sx_derive.specs.Givens.{IsStoreOf};
 ghost use Rattle.sx_derive.specs.Store.{store_trees};
 ghost use Rattle.sx_derive.specs.Premises.{IsPremises};
@@ -32,7 +32,7 @@ pub(crate) fn premises(
     requires kids { from.kids ≤ length store.old.kids.items }
     requires frames { from.before ≤ length store.old.frames.items }
     ensures { IfOk result
-        (λ step. IsPremises (modes_of given.now.rules.now) (rules_of given.now.rules.now)
+        (λ step. IsPremises (set_modes given.now.rules.now) (rules_of given.now.rules.now)
         given.now.pairs.now store.old store.new from.rule (rule_of rule.now) from.levels from.env
         from.kids from.before (drop from.premise (map premise_of rule.now.premises.items)) step) }
 {

@@ -8,7 +8,7 @@ ghost use Rattle.sx_rules.specs.Derivations.{ShallowJudgements};
 ghost use Rattle.sx_rules.specs.Views.{goal as goal_of, hypotheses};
 ghost use Rattle.sx_arena.specs.Entered.{ArePairsShallow};
 ghost use Rattle.sx_derive.specs.Problems.{IsProblem, IsSearched};
-ghost use Rattle.sx_arena.specs.Views.{rules_of, modes_of};
+ghost use Rattle.sx_arena.specs.Views.{rules_of, set_modes};
 
 use crate::entered::{Entered, enter_parts};
 use crate::given::Given;
@@ -52,7 +52,7 @@ pub(crate) fn enter_problem(
     requires goal { AreShallow (goal_of goal.now).terms }
     requires wanted { MatchOption wanted Unit (λ w. AreShallow (map tree w.now.items)) }
     ensures { IfOk result
-        (λ p. IsProblem (modes_of rules.now) (rules_of rules.now) (hypotheses given.now)
+        (λ p. IsProblem (set_modes rules.now) (rules_of rules.now) (hypotheses given.now)
         (goal_of goal.now).terms (option_map (λ w. map tree w.now.items) wanted.entry) p) }
 {
     let mut store = Store::new(alloc);
@@ -94,7 +94,7 @@ pub(crate) fn search<L: Ledger>(
     requires apart { ArePairsShallow (hypotheses given.now).pairs }
     requires goal { AreShallow (goal_of goal.now).terms }
     requires wanted { MatchOption wanted Unit (λ w. AreShallow (map tree w.now.items)) }
-    ensures { IsSearched (modes_of rules.now) (rules_of rules.now) (hypotheses given.now)
+    ensures { IsSearched (set_modes rules.now) (rules_of rules.now) (hypotheses given.now)
         (goal_of goal.now) (option_map (λ w. map tree w.now.items) wanted.entry) budget steps.old
         steps.new result }
 {

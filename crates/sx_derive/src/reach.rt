@@ -3,7 +3,7 @@
 ghost use Rattle.std.specs.Prelude.{◌≡◌, ◌+◌, ◌^◌, ◌<◌, ◌∷◌, ◌++◌, [], List, MatchBool, length};
 ghost use Rattle.sx_rules.specs.Rules.{Judgement};
 ghost use Rattle.sx_arena.specs.Pairs.{ArePairs};
-ghost use Rattle.sx_arena.specs.Views.{rules_of, modes_of};
+ghost use Rattle.sx_arena.specs.Views.{rules_of, set_modes};
 ghost use Rattle.sx_arena.specs.declared.pairs.Pair.{Pair as PairOf};
 ghost use Rattle.sx_derive.specs.Givens.{IsStoreOf, HasFacts};
 ghost use Rattle.sx_derive.specs.Resumable.{IsReached, IsSettled};
@@ -30,7 +30,7 @@ pub(crate) struct Reached {
 fn settle(given: &Given, tasks: &mut Vec<Task>) -> bool
     ensures settled { (pairs : List PairOf) (js : List Judgement) (s : StoreOf) →
         length js ≡ length given.now.facts.now →
-        IsSettled (modes_of given.now.rules.now) (rules_of given.now.rules.now) pairs js s
+        IsSettled (set_modes given.now.rules.now) (rules_of given.now.rules.now) pairs js s
         (length given.now.facts.now + length (rules_of given.now.rules.now)) tasks.old.items
         tasks.new.items }
     ensures last { MatchBool result
@@ -60,14 +60,14 @@ pub(crate) fn reach<L: Ledger>(
     requires facts { (js : List Judgement) × HasFacts given.now store.old js }
     requires store { IsStoreOf given.now store.old }
     requires pairs { ArePairs (length (store_trees store.old)) given.now.pairs.now }
-    requires tasks { TasksFit (modes_of given.now.rules.now) (rules_of given.now.rules.now)
+    requires tasks { TasksFit (set_modes given.now.rules.now) (rules_of given.now.rules.now)
         store.old
         (length given.now.facts.now + length (rules_of given.now.rules.now)) tasks.old.items }
     ensures { (js : List Judgement) → HasFacts given.now store.old js →
-        IsReached (modes_of given.now.rules.now) (rules_of given.now.rules.now) given.now.pairs.now
+        IsReached (set_modes given.now.rules.now) (rules_of given.now.rules.now) given.now.pairs.now
         js (length given.now.facts.now + length (rules_of given.now.rules.now)) store.old store.new
         tasks.new.items budget steps.old steps.new
-        (events_left (modes_of given.now.rules.now) (rules_of given.now.rules.now)
+        (events_left (set_modes given.now.rules.now) (rules_of given.now.rules.now)
         given.now.pairs.now js store.old tasks.old.items) result }
 {
     let mut tries: u64 = 0;

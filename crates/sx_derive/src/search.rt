@@ -2,7 +2,7 @@
 
 ghost use Rattle.std.specs.Prelude.{◌≡◌, ◌^◌, ◌<◌, List, Err, IfOk, length};
 ghost use Rattle.sx_arena.specs.Entered.{ArePairsShallow};
-ghost use Rattle.sx_arena.specs.Views.{rules_of, modes_of};
+ghost use Rattle.sx_arena.specs.Views.{rules_of, set_modes};
 ghost use Rattle.sx_derive.specs.Resumable.{Stands, HasFailed, CanGoOn, IsNextOf, IsErrorOf};
 ghost use Rattle.sx_derive.specs.Walk.{Event, Answer, events};
 ghost use Rattle.sx_derive.specs.declared.search_error.SearchError.TheVariants.{Memory};
@@ -62,9 +62,9 @@ impl Search {
         requires apart { ArePairsShallow (hypotheses given.now).pairs }
         requires goal { AreShallow (goal_of goal).terms }
         ensures { IfOk result
-            (λ search. Stands (modes_of rules.now) (rules_of rules.now) (hypotheses given.now)
+            (λ search. Stands (set_modes rules.now) (rules_of rules.now) (hypotheses given.now)
             search
-            (events (modes_of rules.now) (rules_of rules.now) (hypotheses given.now) (goal_of goal)
+            (events (set_modes rules.now) (rules_of rules.now) (hypotheses given.now) (goal_of goal)
             1)) }
     {
         let problem = enter_problem(alloc, rules, given, &goal, None)?;
@@ -101,13 +101,13 @@ impl Search {
         budget: u64,
         steps: &mut Steps<L>,
     ) -> Result<Found, SearchError>
-        requires stands { CanGoOn (modes_of rules.now) (rules_of rules.now) (hypotheses given.now)
+        requires stands { CanGoOn (set_modes rules.now) (rules_of rules.now) (hypotheses given.now)
             self.old }
         ensures next { (es : List (Event Answer)) →
-            Stands (modes_of rules.now) (rules_of rules.now) (hypotheses given.now) self.old es →
-            IsNextOf (modes_of rules.now) (rules_of rules.now) (hypotheses given.now) budget
+            Stands (set_modes rules.now) (rules_of rules.now) (hypotheses given.now) self.old es →
+            IsNextOf (set_modes rules.now) (rules_of rules.now) (hypotheses given.now) budget
             steps.old steps.new es self.new result }
-        ensures goes_on { CanGoOn (modes_of rules.now) (rules_of rules.now) (hypotheses given.now)
+        ensures goes_on { CanGoOn (set_modes rules.now) (rules_of rules.now) (hypotheses given.now)
             self.new }
         ensures failed { HasFailed self.old → HasFailed self.new × (result ≡ Err Memory)
             × (steps.new ≡ steps.old) }
@@ -129,11 +129,11 @@ impl Search {
         steps: &mut Steps<L>,
     ) -> Result<Found, SearchError>
         requires stands { (es : List (Event Answer))
-            × Stands (modes_of rules.now) (rules_of rules.now) (hypotheses given.now) self.old es }
+            × Stands (set_modes rules.now) (rules_of rules.now) (hypotheses given.now) self.old es }
         requires open { self.old.state ≡ Open }
         ensures { (es : List (Event Answer)) →
-            Stands (modes_of rules.now) (rules_of rules.now) (hypotheses given.now) self.old es →
-            IsNextOf (modes_of rules.now) (rules_of rules.now) (hypotheses given.now) budget
+            Stands (set_modes rules.now) (rules_of rules.now) (hypotheses given.now) self.old es →
+            IsNextOf (set_modes rules.now) (rules_of rules.now) (hypotheses given.now) budget
             steps.old steps.new es self.new result }
     {
         let alloc = *self.tasks.allocator();

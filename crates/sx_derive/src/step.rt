@@ -6,7 +6,7 @@ ghost use Rattle.sx_arena.specs.Matching.{filled};
 ghost use Rattle.sx_rules.specs.Deep.{AreShallow};
 ghost use Rattle.sx_arena.specs.Binds.{env_at};
 ghost use Rattle.sx_derive.specs.Chains.{kids_at};
-ghost use Rattle.sx_arena.specs.Views.{judgement_of, rule_of, rules_of, modes_of};
+ghost use Rattle.sx_arena.specs.Views.{judgement_of, rule_of, rules_of, set_modes};
 ghost use Rattle.sx_derive.specs.Givens.{IsStoreOf};
 ghost use Rattle.sx_derive.specs.Store.{store_envs, store_kids};
 ghost use Rattle.sx_derive.specs.Step.{IsConcluded, IsAsked, Awaits};
@@ -50,7 +50,8 @@ pub(crate) fn concluded(
     requires env { from.env ≤ length store.old.binds.cells.items }
     requires kids { from.kids ≤ length store.old.kids.items }
     ensures { IfOk result
-        (λ step. IsConcluded (modes_of given.now.rules.now) (rules_of given.now.rules.now) store.old
+        (λ step. IsConcluded (set_modes given.now.rules.now)
+        (rules_of given.now.rules.now) store.old
         store.new from.rule
         (rule_of rule.now) (filled (env_at (store_envs store.old) from.env))
         (kids_at (store_kids store.old) from.kids) step) }
@@ -84,7 +85,7 @@ pub(crate) fn asked(
     requires kids { waiting.kids ≤ length store.old.kids.items }
     requires before { waiting.before ≤ length store.old.frames.items }
     ensures { IfOk result
-        (λ step. IsAsked (modes_of given.now.rules.now) (rules_of given.now.rules.now) store.old
+        (λ step. IsAsked (set_modes given.now.rules.now) (rules_of given.now.rules.now) store.old
         store.new
         (judgement_of judgement.now) waiting step) }
 {

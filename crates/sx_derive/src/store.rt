@@ -3,7 +3,7 @@
 ghost use Rattle.std.specs.Prelude.{◌≡◌, [], List};
 ghost use Rattle.sx_rules.specs.Rules.{Rule};
 ghost use Rattle.sx_rules.specs.Modes.{Modes};
-ghost use Rattle.sx_derive.specs.Store.{IsStore, IsMark, IsChainsCut, IsCut};
+ghost use Rattle.sx_derive.specs.Store.{IsStore, IsMark, IsChainsCut, IsStoreCut};
 
 use crate::chains::{Kid, Waiting};
 use std::alloc::Global;
@@ -63,7 +63,7 @@ impl Store {
 
     /// Drops what the store has past the mark.
     pub(crate) fn cut(&mut self, mark: Mark)
-        ensures { IsCut mark self.old self.new }
+        ensures { IsStoreCut mark self.old self.new }
     {
         self.arena.cut(mark.terms);
         self.cut_chains(mark);

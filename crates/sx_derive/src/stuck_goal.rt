@@ -7,7 +7,7 @@ ghost use Rattle.sx_rules.specs.Rules.{Hypotheses};
 ghost use Rattle.sx_rules.specs.Views.{goal as goal_of, hypotheses};
 ghost use Rattle.sx_arena.specs.Arena.{IsArena, AreBelow};
 ghost use Rattle.sx_arena.specs.Entered.{ArePairsShallow};
-ghost use Rattle.sx_arena.specs.Views.{rules_of, modes_of};
+ghost use Rattle.sx_arena.specs.Views.{rules_of, set_modes};
 ghost use Rattle.sx_derive.specs.Blames.{blame_of, cause_of};
 ghost use Rattle.sx_derive.specs.Candidates.{goal_in};
 ghost use Rattle.sx_derive.specs.Descents.{reason_in, ReasonBelow, blame_in};
@@ -16,7 +16,7 @@ ghost use Rattle.sx_derive.specs.Quiet.{IsQuiet, IsSilent};
 ghost use Rattle.sx_derive.specs.Store.{store_trees};
 ghost use Rattle.sx_derive.specs.Stuck.{IsStuck};
 ghost use Rattle.sx_derive.specs.Walk.{events};
-ghost use Rattle.sx_derive.specs.Ways.{subjects_of};
+ghost use Rattle.sx_derive.specs.Ways.{subject_modes};
 ghost use Rattle.sx_rules.specs.Limits.{most_levels};
 
 use crate::blame::{Blame, Cause};
@@ -127,10 +127,10 @@ pub(crate) fn stuck_goal(
     requires apart { ArePairsShallow (hypotheses given.now).pairs }
     requires goal { AreShallow (goal_of goal.now).terms }
     requires quiet { IsQuiet budget
-        (events (modes_of rules.now) (rules_of rules.now) (hypotheses given.now) (goal_of goal.now)
+        (events (set_modes rules.now) (rules_of rules.now) (hypotheses given.now) (goal_of goal.now)
         1) }
     ensures { IfOk result
-        (λ b. IsStuck (modes_of rules.now) (subjects_of rules.now) (rules_of rules.now)
+        (λ b. IsStuck (set_modes rules.now) (subject_modes rules.now) (rules_of rules.now)
         (hypotheses given.now) most_levels (goal_of goal.now) [] (blame_of b)) }
 {
     let problem = enter_problem(alloc, rules, given, goal, None)?;

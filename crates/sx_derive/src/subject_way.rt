@@ -19,7 +19,8 @@ ghost use Rattle.sx_rules.specs.Modes.{outputs, outputs_of};
 ghost use Rattle.sx_rules.specs.Deep.{AreShallow};
 ghost use Rattle.sx_arena.specs.Views.{judgement_of, rule_of};
 ghost use Rattle.sx_derive.specs.Stuck.{place_in, path_of};
-ghost use Rattle.sx_derive.specs.Ways.{subject_mask, subjects_of, IsWay};
+ghost use Rattle.sx_derive.specs.Ways.{subject_modes, IsWay};
+ghost use Rattle.sx_rules.specs.SubjectTerms.{subject_mask};
 ghost use Rattle.sx_term.specs.Limits.{most_depth};
 
 use sx_rules::{Judgement, Place, Rule, RuleSet};
@@ -50,7 +51,7 @@ fn put_way(term: &Term, variable: u32, path: &mut Vec<usize>) -> Result<bool, No
 
 /// The places of the form, none where there is no such form.
 fn places_of(rules: &RuleSet, form: u32) -> &[Place]
-    ensures { subject_mask result.now ≡ subjects_of rules.now form }
+    ensures { subject_mask result.now ≡ subject_modes rules.now form }
 {
     match rules.forms().get(form as usize) {
         Some(it) => it.places.as_slice(),
@@ -87,9 +88,9 @@ fn subject_at<'a>(places: &[Place], terms: &'a [Term]) -> Option<&'a Term>
 /// The subject of a judgement, where its form has one.
 fn subject<'a>(rules: &RuleSet, judgement: &'a Judgement) -> Option<&'a Term>
     ensures { MatchOption result
-        (outputs_of (subjects_of rules.entry.now) (judgement_of judgement.entry.now) ≡ [])
+        (outputs_of (subject_modes rules.entry.now) (judgement_of judgement.entry.now) ≡ [])
         (λ t. (rest : List Tree)
-        × (outputs_of (subjects_of rules.entry.now) (judgement_of judgement.entry.now)
+        × (outputs_of (subject_modes rules.entry.now) (judgement_of judgement.entry.now)
         ≡ tree t.now ∷ rest)) }
 {
     subject_at(places_of(rules, judgement.form), &judgement.places)
@@ -106,7 +107,7 @@ pub(crate) fn put_premise_way(
     requires shallow { AreShallow (map tree rule.now.conclusion.places.items) }
     ensures { IfOk result
         (λ _. path.new.items
-        ≡ path_of (subjects_of rules.now) path.old.items (rule_of rule.now)
+        ≡ path_of (subject_modes rules.now) path.old.items (rule_of rule.now)
         (judgement_of premise.now)) }
 {
     match subject(rules, premise) {

@@ -5,8 +5,8 @@ ghost use Rattle.sx_rules.specs.Rules.{Judgement};
 ghost use Rattle.sx_arena.specs.Pairs.{ArePairs};
 ghost use Rattle.sx_derive.specs.Givens.{IsStoreOf, HasFacts};
 ghost use Rattle.sx_derive.specs.Store.{store_trees};
-ghost use Rattle.sx_derive.specs.Tasks.{TaskFits, IsNext};
-ghost use Rattle.sx_arena.specs.Views.{rules_of, modes_of};
+ghost use Rattle.sx_derive.specs.Tasks.{TaskFits, IsNextCandidate};
+ghost use Rattle.sx_arena.specs.Views.{rules_of, set_modes};
 
 use crate::candidates::{try_given, try_rule};
 use crate::chains::Head;
@@ -87,12 +87,14 @@ pub(crate) fn try_next(given: &Given, store: &mut Store, task: &Task) -> Result<
     requires facts { (js : List Judgement) × HasFacts given.now store.old js }
     requires store { IsStoreOf given.now store.old }
     requires pairs { ArePairs (length (store_trees store.old)) given.now.pairs.now }
-    requires task { TaskFits (modes_of given.now.rules.now) (rules_of given.now.rules.now) store.old
+    requires task { TaskFits (set_modes given.now.rules.now)
+        (rules_of given.now.rules.now) store.old
         (length given.now.facts.now + length (rules_of given.now.rules.now)) task.now }
     requires next { task.now.next < length given.now.facts.now + length (rules_of
         given.now.rules.now) }
     ensures { IfOk result (λ step. (js : List Judgement) → HasFacts given.now store.old js →
-        IsNext (modes_of given.now.rules.now) (rules_of given.now.rules.now) given.now.pairs.now js
+        IsNextCandidate (set_modes given.now.rules.now) (rules_of given.now.rules.now)
+        given.now.pairs.now js
         store.old store.new task.now step) }
 {
     given.rules.facts();

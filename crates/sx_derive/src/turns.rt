@@ -17,9 +17,9 @@ ghost use Rattle.sx_rules.specs.Rules.{Judgement};
 ghost use Rattle.sx_arena.specs.Pairs.{ArePairs};
 ghost use Rattle.sx_derive.specs.Givens.{IsStoreOf, HasFacts};
 ghost use Rattle.sx_derive.specs.Store.{store_trees};
-ghost use Rattle.sx_derive.specs.Tasks.{TaskFits, TasksFit, WantedBelow, IsNext};
-ghost use Rattle.sx_derive.specs.Turns.{IsPopped, IsTurn};
-ghost use Rattle.sx_arena.specs.Views.{rules_of, modes_of};
+ghost use Rattle.sx_derive.specs.Tasks.{TaskFits, TasksFit, WantedBelow, IsNextCandidate};
+ghost use Rattle.sx_derive.specs.Turns.{IsPopped, IsTaskTurn};
+ghost use Rattle.sx_arena.specs.Views.{rules_of, set_modes};
 ghost use Rattle.sx_arena.specs.declared.pairs.Pair.{Pair as PairOf};
 ghost use Rattle.sx_derive.specs.declared.store.Store.{Store as StoreOf};
 
@@ -45,7 +45,7 @@ fn is_wanted(wanted: &Option<Vec<usize>>, outputs: &[usize]) -> bool
 pub(crate) fn next_task(given: &Given, tasks: &mut Vec<Task>) -> Option<Task>
     ensures { (pairs : List PairOf) (js : List Judgement) (s : StoreOf) →
         length js ≡ length given.now.facts.now →
-        IsPopped (modes_of given.now.rules.now) (rules_of given.now.rules.now) pairs js s
+        IsPopped (set_modes given.now.rules.now) (rules_of given.now.rules.now) pairs js s
         (length given.now.facts.now + length (rules_of given.now.rules.now)) tasks.old.items
         tasks.new.items result }
 {
@@ -64,12 +64,14 @@ fn try_task(given: &Given, store: &mut Store, task: &Task) -> Result<Step, NoMem
     requires facts { (js : List Judgement) × HasFacts given.now store.old js }
     requires store { IsStoreOf given.now store.old }
     requires pairs { ArePairs (length (store_trees store.old)) given.now.pairs.now }
-    requires task { TaskFits (modes_of given.now.rules.now) (rules_of given.now.rules.now) store.old
+    requires task { TaskFits (set_modes given.now.rules.now)
+        (rules_of given.now.rules.now) store.old
         (length given.now.facts.now + length (rules_of given.now.rules.now)) task.now }
     requires next { task.now.next < length given.now.facts.now + length (rules_of
         given.now.rules.now) }
     ensures { IfOk result (λ step. (js : List Judgement) → HasFacts given.now store.old js →
-        IsNext (modes_of given.now.rules.now) (rules_of given.now.rules.now) given.now.pairs.now js
+        IsNextCandidate (set_modes given.now.rules.now) (rules_of given.now.rules.now)
+        given.now.pairs.now js
         store.old store.new task.now step) }
 {
     let mark = store.mark();
@@ -95,14 +97,16 @@ pub(crate) fn turn(
     requires store { IsStoreOf given.now store.old }
     requires pairs { ArePairs (length (store_trees store.old)) given.now.pairs.now }
     requires wanted { WantedBelow (length (store_trees store.old)) wanted.now }
-    requires task { TaskFits (modes_of given.now.rules.now) (rules_of given.now.rules.now) store.old
+    requires task { TaskFits (set_modes given.now.rules.now)
+        (rules_of given.now.rules.now) store.old
         (length given.now.facts.now + length (rules_of given.now.rules.now)) task }
     requires next { task.next < length given.now.facts.now + length (rules_of given.now.rules.now) }
-    requires tasks { TasksFit (modes_of given.now.rules.now) (rules_of given.now.rules.now)
+    requires tasks { TasksFit (set_modes given.now.rules.now) (rules_of given.now.rules.now)
         store.old
         (length given.now.facts.now + length (rules_of given.now.rules.now)) tasks.old.items }
     ensures { IfOk result (λ o. (js : List Judgement) → HasFacts given.now store.old js →
-        IsTurn (modes_of given.now.rules.now) (rules_of given.now.rules.now) given.now.pairs.now js
+        IsTaskTurn (set_modes given.now.rules.now) (rules_of given.now.rules.now)
+        given.now.pairs.now js
         wanted.now (length given.now.facts.now + length (rules_of given.now.rules.now)) store.old
         store.new task tasks.old.items tasks.new.items o) }
 {

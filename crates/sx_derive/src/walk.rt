@@ -8,7 +8,7 @@ ghost use Rattle.sx_derive.specs.Givens.{IsStoreOf, HasFacts};
 ghost use Rattle.sx_derive.specs.Store.{store_trees};
 ghost use Rattle.sx_derive.specs.Tasks.{events_left, Piled, WantedBelow};
 ghost use Rattle.sx_derive.specs.Walked.{events_in, IsWalked, IsWalkedTo};
-ghost use Rattle.sx_arena.specs.Views.{rules_of, modes_of};
+ghost use Rattle.sx_arena.specs.Views.{rules_of, set_modes};
 
 use crate::given::Given;
 use crate::numbered_goal::NumberedGoal;
@@ -33,12 +33,13 @@ fn walk_tasks<L: Ledger>(
     requires store { IsStoreOf given.now store.old }
     requires pairs { ArePairs (length (store_trees store.old)) given.now.pairs.now }
     requires wanted { WantedBelow (length (store_trees store.old)) wanted.now }
-    requires tasks { Piled (modes_of given.now.rules.now) (rules_of given.now.rules.now)
+    requires tasks { Piled (set_modes given.now.rules.now) (rules_of given.now.rules.now)
         (length given.now.facts.now + length (rules_of given.now.rules.now)) store.old tasks.items
         store.old }
     ensures { (js : List Judgement) → HasFacts given.now store.old js →
-        IsWalked (modes_of given.now.rules.now) (rules_of given.now.rules.now) store.old store.new
-        wanted.now budget (events_left (modes_of given.now.rules.now) (rules_of given.now.rules.now)
+        IsWalked (set_modes given.now.rules.now) (rules_of given.now.rules.now) store.old store.new
+        wanted.now budget (events_left (set_modes given.now.rules.now)
+        (rules_of given.now.rules.now)
         given.now.pairs.now js store.old tasks.items) steps.old steps.new result }
 {
     let mut tasks = tasks;
@@ -72,12 +73,14 @@ pub(crate) fn walk_uncounted(
     requires store { IsStoreOf given.now store.old }
     requires pairs { ArePairs (length (store_trees store.old)) given.now.pairs.now }
     requires wanted { WantedBelow (length (store_trees store.old)) wanted.now }
-    requires tasks { Piled (modes_of given.now.rules.now) (rules_of given.now.rules.now)
+    requires tasks { Piled (set_modes given.now.rules.now) (rules_of given.now.rules.now)
         (length given.now.facts.now + length (rules_of given.now.rules.now)) store.old tasks.items
         store.old }
     ensures { IfOk result (λ ending. (js : List Judgement) → HasFacts given.now store.old js →
-        IsWalkedTo (modes_of given.now.rules.now) (rules_of given.now.rules.now) store.old store.new
-        wanted.now budget (events_left (modes_of given.now.rules.now) (rules_of given.now.rules.now)
+        IsWalkedTo (set_modes given.now.rules.now) (rules_of given.now.rules.now) store.old
+        store.new
+        wanted.now budget (events_left (set_modes given.now.rules.now)
+        (rules_of given.now.rules.now)
         given.now.pairs.now js store.old tasks.items) ending) }
 {
     let mut tasks = tasks;
@@ -138,9 +141,10 @@ pub(crate) fn walk<L: Ledger>(
     requires wanted { WantedBelow (length (store_trees store.old)) wanted.now }
     requires terms { AreBelow (length (store_trees store.old)) goal.terms.items }
     ensures { (js : List Judgement) → HasFacts given.now store.old js →
-        IsWalked (modes_of given.now.rules.now) (rules_of given.now.rules.now) store.old store.new
+        IsWalked (set_modes given.now.rules.now) (rules_of given.now.rules.now) store.old store.new
         wanted.now budget
-        (events_in (modes_of given.now.rules.now) (rules_of given.now.rules.now) given.now.pairs.now
+        (events_in (set_modes given.now.rules.now) (rules_of given.now.rules.now)
+        given.now.pairs.now
         js store.old goal.levels goal.form goal.terms.items) steps.old steps.new result }
 {
     let mark = store.mark();

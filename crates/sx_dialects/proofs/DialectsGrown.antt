@@ -15,7 +15,7 @@ use Rattle.sx_rules.specs.Views.{FormData, named, rule, subjects_in}
 use Rattle.sx_directives.specs.declared.rows.FormLine.{FormLine}
 use Rattle.sx_rewrite.specs.declared.ext_rule.ExtRule.{ExtRule as ExtRuleOf}
 use Rattle.sx_rewrite.specs.Accepted.{Checked}
-use Rattle.sx_rewrite.specs.Extensions.{Fits, with_table}
+use Rattle.sx_rewrite.specs.Extensions.{FitsRules, with_table}
 use Rattle.sx_rewrite.specs.ExtensionView.{ext_rule, named_rules}
 use Rattle.sx_rewrite.specs.Sound.{AreSoundBy}
 use Rattle.sx_rewrite.specs.Stored.{signature_of}
@@ -24,13 +24,13 @@ use Rattle.sx_notation.specs.RuleParts.{form_line, apart_lines, rule_parts}
 use Rattle.sx_extension.specs.declared.extension.ReadExtension.{ReadExtension}
 use Rattle.sx_extension.specs.Fitting.{FitsAfter}
 use Rattle.sx_extension.specs.Readings.{AreGrammars}
-use Rattle.sx_extension.specs.States.{States}
+use Rattle.sx_extension.specs.States.{IsExtensionIn}
 use Rattle.sx_uses.specs.ExtensionFile.{Extension, extension_file}
 use Rattle.sx_steps.proofs.Ones.{ok_same}
 use Rattle.sx_steps.proofs.StepsOn.{went_on}
 use Rattle.sx_accepting.specs.ExtendedLanguages.{BaseLanguage, ExtendedData, ground_of}
-use Rattle.sx_accepting.specs.Extending.{ReadData, read_data, IsStated, with_extension}
-use Rattle.sx_accepting.specs.Extending.{Accepts, ExtendsBy, Extends}
+use Rattle.sx_accepting.specs.Extending.{ReadData, read_data, IsExtensionStated, with_extension}
+use Rattle.sx_accepting.specs.Extending.{Accepts, ExtendsBy, ExtendsLanguage}
 use Rattle.sx_accepting.specs.Laws.{IsAcceptedOver}
 use Rattle.sx_accepting.proofs.AcceptedExtended.{accepted_by, checks_of, next_of, stored_soundly}
 use Rattle.sx_typing.specs.Dialects.{IsDialect}
@@ -67,7 +67,7 @@ bare_rules [] = refl
 bare_rules (e ∷ es) = ap (λ (rs : List Rule). rule e.rule ∷ rs) (bare_rules es)
 
 module _ (l : BaseLanguage) (x : ExtendedData) (h : IsGrown l x) (bytes : List ℕ)
-    (read : ReadExtension) (states : States (ground_of l x) bytes read)
+    (read : ReadExtension) (states : IsExtensionIn (ground_of l x) bytes read)
     (fits : FitsAfter (ground_of l x) read) (stored : List Checked) where
   abbrev own : List Line
   own = states.outline.productions
@@ -92,12 +92,12 @@ module _ (l : BaseLanguage) (x : ExtendedData) (h : IsGrown l x) (bytes : List �
     extension = record { rules = map ext_rule es; stored = stored; table = table };
   }
 
-  fits_so : Fits (signature_of l.content.forms) (shapes_of l.content.parts)
+  fits_so : FitsRules (signature_of l.content.forms) (shapes_of l.content.parts)
       (shapes_of x.grammar.parts) (shapes_of grown_parts) x.set.kept.table table (map ext_rule es)
   fits_so =
-      subst (λ (p : Parts). Fits (signature_of l.content.forms) (shapes_of l.content.parts)
+      subst (λ (p : Parts). FitsRules (signature_of l.content.forms) (shapes_of l.content.parts)
       (shapes_of x.grammar.parts) (shapes_of p) x.set.kept.table table (map ext_rule es)) made.parts
-      (subst (λ (ss : List Shape). Fits (signature_of l.content.forms) (shapes_of l.content.parts)
+      (subst (λ (ss : List Shape). FitsRules (signature_of l.content.forms) (shapes_of l.content.parts)
       ss (shapes_of read.grammar.parts) x.set.kept.table table (map ext_rule es)) h.shapes
       fits.fits)
 
@@ -148,7 +148,7 @@ module _ (l : BaseLanguage) (x : ExtendedData) (h : IsGrown l x) (bytes : List �
 module _ (l : BaseLanguage) (budgets : Budgets) where
   -- so it is with an extension that is stated and accepted
   grown_next : (x next : ExtendedData) (h : IsGrown l x) (bytes : List ℕ) (d : ReadData)
-      (stated : IsStated (ground_of l x) bytes d) (file : List ℕ) (tries : ℕ) →
+      (stated : IsExtensionStated (ground_of l x) bytes d) (file : List ℕ) (tries : ℕ) →
       Accepts l budgets file x d (Ok next) tries → IsAcceptedOver l next → IsGrown l next
   grown_next x next h bytes d stated file tries accepts over =
       let stored = accepts.0 in
@@ -178,7 +178,7 @@ module _ (l : BaseLanguage) (budgets : Budgets) where
       read.after read.goes (accepted_by l budgets file x next tries h.over steps)
 
   pub grown_from : (files : List Extension) (x y : ExtendedData) (tries : ℕ) → IsGrown l x →
-      Extends l budgets files x (Ok y) tries → IsGrown l y
+      ExtendsLanguage l budgets files x (Ok y) tries → IsGrown l y
   grown_from [] x y tries h steps = subst (IsGrown l) (sym (ok_same y x steps.0)) h
   grown_from (file ∷ files) x y tries h steps =
       let first = went_on _ _ _ tries steps in

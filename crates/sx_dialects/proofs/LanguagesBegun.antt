@@ -4,10 +4,10 @@ use Rattle.sx_earley.specs.Tokens.{Stems}
 use Rattle.sx_rules.specs.Sets.{forms_in}
 use Rattle.sx_notation.specs.declared.language.Language.{Language}
 use Rattle.sx_notation.specs.Language.{IsLanguage, LanguageData, language_data}
-use Rattle.sx_language.specs.States.{States}
+use Rattle.sx_language.specs.States.{IsLanguageIn}
 use Rattle.sx_accepting.specs.declared.extended.Extended.{Extended}
 use Rattle.sx_accepting.specs.ExtendedLanguages.{base_of, extended_data, unextended}
-use Rattle.sx_accepting.specs.ReadLanguage.{Stated, IsStated, base_in, HasText}
+use Rattle.sx_accepting.specs.ReadLanguage.{Stated, IsLanguageStated, base_in, HasText}
 use Rattle.sx_accepting.proofs.AcceptedExtended.{accepted_first, language_plain, language_rules}
 use Rattle.sx_accepting.proofs.Begun.{sorts_for}
 use Rattle.sx_typing.proofs.Grown.{languages_are_dialects}
@@ -15,7 +15,7 @@ use Rattle.sx_dialects.specs.Dialects.{ExtendedIsDialect, HasHistory}
 use Rattle.sx_dialects.proofs.DialectsGrown.{IsGrown, grown_from}
 
 -- a language is a dialect before any extension
-pub grown_first : (name bytes : List ℕ) (l : Language) → States name bytes l → IsLanguage l →
+pub grown_first : (name bytes : List ℕ) (l : Language) → IsLanguageIn name bytes l → IsLanguage l →
     IsGrown (base_of l) (unextended (language_data l))
 grown_first name bytes l states is = record {
   over = accepted_first name bytes l states is;
@@ -24,7 +24,7 @@ grown_first name bytes l states is = record {
       (sorts_for (forms_in l.rules) is.fit) (language_rules name bytes l states);
 }
 
-grown_begin : (name bytes : List ℕ) (l : Stated) → IsStated name bytes l →
+grown_begin : (name bytes : List ℕ) (l : Stated) → IsLanguageStated name bytes l →
     IsGrown (base_in l) (unextended l.language)
 grown_begin name bytes l s =
     subst (λ (c : LanguageData). IsGrown (record { content = c; stems = l.stems }) (unextended c))

@@ -6,8 +6,8 @@ use Rattle.sx_notation.specs.Language.{LanguageData, language_data}
 use Rattle.sx_uses.specs.ExtensionFile.{Extension}
 use Rattle.sx_accepting.specs.declared.extended.Extended.{Extended}
 use Rattle.sx_accepting.specs.ExtendedLanguages.{ExtendedData, base_of, extended_data, unextended}
-use Rattle.sx_accepting.specs.Extending.{Extends}
-use Rattle.sx_accepting.specs.ReadLanguage.{Stated, IsStated, base_in}
+use Rattle.sx_accepting.specs.Extending.{ExtendsLanguage}
+use Rattle.sx_accepting.specs.ReadLanguage.{Stated, IsLanguageStated, base_in}
 use Rattle.sx_typing.specs.Dialects.{DialectData, IsDialect}
 
 -- the language with the grammars, the rules and the accepted set that it has by extensions
@@ -25,12 +25,12 @@ pub record HasHistory (l : Language) (x : Extended) : Type 0 where
   pub budgets : Budgets
   pub files : List Extension
   pub tries : ℕ
-  pub extends : Extends (base_of l) budgets files (unextended (language_data l))
+  pub extends : ExtendsLanguage (base_of l) budgets files (unextended (language_data l))
       (Ok (extended_data l x)) tries
 
 -- what a language that a text states becomes by extensions is a dialect
 abbrev pub ExtendedIsDialect : Type 0
-ExtendedIsDialect = (name bytes : List ℕ) (l : Stated) → IsStated name bytes l →
+ExtendedIsDialect = (name bytes : List ℕ) (l : Stated) → IsLanguageStated name bytes l →
     (budgets : Budgets) (files : List Extension) (x : ExtendedData) (tries : ℕ) →
-    Extends (base_in l) budgets files (unextended l.language) (Ok x) tries →
+    ExtendsLanguage (base_in l) budgets files (unextended l.language) (Ok x) tries →
     IsDialect (dialect_in l.language x)

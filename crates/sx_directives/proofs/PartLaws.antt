@@ -2,7 +2,8 @@
 use Rattle.std.proofs.Common.{◌≡◌, ◌≢◌, ℕ, zero, suc, ◌<◌, ◌≤◌, Bool, true, false, List, [], ◌∷◌, ◌++◌, length, get_or, take, drop, refl, sym, ap, subst, ◌∙◌, arith}
 use Rattle.std.proofs.lemmas.List.{drop_more, drop_all, take-append-drop}
 use Rattle.sx_lines.specs.Bytes.{is_blank}
-use Rattle.sx_directives.specs.Parts.{parts_of, begun, NoBlank, AllBlank, Stops, Starts, IsBlankFront, IsPartEnd}
+use Rattle.sx_directives.specs.Parts.{parts_of, begun_part, NoBlank, AllBlank, Stops, Starts}
+use Rattle.sx_directives.specs.Parts.{IsBlankFront, IsPartEnd}
 
 all_blank-take : (text : List ℕ) (n : ℕ) → ((k : ℕ) → k < n → is_blank (get_or text k 0) ≡ true) → n ≤ length text → AllBlank (take n text)
 all_blank-take text zero h le = tt
@@ -49,11 +50,11 @@ parts_blank [] rest h = refl
 parts_blank (b ∷ blanks) rest h = rw (h.0) (parts_blank blanks rest h.1)
 
 -- one more byte of a part
-more_of : (b : ℕ) (part rest : List ℕ) (parts : List (List ℕ)) → NoBlank part → part ≢ [] → begun b (part ++ rest) (part ∷ parts) ≡ (b ∷ part) ∷ parts
+more_of : (b : ℕ) (part rest : List ℕ) (parts : List (List ℕ)) → NoBlank part → part ≢ [] → begun_part b (part ++ rest) (part ∷ parts) ≡ (b ∷ part) ∷ parts
 more_of b [] rest parts h n = absurd (n refl)
 more_of b (c ∷ part) rest parts h n = rw (h.0) refl
 
-last_of : (b : ℕ) (rest : List ℕ) (parts : List (List ℕ)) → Stops rest → begun b rest parts ≡ (b ∷ []) ∷ parts
+last_of : (b : ℕ) (rest : List ℕ) (parts : List (List ℕ)) → Stops rest → begun_part b rest parts ≡ (b ∷ []) ∷ parts
 last_of b [] parts s = refl
 last_of b (c ∷ rest) parts s = rw s refl
 

@@ -5,8 +5,8 @@ use Rattle.std.proofs.lemmas.List.{take_all}
 use Rattle.sx_grammar.specs.Parts.{Line}
 use Rattle.sx_grammar.specs.declared.sort_line.SortLine.{SortLine}
 use Rattle.sx_grammar.specs.declared.symbol.Symbol.{Symbol}
-use Rattle.sx_directives.specs.Parts.{texts}
-use Rattle.sx_directives.specs.Spelling.{NoneIs, IsVariable, Spells, SpellsForm, EachSpelled}
+use Rattle.sx_grammar.specs.Parts.{texts}
+use Rattle.sx_directives.specs.Spelling.{NoneIs, IsVariable, SpellsSymbol, SpellsForm, EachSpelled}
 use Rattle.sx_directives.specs.Rows.{AreBrackets, IsSortRow, IsProdRow, IsFormRow, IsPlainRow}
 use Rattle.sx_directives.specs.declared.row_error.RowError.{RowError}
 use Rattle.sx_directives.specs.declared.rows.FormLine.{FormLine}
@@ -53,11 +53,11 @@ form_symbols_in parts le y h = (y.symbols.items, subst (λ x. EachSpelled Spells
 pub no_form_symbols : (parts : List (Bor (List ℕ))) (e : RowError) → 2 ≤ length parts → NoneIs (EachSpelled SpellsForm (texts (take (length parts - 2) (drop 2 parts)))) e → NoneIs (IsFormRow (texts parts)) e
 no_form_symbols parts e le n = none_of (EachSpelled SpellsForm (texts (take (length parts - 2) (drop 2 parts)))) (IsFormRow (texts parts)) e (form_symbols_in parts le) n
 
-symbols_in : (parts : List (Bor (List ℕ))) → 4 ≤ length parts → (y : Line) → IsProdRow (texts parts) y → (x : List Symbol) × EachSpelled Spells (texts (take (length parts - 4) (drop 4 parts))) x
-symbols_in parts le y h = (y.symbols, subst (λ x. EachSpelled Spells x y.symbols) (four_off parts _ _ _ _ h.symbols le h.parts_are) h.symbols_are)
+symbols_in : (parts : List (Bor (List ℕ))) → 4 ≤ length parts → (y : Line) → IsProdRow (texts parts) y → (x : List Symbol) × EachSpelled SpellsSymbol (texts (take (length parts - 4) (drop 4 parts))) x
+symbols_in parts le y h = (y.symbols, subst (λ x. EachSpelled SpellsSymbol x y.symbols) (four_off parts _ _ _ _ h.symbols le h.parts_are) h.symbols_are)
 
-pub no_symbols : (parts : List (Bor (List ℕ))) (e : RowError) → 4 ≤ length parts → NoneIs (EachSpelled Spells (texts (take (length parts - 4) (drop 4 parts)))) e → NoneIs (IsProdRow (texts parts)) e
-no_symbols parts e le n = none_of (EachSpelled Spells (texts (take (length parts - 4) (drop 4 parts)))) (IsProdRow (texts parts)) e (symbols_in parts le) n
+pub no_symbols : (parts : List (Bor (List ℕ))) (e : RowError) → 4 ≤ length parts → NoneIs (EachSpelled SpellsSymbol (texts (take (length parts - 4) (drop 4 parts)))) e → NoneIs (IsProdRow (texts parts)) e
+no_symbols parts e le n = none_of (EachSpelled SpellsSymbol (texts (take (length parts - 4) (drop 4 parts)))) (IsProdRow (texts parts)) e (symbols_in parts le) n
 
 names_in : (parts : List (Bor (List ℕ))) → 1 ≤ length parts → (y : PlainLine) → IsPlainRow (texts parts) y → (x : List (List ℕ)) × EachSpelled IsVariable (texts (take (length parts - 1) (drop 1 parts))) x
 names_in parts le y h = (y.names.items, subst (λ x. EachSpelled IsVariable x y.names.items) (one_off parts _ h.names le h.parts_are) h.names_are)

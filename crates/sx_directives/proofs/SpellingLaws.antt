@@ -11,8 +11,10 @@ use Rattle.std.proofs.lemmas.Bool.Decides.{nat_tests}
 use Rattle.sx_lines.specs.Words.{is_name, is_name_byte, after, number_within}
 use Rattle.sx_lines.proofs.WordLaws.{after_front, front_of}
 use Rattle.sx_lines.proofs.Utf8Laws.{name_utf8}
-use Rattle.sx_directives.specs.Spelling.{NoneIs, IsModuleName, IsModuleNamed, IsName, IsNamed, IsTextOf, NoAt, NotLexical, SpellsSort, IsLevelled, IsQuoted, Spells, EachSpelled}
-use Rattle.sx_directives.specs.Parts.{texts}
+use Rattle.sx_directives.specs.Spelling.{NoneIs, IsModuleName, IsModuleNamed, IsName, IsSpelledName}
+use Rattle.sx_directives.specs.Spelling.{IsTextOf, NoAt, NotLexical, SpellsSort, IsLevelled}
+use Rattle.sx_directives.specs.Spelling.{IsQuoted, SpellsSymbol, EachSpelled}
+use Rattle.sx_grammar.specs.Parts.{texts}
 use Rattle.sx_grammar.specs.declared.symbol.Symbol.{Symbol}
 use Rattle.sx_grammar.specs.declared.symbol.Symbol.TheVariants.{Lit, Lex as LexSymbol, Part}
 use Rattle.sx_directives.specs.declared.row_error.RowError.{RowError}
@@ -31,9 +33,9 @@ after_cases front text None e = λ rest q.
     cc
 after_cases front text (Some r) e = front_of front text r.now (sym e)
 
-pub named_text : (part : List ℕ) (r : Result (List ℕ) RowError) → is_name true part ≡ true → MatchResult r (IsTextOf part) (NoneIs (IsTextOf part)) → MatchResult r (IsNamed part) (NoneIs (IsNamed part))
+pub named_text : (part : List ℕ) (r : Result (List ℕ) RowError) → is_name true part ≡ true → MatchResult r (IsTextOf part) (NoneIs (IsTextOf part)) → MatchResult r (IsSpelledName part) (NoneIs (IsSpelledName part))
 named_text part (Ok text) e h = (h.0, subst IsName h.0 e)
-named_text part (Err x) e h = none_of (IsTextOf part) (IsNamed part) x (λ name n. (name, (n.0, name_utf8 true name n.1))) h
+named_text part (Err x) e h = none_of (IsTextOf part) (IsSpelledName part) x (λ name n. (name, (n.0, name_utf8 true name n.1))) h
 
 pub module_text : (part : List ℕ) (r : Result (List ℕ) RowError) → is_name false part ≡ true → MatchResult r (IsTextOf part) (NoneIs (IsTextOf part)) → MatchResult r (IsModuleNamed part) (NoneIs (IsModuleNamed part))
 module_text part (Ok text) e h = (h.0, subst IsModuleName h.0 e)
@@ -119,23 +121,23 @@ sort_levelled part name digits (Ok (Named sort least)) n c h =
     (h.0.1, inr (record { digits = digits; part_is = c.0 ∙ ap (λ (x : List ℕ). x ++ 64 ∷ digits) h.0.0; level = h.1 }))
 sort_levelled part name digits (Err e) n c h = none_of (IsLevelled name digits) (SpellsSort part) e (level_in part name digits n c.0 c.1) h
 
-name_in : (part : List ℕ) → NotLexical part → NoAt part → (y : SpelledSort) → SpellsSort part y → (x : List ℕ) × IsNamed part x
+name_in : (part : List ℕ) → NotLexical part → NoAt part → (y : SpelledSort) → SpellsSort part y → (x : List ℕ) × IsSpelledName part x
 name_in part n h (Lex kind) s = absurd (n kind s)
 name_in part n h (Named sort least) (named, inl alone) = (sort, (alone.part_is, named))
 name_in part n h (Named sort least) (named, inr level) = absurd (at_in_name sort level.digits part h level.part_is)
 
-pub sort_unnamed : (part : List ℕ) (e : RowError) → NotLexical part → NoAt part → NoneIs (IsNamed part) e → NoneIs (SpellsSort part) e
-sort_unnamed part e n h k = none_of (IsNamed part) (SpellsSort part) e (name_in part n h) k
+pub sort_unnamed : (part : List ℕ) (e : RowError) → NotLexical part → NoAt part → NoneIs (IsSpelledName part) e → NoneIs (SpellsSort part) e
+sort_unnamed part e n h k = none_of (IsSpelledName part) (SpellsSort part) e (name_in part n h) k
 
 -- ---- symbols
 
-sort_in : (part : List ℕ) → ((text : List ℕ) → IsQuoted part text → ⊥) → (y : Symbol) → Spells part y → (x : SpelledSort) × SpellsSort part x
+sort_in : (part : List ℕ) → ((text : List ℕ) → IsQuoted part text → ⊥) → (y : Symbol) → SpellsSymbol part y → (x : SpelledSort) × SpellsSort part x
 sort_in part n (Lit text) s = absurd (n text s)
 sort_in part n (LexSymbol kind) s = (Lex kind, s)
 sort_in part n (Part sort least) s = (Named sort least, s)
 
-pub symbol_none : (part : List ℕ) (e : RowError) → ((text : List ℕ) → IsQuoted part text → ⊥) → NoneIs (SpellsSort part) e → NoneIs (Spells part) e
-symbol_none part e n h = none_of (SpellsSort part) (Spells part) e (sort_in part n) h
+pub symbol_none : (part : List ℕ) (e : RowError) → ((text : List ℕ) → IsQuoted part text → ⊥) → NoneIs (SpellsSort part) e → NoneIs (SpellsSymbol part) e
+symbol_none part e n h = none_of (SpellsSort part) (SpellsSymbol part) e (sort_in part n) h
 
 -- ---- parts behind references
 

@@ -12,14 +12,14 @@ with_byte b (part ∷ parts) = (b ∷ part) ∷ parts
 
 -- A part that begins with this byte, before a text with these parts: it is one with the first of
 -- them, where the text goes on with no blank.
-abbrev pub begun : ℕ → List ℕ → List (List ℕ) → List (List ℕ)
-begun b [] parts = (b ∷ []) ∷ parts
-begun b (c ∷ text) parts = if is_blank c then (b ∷ []) ∷ parts else with_byte b parts
+abbrev pub begun_part : ℕ → List ℕ → List (List ℕ) → List (List ℕ)
+begun_part b [] parts = (b ∷ []) ∷ parts
+begun_part b (c ∷ text) parts = if is_blank c then (b ∷ []) ∷ parts else with_byte b parts
 
 -- the parts of a line: its maximal runs of bytes that are no blank
 unfoldable pub parts_of : List ℕ → List (List ℕ)
 parts_of [] = []
-parts_of (b ∷ text) = if is_blank b then parts_of text else begun b text (parts_of text)
+parts_of (b ∷ text) = if is_blank b then parts_of text else begun_part b text (parts_of text)
 
 -- no byte is a blank
 abbrev pub NoBlank : List ℕ → Type 0
@@ -50,7 +50,3 @@ pub record IsPartEnd (text : List ℕ) (at : ℕ) : Type 0 where
   pub inside : at ≤ length text
   pub part : NoBlank (take at text)
   pub stops : Stops (drop at text)
-
--- the texts behind references
-abbrev pub texts : List (Bor (List ℕ)) → List (List ℕ)
-texts refs = map (λ r. r.now) refs

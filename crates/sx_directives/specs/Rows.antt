@@ -10,7 +10,7 @@ use Rattle.sx_grammar.specs.Parts.{Line, line}
 use Rattle.sx_grammar.specs.declared.sort_line.SortLine.{SortLine}
 use Rattle.sx_directives.specs.Parts.{AllBlank, parts_of}
 use Rattle.sx_directives.specs.Spelling.{IsModuleName, IsName, IsStem, IsVariable, NotLexical}
-use Rattle.sx_directives.specs.Spelling.{IsQuoted, Spells, SpellsForm, EachSpelled}
+use Rattle.sx_directives.specs.Spelling.{IsQuoted, SpellsSymbol, SpellsForm, EachSpelled}
 use Rattle.sx_directives.specs.declared.file_kind.FileKind.{FileKind}
 use Rattle.sx_directives.specs.declared.file_kind.FileKind.TheVariants as files
 use Rattle.sx_directives.specs.declared.keyword.Keyword.{Keyword}
@@ -91,7 +91,7 @@ pub record IsProdRow (parts : List (List ℕ)) (p : Line) : Type 0 where
   pub label : IsName p.label
   pub sort : IsName p.sort
   pub level_is : number_within 99 level ≡ Some p.level
-  pub symbols_are : EachSpelled Spells symbols p.symbols
+  pub symbols_are : EachSpelled SpellsSymbol symbols p.symbols
 
 -- `STEM : SORT`
 pub record IsVarRow (parts : List (List ℕ)) (v : VarLine) : Type 0 where
@@ -137,7 +137,7 @@ BeginsBlank (b ∷ text) = is_blank b ≡ true
 
 -- after blanks, `to` and one more blank at least, the rest of the line begins at this place, with
 -- that blank
-pub record IsCut (text : List ℕ) (at : ℕ) (rest : List ℕ) : Type 0 where
+pub record IsToCut (text : List ℕ) (at : ℕ) (rest : List ℕ) : Type 0 where
   pub blanks : List ℕ
   pub text_is : text ≡ blanks ++ (codes "to" ++ rest)
   pub blank : AllBlank blanks
@@ -145,13 +145,13 @@ pub record IsCut (text : List ℕ) (at : ℕ) (rest : List ℕ) : Type 0 where
   pub at_is : at ≡ length blanks + 2
 
 -- the body of a `to` line at its place in the line, with spaces in place of what stands before it
-abbrev pub IsBody : List ℕ → List ℕ → Type 0
-IsBody text body = (at : ℕ) × (rest : List ℕ) × IsCut text at rest ×
+abbrev pub IsToBody : List ℕ → List ℕ → Type 0
+IsToBody text body = (at : ℕ) × (rest : List ℕ) × IsToCut text at rest ×
     (body ≡ repeat at (codes " ") ++ rest)
 
 -- the body, as a text
 abbrev pub IsBodyText : List ℕ → List ℕ → Type 0
-IsBodyText text body = IsBody text body × IsUtf8 body
+IsBodyText text body = IsToBody text body × IsUtf8 body
 
 -- the parts are those of this `prod` or `var` line
 abbrev pub IsDirectiveOf : List (List ℕ) → Directive → Type 0
@@ -203,7 +203,7 @@ pub record IsRowOf (k : Keyword) (text : List ℕ) (parts : List (List ℕ)) (r 
 
 -- a `to` line has a body
 abbrev pub HasBody : Keyword → List ℕ → Type 0
-HasBody To text = (body : List ℕ) × IsBody text body
+HasBody To text = (body : List ℕ) × IsToBody text body
 HasBody word text = Unit {0}
 
 -- a line with this word is one of files of this kind

@@ -40,8 +40,8 @@ abbrev pub IsStem : List ℕ → Type 0
 IsStem stem = IsName stem × IsTrue (list_all is_ascii_alphabetic stem)
 
 -- the part is this name
-abbrev pub IsNamed : List ℕ → List ℕ → Type 0
-IsNamed part name = (part ≡ name) × IsName name
+abbrev pub IsSpelledName : List ℕ → List ℕ → Type 0
+IsSpelledName part name = (part ≡ name) × IsName name
 
 -- the part is this name of a module
 abbrev pub IsModuleNamed : List ℕ → List ℕ → Type 0
@@ -89,7 +89,7 @@ NotLexical part = (kind : LexKind) → part ≡ lex_text kind → ⊥
 
 -- the part is this name, of a sort that is not lexical
 abbrev pub IsSortName : List ℕ → List ℕ → Type 0
-IsSortName part name = IsNamed part name × NotLexical name
+IsSortName part name = IsSpelledName part name × NotLexical name
 
 -- no byte is `@`
 abbrev pub NoAt : List ℕ → Type 0
@@ -116,16 +116,16 @@ SpellsSort part (Named sort least) = IsName sort ×
 -- the name and the digits are those of this sort
 abbrev pub IsLevelled : List ℕ → List ℕ → SpelledSort → Type 0
 IsLevelled name digits (Lexical kind) = ⊥
-IsLevelled name digits (Named sort least) = IsNamed name sort ×
+IsLevelled name digits (Named sort least) = IsSpelledName name sort ×
     (number_within 99 digits ≡ Some least)
 
 -- ---- symbols
 
 -- the part spells this symbol of a production
-abbrev pub Spells : List ℕ → Symbol → Type 0
-Spells part (Lit text) = IsQuoted part text
-Spells part (Lex kind) = SpellsSort part (Lexical kind)
-Spells part (Part sort least) = SpellsSort part (Named sort least)
+abbrev pub SpellsSymbol : List ℕ → Symbol → Type 0
+SpellsSymbol part (Lit text) = IsQuoted part text
+SpellsSymbol part (Lex kind) = SpellsSort part (Lexical kind)
+SpellsSymbol part (Part sort least) = SpellsSort part (Named sort least)
 
 -- `in:`, `sub:` or `out:`
 abbrev pub role_text : Role → List ℕ

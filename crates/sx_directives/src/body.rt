@@ -3,7 +3,7 @@
 ghost use Rattle.std.specs.Prelude.{◌≡◌, ◌↔◌, IsTrue, List, ℕ, ◌++◌, codes, IfOk, MatchOption};
 ghost use Rattle.std.specs.Prelude.{MatchResult};
 ghost use Rattle.std.specs.List.{repeat};
-ghost use Rattle.sx_directives.specs.Rows.{BeginsBlank, IsBody, IsBodyText, IsCut};
+ghost use Rattle.sx_directives.specs.Rows.{BeginsBlank, IsToBody, IsBodyText, IsToCut};
 ghost use Rattle.sx_directives.specs.Spelling.{NoneIs};
 
 use crate::names::text_of;
@@ -26,8 +26,8 @@ fn begins_blank(text: &[u8]) -> bool
 /// How many bytes stand before the body of a `to` line, and the body. `None` comes exactly where
 /// the line is none: where `to` is not its first part, or no byte follows it.
 fn split_body<'a>(line: &'a [u8]) -> Option<(usize, &'a [u8])>
-    ensures { MatchOption result ((body : List ℕ) → IsBody line.entry.now body → ⊥)
-        (λ x. IsCut line.entry.now x.0 x.1.now) }
+    ensures { MatchOption result ((body : List ℕ) → IsToBody line.entry.now body → ⊥)
+        (λ x. IsToCut line.entry.now x.0 x.1.now) }
 {
     let blanks = blanks_len(line);
     let (_blanks, word) = line.split_at(blanks);
@@ -44,7 +44,7 @@ fn split_body<'a>(line: &'a [u8]) -> Option<(usize, &'a [u8])>
 
 /// Whether the line is a `to` line with a body.
 pub(crate) fn has_body(line: &[u8]) -> bool
-    ensures { IsTrue result ↔ ((body : List ℕ) × IsBody line.now body) }
+    ensures { IsTrue result ↔ ((body : List ℕ) × IsToBody line.now body) }
 {
     match split_body(line) {
         Some(_) => true,

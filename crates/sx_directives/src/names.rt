@@ -4,7 +4,7 @@ ghost use Rattle.std.specs.Prelude.{◌≡◌, MatchResult};
 ghost use Rattle.std.specs.List.{list_all};
 ghost use Rattle.std.specs.Char as char;
 ghost use Rattle.sx_directives.specs.Spelling as spec;
-ghost use Rattle.sx_directives.specs.Spelling.{IsModuleNamed, IsNamed, IsStemOf, IsQuoted};
+ghost use Rattle.sx_directives.specs.Spelling.{IsModuleNamed, IsSpelledName, IsStemOf, IsQuoted};
 ghost use Rattle.sx_directives.specs.Spelling.{IsTextOf, IsVariable, NoneIs};
 
 use crate::row_error::RowError;
@@ -33,7 +33,7 @@ pub(crate) fn text_of(alloc: Global, bytes: &[u8]) -> Result<Text, RowError>
 
 /// The name that a part is.
 pub(crate) fn name_of(alloc: Global, part: &[u8]) -> Result<Text, RowError>
-    ensures { MatchResult result (IsNamed part.now) (NoneIs (IsNamed part.now)) }
+    ensures { MatchResult result (IsSpelledName part.now) (NoneIs (IsSpelledName part.now)) }
 {
     if !is_name(true, part) {
         return Err(RowError::Shape);

@@ -2,7 +2,8 @@
 
 ghost use Rattle.std.specs.Prelude.{◌≡◌, ℕ, ◌<◌, [], ◌∷◌, length, MatchOption, IfOk, IfSome};
 ghost use Rattle.sx_lines.specs.Bytes as spec;
-ghost use Rattle.sx_directives.specs.Parts.{parts_of, texts, IsBlankFront, IsPartEnd};
+ghost use Rattle.sx_directives.specs.Parts.{parts_of, IsBlankFront, IsPartEnd};
+ghost use Rattle.sx_grammar.specs.Parts.{texts};
 
 use std::alloc::Global;
 use sx_term::NoMemory;

@@ -1,7 +1,7 @@
 //! Reading one line without a grammar.
 
 ghost use Rattle.std.specs.Prelude.{◌≡◌, ◌↔◌, IsTrue, List, ℕ, [], ◌∷◌, MatchOption, MatchResult};
-ghost use Rattle.sx_directives.specs.Parts.{texts};
+ghost use Rattle.sx_grammar.specs.Parts.{texts};
 ghost use Rattle.sx_directives.specs.Spelling.{NoneIs};
 ghost use Rattle.sx_directives.specs.Rows.{keyword_text, IsDirective, IsDirectiveOf, IsLineOf};
 ghost use Rattle.sx_directives.specs.Rows.{IsRowOf, IsRowRead};
@@ -57,7 +57,7 @@ fn directive_of(alloc: Global, keyword: Keyword, parts: &[&[u8]]) -> Result<Dire
 
 /// What a `prod` or a `var` line states. `Shape` comes exactly where the line is neither: where its
 /// first part is another word, or the parts after it are not as stated.
-pub fn read_directive(alloc: Global, line: &[u8]) -> Result<Directive, RowError>
+pub fn read_directive_row(alloc: Global, line: &[u8]) -> Result<Directive, RowError>
     ensures { MatchResult result (IsDirective line.now) (NoneIs (IsDirective line.now)) }
 {
     let parts = split_parts(alloc, line)?;

@@ -3,7 +3,7 @@
 ghost use Rattle.std.specs.Prelude.{◌≡◌, ◌↔◌, Bool, IsTrue, Some, codes, MatchOption, MatchResult};
 ghost use Rattle.sx_lines.specs.Words.{number_within};
 ghost use Rattle.sx_grammar.specs.Parts.{line};
-ghost use Rattle.sx_directives.specs.Parts.{texts};
+ghost use Rattle.sx_grammar.specs.Parts.{texts};
 ghost use Rattle.sx_directives.specs.Spelling.{NoneIs};
 ghost use Rattle.sx_directives.specs.Rows.{kind_text, AreBrackets, IsSortRow, IsProdRow, IsVarRow};
 ghost use Rattle.sx_directives.specs.Rows.{IsFormRow, IsMainRow, IsModuleRow, IsNameRow};

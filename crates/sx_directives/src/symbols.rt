@@ -2,8 +2,9 @@
 
 ghost use Rattle.std.specs.Prelude.{◌≡◌, List, ℕ, ◌++◌, MatchOption, MatchResult};
 ghost use Rattle.sx_term.specs.declared.role.Role.{Role as RoleOf};
-ghost use Rattle.sx_directives.specs.Parts.{texts};
-ghost use Rattle.sx_directives.specs.Spelling.{role_text, Spells, SpellsForm, EachSpelled, NoneIs};
+ghost use Rattle.sx_grammar.specs.Parts.{texts};
+ghost use Rattle.sx_directives.specs.Spelling.{role_text, SpellsSymbol, SpellsForm, EachSpelled};
+ghost use Rattle.sx_directives.specs.Spelling.{NoneIs};
 
 use crate::names::literal_of;
 use crate::row_error::RowError;
@@ -16,7 +17,7 @@ use sx_term::Role;
 
 /// The symbol of a production that a part spells.
 fn symbol_of(alloc: Global, part: &[u8]) -> Result<Symbol, RowError>
-    ensures { MatchResult result (Spells part.now) (NoneIs (Spells part.now)) }
+    ensures { MatchResult result (SpellsSymbol part.now) (NoneIs (SpellsSymbol part.now)) }
 {
     match literal_of(alloc, part) {
         Ok(text) => Ok(Symbol::Lit(text)),
@@ -31,8 +32,9 @@ fn symbol_of(alloc: Global, part: &[u8]) -> Result<Symbol, RowError>
 
 /// The symbols of a production that the parts spell.
 pub(crate) fn symbols_of(alloc: Global, parts: &[&[u8]]) -> Result<Vec<Symbol>, RowError>
-    ensures { MatchResult result (λ symbols. EachSpelled Spells (texts parts.now) symbols.items)
-        (NoneIs (EachSpelled Spells (texts parts.now))) }
+    ensures { MatchResult result (λ symbols. EachSpelled SpellsSymbol
+        (texts parts.now) symbols.items)
+        (NoneIs (EachSpelled SpellsSymbol (texts parts.now))) }
 {
     let mut symbols = Vec::new(alloc);
     for part in parts {

@@ -1,7 +1,7 @@
 //! Reading the names of variables.
 
 ghost use Rattle.std.specs.Prelude.{MatchResult};
-ghost use Rattle.sx_directives.specs.Parts.{texts};
+ghost use Rattle.sx_grammar.specs.Parts.{texts};
 ghost use Rattle.sx_directives.specs.Spelling.{EachSpelled, IsVariable, NoneIs};
 
 use crate::names::variable_of;

@@ -5,14 +5,14 @@ use Rattle.sx_grammar.specs.Grammar.{Grammar, Production, production_of}
 use Rattle.sx_grammar.specs.declared.head.Head.{Head}
 use Rattle.sx_grammar.specs.declared.item.Item.{Item}
 use Rattle.sx_earley.specs.declared.ask.Ask.{Ask}
-use Rattle.sx_earley.specs.Growth.{Extends}
-use Rattle.sx_earley.specs.AskSet.{hash_of, Covers, IsCovered}
+use Rattle.sx_earley.specs.Growth.{GoesOnFrom}
+use Rattle.sx_earley.specs.AskSet.{ask_hash, Covers, IsCovered}
 use Rattle.sx_slots.specs.Mixed.{mixed_with, folded}
 use Rattle.sx_earley.specs.Chart.{AllAsked, IsOfSort, beginning}
 use Rattle.sx_earley.proofs.Growth.{still_there}
 
 -- what is covered has the same hash
-pub same_hash : (x y : Ask) → Covers x y → hash_of x ≡ hash_of y
+pub same_hash : (x y : Ask) → Covers x y → ask_hash x ≡ ask_hash y
 same_hash x y h = (λ i. folded (mixed_with (h.1 i) (h.0 i)))
 
 of_more : (o : Option Production) (x y : Ask) → Covers x y → IsOfSort o y.sort y.least → IsOfSort o x.sort x.least
@@ -21,11 +21,11 @@ of_more (Some p) x y h is = (is.0 ∙ sym h.1, (let low = h.2 in let high = is.1
 
 module _ (g : Grammar) where
   -- what has been asked for stays so where the items grow
-  pub asked_on : (asked : List Ask) (old new : List Item) → Extends old new → AllAsked g asked old → AllAsked g asked new
+  pub asked_on : (asked : List Ask) (old new : List Item) → GoesOnFrom old new → AllAsked g asked old → AllAsked g asked new
   asked_on asked old new grown all ask there head fits = still_there old new (beginning head ask.place) grown (all ask there head fits)
 
   -- one more is asked for
-  pub asked_more : (asked more : List Ask) (ask : Ask) (old new : List Item) → Extends old new → AllAsked g asked old →
+  pub asked_more : (asked more : List Ask) (ask : Ask) (old new : List Item) → GoesOnFrom old new → AllAsked g asked old →
       ((head : Head) → IsOfSort (production_of g head) ask.sort ask.least → Contains new (beginning head ask.place)) →
       more ≡ asked ++ ask ∷ [] → AllAsked g more new
   asked_more asked more ask old new grown all here is other there head fits = ⊎_elim

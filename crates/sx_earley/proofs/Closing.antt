@@ -4,13 +4,18 @@ use Rattle.std.proofs.lemmas.Option.{same_Some, none-some, some_pair_parts, slic
 use Rattle.std.proofs.lemmas.Bool.{cases_lt}
 use Rattle.sx_earley.proofs.Joining.{no_item}
 use Rattle.std.proofs.lemmas.List.Elements.{Contains-push_cases, Contains-append_left, Contains-append_right, Contains-push}
-use Rattle.sx_grammar.specs.Grammar.{Symbol, literal, lexical, part, Production, Grammar, Token, production_of}
+use Rattle.sx_grammar.specs.Grammar.{Symbol, literal, lexical, part, Production, Grammar, Token}
+use Rattle.sx_grammar.specs.Grammar.{production_of}
 use Rattle.sx_grammar.specs.declared.head.Head.{Head}
 use Rattle.sx_grammar.specs.Items as items
-use Rattle.sx_grammar.specs.Items.{ReadsToken, Makes, NextIs, AtEnd, started, predicted, scanned, completed}
+use Rattle.sx_grammar.specs.Items.{ReadsToken, Makes, NextIs, AtEnd, started, predicted, scanned}
+use Rattle.sx_grammar.specs.Items.{completed}
 use Rattle.sx_grammar.specs.declared.item.Item.{Item}
-use Rattle.sx_earley.specs.Growth.{Extends, Only}
-use Rattle.sx_earley.specs.Chart.{Foresees, Follows, by_prediction, by_scanning, by_filling, by_waiting, AllFollow, Joins, ReadsNext, next_symbol, symbol_after, as_part, IsOfSort, EndsAt, IsPredicted, moved, beginning, Treated}
+use Rattle.sx_earley.specs.Growth.{GoesOnFrom, Only}
+use Rattle.sx_earley.specs.Chart.{Foresees, Follows, by_prediction, by_scanning, by_filling}
+use Rattle.sx_earley.specs.Chart.{by_waiting, AllFollow, Joins, ReadsNext, next_symbol}
+use Rattle.sx_earley.specs.Chart.{symbol_after, as_part, IsOfSort, HasDotAtEnd, IsPredicted, moved}
+use Rattle.sx_earley.specs.Chart.{beginning, Treated}
 use Rattle.sx_grammar.specs.ReadOne.{Holds}
 use Rattle.sx_earley.proofs.Growth.{still_there}
 use Rattle.sx_earley.proofs.Predicting.{there_is}
@@ -40,12 +45,12 @@ module _ (g : Grammar) where
   is_of_sort : (head : Head) (sort least : ℕ) → Makes g head sort least → IsOfSort (production_of g head) sort least
   is_of_sort head sort least m = subst (λ o. IsOfSort o sort least) (sym m.is) (m.same_sort, m.reaches)
 
-  pub ends_there : (o : Option Production) (dot : ℕ) → EndsAt o dot → (p : Production) × (o ≡ Some p) × (length p.symbols ≡ dot)
+  pub ends_there : (o : Option Production) (dot : ℕ) → HasDotAtEnd o dot → (p : Production) × (o ≡ Some p) × (length p.symbols ≡ dot)
   ends_there None dot h = absurd h
   ends_there (Some p) dot h = (p, refl, h)
 
-  pub ends_is : (head : Head) (dot : ℕ) → AtEnd g head dot → EndsAt (production_of g head) dot
-  ends_is head dot a = subst (λ o. EndsAt o dot) (sym a.1) a.2
+  pub ends_is : (head : Head) (dot : ℕ) → AtEnd g head dot → HasDotAtEnd (production_of g head) dot
+  ends_is head dot a = subst (λ o. HasDotAtEnd o dot) (sym a.1) a.2
 
   reads_there : (tokens : List Token) (o : Option Symbol) (place : ℕ) → ReadsNext tokens o place → (symbol : Symbol) × (o ≡ Some symbol) × ReadsToken tokens symbol place
   reads_there tokens None place h = absurd h
@@ -82,7 +87,7 @@ module _ (g : Grammar) (tokens : List Token) (start : ℕ) where
       subst (Holds g tokens start) (sym j.5) (join_holds j.0 j.1 (subst (Holds g tokens start) (sym j.2) h) (every j.1 j.3) j.4)
 
   -- one more item has been treated
-  pub treated_more : (done : List Item) (item : Item) (keys more : List Item) (IsBefore IsFilling : Item → Type 0) → Extends keys more → Treated g tokens done keys →
+  pub treated_more : (done : List Item) (item : Item) (keys more : List Item) (IsBefore IsFilling : Item → Type 0) → GoesOnFrom keys more → Treated g tokens done keys →
       AllFollow g tokens IsBefore IsFilling item more → ((x : Item) → Contains (done ++ item ∷ []) x → Joins g x item → IsBefore x) →
       ((x : Item) → Contains (done ++ item ∷ []) x → Joins g item x → IsFilling x) → Treated g tokens (done ++ item ∷ []) more
   treated_more done item keys more IsBefore IsFilling grown t f has_before has_filling = record {
@@ -167,7 +172,7 @@ front_on [] more n x e = absurd (none-some x e)
 front_on (y ∷ xs) more zero x e = ap (λ v. v ∷ []) (sym (same_Some y x e))
 front_on (y ∷ xs) more (suc n) x e = ap (λ v. y ∷ v) (front_on xs more n x e)
 
-pub front_more : (keys new : List Item) (n : ℕ) (x : Item) → Extends keys new → slice_get keys n ≡ Some x → take n keys ++ x ∷ [] ≡ take (n + 1) new
+pub front_more : (keys new : List Item) (n : ℕ) (x : Item) → GoesOnFrom keys new → slice_get keys n ≡ Some x → take n keys ++ x ∷ [] ≡ take (n + 1) new
 front_more keys new n x grown e = rw (add-one, grown.1) (front_on keys grown.0 n x e)
 
 -- where there is no element, the list has ended

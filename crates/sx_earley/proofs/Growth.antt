@@ -1,14 +1,14 @@
 use Rattle.std.proofs.Common.{length, ◌≤◌, arith, length-append, Result, Ok, Err, OnOk, ◌≡◌, List, [], ◌++◌, inl, inr, ⊎_elim, sym, subst, ap, ◌∙◌, append_assoc, append-nil, Contains}
 use Rattle.std.proofs.lemmas.List.Elements.{Contains-append_left}
-use Rattle.sx_earley.specs.Growth.{Extends, Only}
+use Rattle.sx_earley.specs.Growth.{GoesOnFrom, Only}
 
-pub extends_self : {X : Type 0} (xs : List X) → Extends xs xs
+pub extends_self : {X : Type 0} (xs : List X) → GoesOnFrom xs xs
 extends_self xs = ([], sym (append-nil xs))
 
-pub extends_on : {X : Type 0} (a b c : List X) → Extends a b → Extends b c → Extends a c
+pub extends_on : {X : Type 0} (a b c : List X) → GoesOnFrom a b → GoesOnFrom b c → GoesOnFrom a c
 extends_on a b c h k = (h.0 ++ k.0, k.1 ∙ (ap (λ l. l ++ k.0) h.1 ∙ append_assoc a h.0 k.0))
 
-pub still_there : {X : Type 0} (a b : List X) (x : X) → Extends a b → Contains a x → Contains b x
+pub still_there : {X : Type 0} (a b : List X) (x : X) → GoesOnFrom a b → Contains a x → Contains b x
 still_there a b x h there = subst (λ l. Contains l x) (sym h.1) (Contains-append_left a h.0 x there)
 
 pub only_more : {X : Type 0} (a b : List X) (P Q : X → Type 0) → ((i : X) → P i → Q i) → Only a b P → Only a b Q
@@ -22,5 +22,5 @@ pub ok_then : {T E : Type 0} (r : Result T E) (P Q : Type 0) → OnOk r P → (P
 ok_then (Ok x) P Q h f = f h
 ok_then (Err e) P Q h f = h
 
-pub longer : {X : Type 0} (a b : List X) → Extends a b → length a ≤ length b
+pub longer : {X : Type 0} (a b : List X) → GoesOnFrom a b → length a ≤ length b
 longer a b h = let e : length b ≡ length (a ++ h.0) = ap length h.1 in omega (arith, length-append a h.0)

@@ -6,10 +6,11 @@ use Rattle.std.proofs.lemmas.List.{get_or_append_left, get_or_push}
 use Rattle.std.proofs.lemmas.List.Elements.{Contains-push_cases}
 use Rattle.sx_grammar.specs.Grammar.{Grammar, Production, production_of}
 use Rattle.sx_grammar.specs.declared.item.Item.{Item}
-use Rattle.sx_earley.specs.Growth.{Extends}
-use Rattle.sx_earley.specs.Chart.{IsOfSort, EndsAt, sort_made, as_part, symbol_after, Joins}
+use Rattle.sx_earley.specs.Growth.{GoesOnFrom}
+use Rattle.sx_earley.specs.Chart.{IsOfSort, HasDotAtEnd, sort_made, as_part, symbol_after, Joins}
 use Rattle.sx_earley.specs.Dotted.{WaitsFor, HasMade}
-use Rattle.sx_earley.specs.Keys.{waiting_key, complete_key, before_key, filling_key, own_key, IsKey, of_waiting, of_complete, IsAddedTo, AreWithin, IsFiled, IsKeyed}
+use Rattle.sx_earley.specs.Keys.{waiting_key, complete_key, before_key, filling_key, own_key, IsKey}
+use Rattle.sx_earley.specs.Keys.{of_waiting, of_complete, IsAddedTo, AreWithin, IsFiled, IsKeyed}
 use Rattle.sx_earley.specs.declared.filed.Filed.{Filed}
 use Rattle.std.proofs.lemmas.Bool.{cases_lt}
 use Rattle.sx_earley.proofs.Closing.{part_is, there_at}
@@ -21,7 +22,7 @@ makes_sort None sort least h = absurd h
 makes_sort (Some p) sort least h = ap (λ s. Some s) h.0
 
 -- where a part stands after the dot, it is not at the end
-not_ended : (o : Option Production) (dot sort least : ℕ) → as_part (symbol_after o dot) ≡ Some (sort, least) → EndsAt o dot → ⊥
+not_ended : (o : Option Production) (dot sort least : ℕ) → as_part (symbol_after o dot) ≡ Some (sort, least) → HasDotAtEnd o dot → ⊥
 not_ended None dot sort least e h = absurd h
 not_ended (Some p) dot sort least e h =
     let low : dot < length p.symbols = slice_get_within p.symbols dot _ (part_is (slice_get p.symbols dot) sort least e) in
@@ -120,11 +121,11 @@ within_longer filed bound wider le w = record {
 }
 
 -- items keep their numbers
-pub keyed_later : (old new : List Item) (filed : Filed) (key : Option ℕ) (x : Item) → Extends old new → IsKeyed old filed key x → IsKeyed new filed key x
+pub keyed_later : (old new : List Item) (filed : Filed) (key : Option ℕ) (x : Item) → GoesOnFrom old new → IsKeyed old filed key x → IsKeyed new filed key x
 keyed_later old new filed None x grown h = absurd h
 keyed_later old new filed (Some key) x grown h = (h.0, h.1, h.2, got_later old new (get_or filed.numbers.items h.0 0) x grown h.3)
 
-pub keyed_earlier : (old new : List Item) (filed : Filed) (key : Option ℕ) (x : Item) → Extends old new → AreWithin filed (length old) → IsKeyed new filed key x → IsKeyed old filed key x
+pub keyed_earlier : (old new : List Item) (filed : Filed) (key : Option ℕ) (x : Item) → GoesOnFrom old new → AreWithin filed (length old) → IsKeyed new filed key x → IsKeyed old filed key x
 keyed_earlier old new filed None x grown w h = absurd h
 keyed_earlier old new filed (Some key) x grown w h =
     (h.0, h.1, h.2, got_earlier old new (get_or filed.numbers.items h.0 0) x grown (w.within h.0 h.1) h.3)
@@ -133,5 +134,5 @@ pub keyed_there : (items : List Item) (filed : Filed) (key : Option ℕ) (x : It
 keyed_there items filed None x h = absurd h
 keyed_there items filed (Some key) x h = there_at items (get_or filed.numbers.items h.0 0) x h.3
 
-pub filed_later : (g : Grammar) (old new : List Item) (filed : Filed) (x : Item) → Extends old new → IsFiled g old filed x → IsFiled g new filed x
+pub filed_later : (g : Grammar) (old new : List Item) (filed : Filed) (x : Item) → GoesOnFrom old new → IsFiled g old filed x → IsFiled g new filed x
 filed_later g old new filed x grown f = λ key k. keyed_later old new filed (Some key) x grown (f key k)

@@ -10,11 +10,14 @@ use Rattle.sx_grammar.specs.declared.symbol.Symbol.{Symbol as NamedSymbol}
 use Rattle.sx_grammar.specs.declared.symbol.Symbol.TheVariants.{Lit, Lex, Part}
 use Rattle.sx_grammar.specs.declared.head.Head.{Head}
 use Rattle.sx_grammar.specs.declared.head.Head.TheVariants.{Labelled, Bracketed}
-use Rattle.sx_grammar.specs.Grammar.{Text, Grammar, Production, SortLine, literal, part, brackets_of, bracket_production}
+use Rattle.sx_grammar.specs.Grammar.{Text, Grammar, Production, SortLine, literal, part}
+use Rattle.sx_grammar.specs.Grammar.{brackets_of, bracket_production}
 use Rattle.sx_grammar.specs.Items.{NextIs}
-use Rattle.sx_grammar.specs.Parts.{Parts, names, literals, symbol_literals, bracket_literals, numbered, numbered_symbol, numbered_line, numbered_sort, numbered_pair}
+use Rattle.sx_grammar.specs.Parts.{Parts, names, literals, symbol_literals, bracket_literals}
+use Rattle.sx_grammar.specs.Parts.{numbered, numbered_symbol, numbered_line, numbered_sort}
+use Rattle.sx_grammar.specs.Parts.{numbered_pair}
 use Rattle.sx_grammar.specs.Made.{IsGrammar}
-use Rattle.sx_grammar.specs.Known.{IsAmong}
+use Rattle.sx_grammar.specs.Known.{IsTextAmong}
 use Rattle.sx_grammar.specs.Tables.{literals_of}
 use Rattle.sx_grammar.proofs.Finding.{at_contains, is_head, past_head, mapped_at, in_flat_map}
 use Rattle.sx_grammar.proofs.DistinctLaws.{distinct_has, distinct_from}
@@ -66,7 +69,7 @@ module _ (p : Parts) where
   of_head (Bracketed sort) dot text next = of_pair sort dot next.0 text (slice_get (map numbered_sort p.sorts) sort) refl next.1 next.2
 
   -- a literal of the grammar is among its literals
-  pub own_literal : (text : Text) → HasLiteral (numbered p) text → IsAmong (literals_of p) text
+  pub own_literal : (text : Text) → HasLiteral (numbered p) text → IsTextAmong (literals_of p) text
   own_literal text has = distinct_has (literals p) text (of_head has.0 has.1 text has.2)
 
 no_word : IsWordLiteral [] → ⊥

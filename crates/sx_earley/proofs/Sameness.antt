@@ -8,7 +8,8 @@ use Rattle.sx_term.specs.declared.mark.Mark.{Mark}
 use Rattle.sx_term.specs.declared.mark.Mark.TheVariants as marks
 use Rattle.sx_token.specs.declared.token.Token.{Token as Piece}
 use Rattle.sx_grammar.specs.Grammar as plain
-use Rattle.sx_grammar.specs.Grammar.{Text, Grammar, Symbol, literal, lexical, part, Token, is_literal, is_lexeme, is_variable, of_kind, of_sort}
+use Rattle.sx_grammar.specs.Grammar.{Text, Grammar, Symbol, literal, lexical, part, Token}
+use Rattle.sx_grammar.specs.Grammar.{is_literal, is_lexeme, is_variable, of_kind, of_sort}
 use Rattle.sx_grammar.specs.Reading.{Marked, IsLiteral}
 use Rattle.sx_grammar.specs.Items as items
 use Rattle.sx_grammar.specs.Items.{NextIs, ReadsToken, started, predicted, scanned, completed}
@@ -21,9 +22,10 @@ use Rattle.sx_earley.specs.declared.span.Span.{Span}
 use Rattle.sx_earley.specs.Completed.{IsChart, head_of}
 use Rattle.sx_earley.specs.declared.shown.Shown.{Shown}
 use Rattle.sx_earley.specs.declared.shown.Shown.TheVariants.{Lit, Lex, Kind, Sort as OfSort, Other}
-use Rattle.sx_earley.specs.Shown.{plain as plain_of, texts, token_of, tokens_of, AreBelow}
-use Rattle.sx_earley.specs.Tokens.{Stems, stem_of, sort_of, found_stem, shown, plain_tokens}
-use Rattle.sx_earley.specs.Showing.{Shows, AllShow, IsLiteralShown, shown_stem}
+use Rattle.sx_earley.specs.Shown.{plain as plain_of, literal_texts, token_of, tokens_of, ShownBelow}
+use Rattle.sx_earley.specs.Tokens.{Stems, meta_stem, stem_sort, found_stem, read_token}
+use Rattle.sx_earley.specs.Tokens.{plain_tokens}
+use Rattle.sx_earley.specs.Showing.{TokenShows, AllShow, IsLiteralShown, shown_stem}
 use Rattle.sx_earley.proofs.Pairs.{got_at}
 use Rattle.sx_earley.proofs.Literals.{HasLiteral, own_literal, none_empty}
 
@@ -128,11 +130,11 @@ module _ (p : Parts) (is : IsGrammar p) where
   literal_shown text (OfSort sort) h = absurd h
   literal_shown text Other none = (refl, λ e. inr ((λ has. own_literal p [] has (none_empty p is)), (λ has. own_literal p text has none)))
 
-  token_same : (stems : Stems) (m : Mark) (text : Text) (s : Shown) → Shows (literals_of p) stems m text s → Same (numbered p) (token_of (literals_of p) s) (shown stems m text)
+  token_same : (stems : Stems) (m : Mark) (text : Text) (s : Shown) → TokenShows (literals_of p) stems m text s → Same (numbered p) (token_of (literals_of p) s) (read_token stems m text)
   token_same stems (marks.Lit n) text s h = literal_shown text s h
   token_same stems (marks.Lex kind) text s h = subst (λ (x : Shown). Same (numbered p) (token_of (literals_of p) x) (record { mark = is_lexeme kind; text = text })) (sym h) (refl, λ e. absurd cc)
   token_same stems marks.Meta text s h =
-      let o = sort_of stems (stem_of text) in
+      let o = stem_sort stems (meta_stem text) in
       subst (λ (x : Shown). Same (numbered p) (token_of (literals_of p) x) (record { mark = is_variable (found_stem o); text = text })) (sym h) (variable_same (numbered p) (literals_of p) o text)
 
   each_same : (stems : Stems) (ts : List Piece) (ss : List Shown) → AllShow (literals_of p) stems ts ss → AllSame (numbered p) (map (token_of (literals_of p)) ss) (plain_tokens stems ts)
@@ -142,7 +144,7 @@ module _ (p : Parts) (is : IsGrammar p) where
   each_same stems (t ∷ ts) (s ∷ ss) h = (token_same stems t.mark t.text s h.0, each_same stems ts ss h.1)
 
 -- what is shown is read as the tokens are
-pub shown_same : (d : GrammarData) → IsGrammar d.parts → (stems : Stems) (ts : List Piece) (ss : List Shown) → AllShow (texts d) stems ts ss → AllSame (plain_of d) (tokens_of d ss) (plain_tokens stems ts)
+pub shown_same : (d : GrammarData) → IsGrammar d.parts → (stems : Stems) (ts : List Piece) (ss : List Shown) → AllShow (literal_texts d) stems ts ss → AllSame (plain_of d) (tokens_of d ss) (plain_tokens stems ts)
 shown_same d is stems ts ss h = each_same d.parts is stems ts ss h
 
 -- each token shows one thing
@@ -158,16 +160,16 @@ no_literal (Some (sorts.Lex kind)) n e = absurd cc
 no_literal (Some (sorts.Plain m)) n e = absurd cc
 no_literal (Some (sorts.Typed m)) n e = absurd cc
 
-one_below : (literals : List Text) (stems : Stems) (m : Mark) (text : Text) (n : ℕ) → Shows literals stems m text (Lit n) → n < length literals
+one_below : (literals : List Text) (stems : Stems) (m : Mark) (text : Text) (n : ℕ) → TokenShows literals stems m text (Lit n) → n < length literals
 one_below literals stems (marks.Lit k) text n at = slice_get_within literals n text at
 one_below literals stems (marks.Lex kind) text n e = absurd cc
-one_below literals stems marks.Meta text n e = absurd (no_literal (sort_of stems (stem_of text)) n (sym e))
+one_below literals stems marks.Meta text n e = absurd (no_literal (stem_sort stems (meta_stem text)) n (sym e))
 
 -- the numbers of literals that are shown are those of literals
-pub shown_below : (literals : List Text) (stems : Stems) (ts : List Piece) (ss : List Shown) → AllShow literals stems ts ss → AreBelow (length literals) ss
+pub shown_below : (literals : List Text) (stems : Stems) (ts : List Piece) (ss : List Shown) → AllShow literals stems ts ss → ShownBelow (length literals) ss
 shown_below literals stems [] [] h k n at = absurd (none-some (Lit n) at)
 shown_below literals stems [] (s ∷ ss) h k n at = absurd h
 shown_below literals stems (t ∷ ts) [] h k n at = absurd h
 shown_below literals stems (t ∷ ts) (s ∷ ss) h zero n at =
-    one_below literals stems t.mark t.text n (subst (Shows literals stems t.mark t.text) (same_Some s (Lit n) at) h.0)
+    one_below literals stems t.mark t.text n (subst (TokenShows literals stems t.mark t.text) (same_Some s (Lit n) at) h.0)
 shown_below literals stems (t ∷ ts) (s ∷ ss) h (suc k) n at = shown_below literals stems ts ss h.1 k n at

@@ -14,8 +14,9 @@ use Rattle.sx_grammar.specs.ReadOne.{Holds, IsGreatestEnd}
 use Rattle.sx_earley.specs.declared.span.Span.{Span}
 use Rattle.sx_earley.specs.declared.span.SpanOf.{SpanOf}
 use Rattle.sx_earley.specs.declared.span.SpanOf.TheVariants.{Node, Bracket}
-use Rattle.sx_earley.specs.Chart.{EndsAt}
-use Rattle.sx_earley.specs.Completed.{head_of, of_head, span_of, IsChart, AreSpans, Adds, IsReach}
+use Rattle.sx_earley.specs.Chart.{HasDotAtEnd}
+use Rattle.sx_earley.specs.Completed.{head_of, of_head, span_of, IsChart, AreSpans, AddsSpan}
+use Rattle.sx_earley.specs.Completed.{IsReach}
 use Rattle.sx_earley.proofs.Growth.{extends_self}
 use Rattle.sx_earley.proofs.Closing.{front_more, there_at, ends_there, ends_is, nothing_in}
 
@@ -34,15 +35,15 @@ of_again : (o : SpanOf) → of_head (head_of o) ≡ o
 of_again (Node label) = refl
 of_again (Bracket sort) = refl
 
-same_ends : (o : Option Production) (a b : ℕ) → EndsAt o a → EndsAt o b → a ≡ b
+same_ends : (o : Option Production) (a b : ℕ) → HasDotAtEnd o a → HasDotAtEnd o b → a ≡ b
 same_ends None a b h k = absurd h
 same_ends (Some p) a b h k = sym h ∙ k
 
 -- a complete item is the only one with its span
-same_item : (g : Grammar) (i j : Item) → EndsAt (production_of g i.head) i.dot → EndsAt (production_of g j.head) j.dot → span_of i ≡ span_of j → i ≡ j
+same_item : (g : Grammar) (i j : Item) → HasDotAtEnd (production_of g i.head) i.dot → HasDotAtEnd (production_of g j.head) j.dot → span_of i ≡ span_of j → i ≡ j
 same_item g i j h k e =
     let heads : i.head ≡ j.head = sym (head_again i.head) ∙ ap (λ s. head_of s.of) e ∙ head_again j.head in
-    let dots : i.dot ≡ j.dot = same_ends (production_of g j.head) i.dot j.dot (subst (λ x. EndsAt (production_of g x) i.dot) heads h) k in
+    let dots : i.dot ≡ j.dot = same_ends (production_of g j.head) i.dot j.dot (subst (λ x. HasDotAtEnd (production_of g x) i.dot) heads h) k in
     λ t. record { head = heads t; dot = dots t; origin = (e t).from; end = (e t).to }
 
 among_at : (xs : List Item) (n : ℕ) (y : Item) → slice_get xs n ≡ Some y → Among y xs
@@ -94,7 +95,7 @@ no_spans g keys spans no_keys none = record {
 
 -- one more item
 pub spans_on : (g : Grammar) (keys : List Item) (n : ℕ) (item : Item) (old new : List Span) → EachOnce keys → slice_get keys n ≡ Some item →
-    AreSpans g (take n keys) old → Adds g item old new → AreSpans g (take (n + 1) keys) new
+    AreSpans g (take n keys) old → AddsSpan g item old new → AreSpans g (take (n + 1) keys) new
 spans_on g keys n item old new distinct at spans adds = by adds
   where
     front : take n keys ++ item ∷ [] ≡ take (n + 1) keys
@@ -106,25 +107,25 @@ spans_on g keys n item old new distinct at spans adds = by adds
     here : Contains (take (n + 1) keys) item
     here = subst (λ l. Contains l item) front (Contains-push (take n keys) item)
 
-    old_only : (s : Span) → Contains old s → (i : Item) × Contains (take (n + 1) keys) i × EndsAt (production_of g i.head) i.dot × (s ≡ span_of i)
+    old_only : (s : Span) → Contains old s → (i : Item) × Contains (take (n + 1) keys) i × HasDotAtEnd (production_of g i.head) i.dot × (s ≡ span_of i)
     old_only s there = let o = spans.only s there in (o.0, grown o.0 o.1, o.2, o.3)
 
-    not_there : EndsAt (production_of g item.head) item.dot → Among (span_of item) old → ⊥
+    not_there : HasDotAtEnd (production_of g item.head) item.dot → Among (span_of item) old → ⊥
     not_there ends among =
         let o = spans.only (span_of item) (among_there (span_of item) old among) in
         let same : o.0 ≡ item = sym (same_item g item o.0 ends o.2 o.3) in
         fresh keys n item distinct at (subst (Contains (take n keys)) same o.1)
 
-    by : Adds g item old new → AreSpans g (take (n + 1) keys) new
+    by : AddsSpan g item old new → AreSpans g (take (n + 1) keys) new
     by (inl (ends, e)) = subst (AreSpans g (take (n + 1) keys)) (sym e) (record {
       only = λ s there. ⊎_elim (λ was. old_only s was) (λ is. (item, here, ends, sym is)) (Contains-push_cases old (span_of item) s there);
-      every = one_on keys n item (λ i. EndsAt (production_of g i.head) i.dot → Contains (old ++ span_of item ∷ []) (span_of i)) at
+      every = one_on keys n item (λ i. HasDotAtEnd (production_of g i.head) i.dot → Contains (old ++ span_of item ∷ []) (span_of i)) at
           (λ i there k. Contains-append_left old (span_of item ∷ []) (span_of i) (spans.every i there k)) (λ k. Contains-push old (span_of item));
       once = once_push old (span_of item) spans.once (not_there ends);
     })
     by (inr (not, e)) = subst (AreSpans g (take (n + 1) keys)) (sym e) (record {
       only = old_only;
-      every = one_on keys n item (λ i. EndsAt (production_of g i.head) i.dot → Contains old (span_of i)) at (λ i there k. spans.every i there k) (λ k. absurd (not k));
+      every = one_on keys n item (λ i. HasDotAtEnd (production_of g i.head) i.dot → Contains old (span_of i)) at (λ i there k. spans.every i there k) (λ k. absurd (not k));
       once = spans.once;
     })
 

@@ -3,7 +3,7 @@ use Rattle.std.proofs.Common.{◌≡◌, subst, ℕ, ◌+◌, List, [], ◌∷�
 use Rattle.std.specs.List.{slice_get}
 use Rattle.sx_grammar.specs.Grammar.{Grammar, Token}
 use Rattle.sx_grammar.specs.declared.item.Item.{Item}
-use Rattle.sx_earley.specs.Growth.{Extends, Only}
+use Rattle.sx_earley.specs.Growth.{GoesOnFrom, Only}
 use Rattle.sx_earley.specs.Chart.{Follows, AllFollow, Treated, AllHold, Joins}
 use Rattle.sx_earley.specs.Keys.{IsKey, IsAddedTo, IsFiled, IsKeyed}
 use Rattle.sx_earley.specs.declared.filed.Filed.{Filed}
@@ -36,7 +36,7 @@ module _ (g : Grammar) (tokens : List Token) (start : ℕ) (items : List Item) (
     turn_holds only = more_hold g tokens start items new (IsKeyed items more before) (IsKeyed items more filling) item t.sound (t.sound item here)
         (λ x is. t.sound x (keyed_there items more before x is)) (λ x is. t.sound x (keyed_there items more filling x is)) only
 
-    module _ (grown : Extends items new) where
+    module _ (grown : GoesOnFrom items new) where
       step : take next items ++ item ∷ [] ≡ take (next + 1) new
       step = front_more items new next item grown t.at
 

@@ -7,9 +7,9 @@ use Rattle.sx_grammar.specs.Tables.{GrammarData}
 use Rattle.sx_grammar.specs.declared.item.Item.{Item}
 use Rattle.sx_grammar.specs.declared.numbered.NumberedSymbol.{NumberedSymbol}
 use Rattle.sx_grammar.specs.declared.numbered.NumberedSymbol.TheVariants.{Lit, Lex, Part}
-use Rattle.sx_earley.specs.Shown.{plain, texts}
-use Rattle.sx_earley.specs.Chart.{as_part, symbol_after, EndsAt}
-use Rattle.sx_earley.specs.Dotted.{IsNext, WaitsFor, HasMade}
+use Rattle.sx_earley.specs.Shown.{plain, literal_texts}
+use Rattle.sx_earley.specs.Chart.{as_part, symbol_after, HasDotAtEnd}
+use Rattle.sx_earley.specs.Dotted.{IsNextSymbol, WaitsFor, HasMade}
 
 -- where the symbol is a part, what holds where there is a symbol
 some_part : (P : Type 0) (literals : List Text) (next : Option NumberedSymbol) (part : Option (ℕ × ℕ)) → part ≡ as_part (option_map (symbol literals) next) →
@@ -20,14 +20,14 @@ some_part P literals (Some (Lex kind)) part e h = subst (λ (o : Option (ℕ × 
 some_part P literals (Some (Part sort least)) part e h = subst (λ (o : Option (ℕ × ℕ)). IfSome o (λ _. P)) (sym e) h
 
 -- the part of the symbol after the dot is what the item waits for
-pub waits_for : (d : GrammarData) (item : Item) (next : Option NumberedSymbol) (part : Option (ℕ × ℕ)) → IsNext d item next →
+pub waits_for : (d : GrammarData) (item : Item) (next : Option NumberedSymbol) (part : Option (ℕ × ℕ)) → IsNextSymbol d item next →
     ((literals : List Text) → part ≡ as_part (option_map (symbol literals) next)) → WaitsFor (plain d) item part
 waits_for d item next part is by = record {
-  is = by (texts d) ∙ ap as_part is.is;
-  small = some_part (item.dot < 2 ^ 63) (texts d) next part (by (texts d)) is.small;
+  is = by (literal_texts d) ∙ ap as_part is.is;
+  small = some_part (item.dot < 2 ^ 63) (literal_texts d) next part (by (literal_texts d)) is.small;
 }
 
-not_at_end : (o : Option Production) (dot : ℕ) (s : Symbol) → symbol_after o dot ≡ Some s → EndsAt o dot → ⊥
+not_at_end : (o : Option Production) (dot : ℕ) (s : Symbol) → symbol_after o dot ≡ Some s → HasDotAtEnd o dot → ⊥
 not_at_end None dot s e h = absurd h
 not_at_end (Some p) dot s e h =
     let low : dot < length p.symbols = slice_get_within p.symbols dot s e in
@@ -35,6 +35,6 @@ not_at_end (Some p) dot s e h =
     absurd (omega arith)
 
 -- where a symbol stands after the dot, the item is not complete
-pub none_made : (d : GrammarData) (item : Item) (next : Option NumberedSymbol) (x : NumberedSymbol) → IsNext d item next → next ≡ Some x → HasMade (plain d) item None
-none_made d item next x is some = λ sort ends made. absurd (not_at_end (production_of (plain d) item.head) item.dot (symbol (texts d) x)
-    (sym is.is ∙ ap (option_map (symbol (texts d))) some) ends)
+pub none_made : (d : GrammarData) (item : Item) (next : Option NumberedSymbol) (x : NumberedSymbol) → IsNextSymbol d item next → next ≡ Some x → HasMade (plain d) item None
+none_made d item next x is some = λ sort ends made. absurd (not_at_end (production_of (plain d) item.head) item.dot (symbol (literal_texts d) x)
+    (sym is.is ∙ ap (option_map (symbol (literal_texts d))) some) ends)

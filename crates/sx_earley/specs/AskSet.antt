@@ -4,8 +4,8 @@ use Rattle.sx_slots.specs.Mixed.{mixed_with, folded}
 use Rattle.sx_earley.specs.declared.ask.Ask.{Ask}
 
 -- the hash of what is asked for at any level
-abbrev pub hash_of : Ask → ℕ
-hash_of ask = folded (mixed_with ask.sort ask.place)
+abbrev pub ask_hash : Ask → ℕ
+ask_hash ask = folded (mixed_with ask.sort ask.place)
 
 -- what begins for the second begins for the first
 abbrev pub Covers : Ask → Ask → Type 0

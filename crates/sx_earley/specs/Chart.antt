@@ -33,9 +33,9 @@ ReadsNext tokens None place = ⊥
 ReadsNext tokens (Some symbol) place = ReadsToken tokens symbol place
 
 -- the dot stands after the production's last symbol
-abbrev pub EndsAt : Option Production → ℕ → Type 0
-EndsAt None dot = ⊥
-EndsAt (Some p) dot = length p.symbols ≡ dot
+abbrev pub HasDotAtEnd : Option Production → ℕ → Type 0
+HasDotAtEnd None dot = ⊥
+HasDotAtEnd (Some p) dot = length p.symbols ≡ dot
 
 -- the production is of the sort and at least of the level
 abbrev pub IsOfSort : Option Production → ℕ → ℕ → Type 0
@@ -63,7 +63,7 @@ pub record Joins (g : Grammar) (before filling : Item) : Type 0 where
   pub least : ℕ
   pub waits : as_part (next_symbol g before.head before.dot) ≡ Some (sort, least)
   pub fits : IsOfSort (production_of g filling.head) sort least
-  pub complete : EndsAt (production_of g filling.head) filling.dot
+  pub complete : HasDotAtEnd (production_of g filling.head) filling.dot
   pub meets : before.end ≡ filling.origin
 
 -- the item with its dot one greater, up to this end

@@ -14,7 +14,7 @@ use Rattle.sx_grammar.specs.declared.item.Item.{Item}
 use Rattle.sx_earley.specs.declared.span.Span.{Span}
 use Rattle.sx_earley.specs.declared.span.SpanOf.{SpanOf}
 use Rattle.sx_earley.specs.declared.span.SpanOf.TheVariants.{Node, Bracket}
-use Rattle.sx_earley.specs.Chart.{EndsAt}
+use Rattle.sx_earley.specs.Chart.{HasDotAtEnd}
 
 -- a chart as plain data
 pub record ChartData : Type 0 where
@@ -28,10 +28,10 @@ IsSort p (Plain n) = (n < length p.sorts) × (is_typed (slice_get p.sorts n) ≡
 IsSort p (Typed n) = (n < length p.sorts) × (is_typed (slice_get p.sorts n) ≡ true)
 
 -- its number; a lexical kind has none
-abbrev pub number_of : Sort → ℕ
-number_of (Lex kind) = 0
-number_of (Plain n) = n
-number_of (Typed n) = n
+abbrev pub sort_number : Sort → ℕ
+sort_number (Lex kind) = 0
+sort_number (Plain n) = n
+sort_number (Typed n) = n
 
 -- what the span is of
 abbrev pub head_of : SpanOf → Head
@@ -54,15 +54,15 @@ span_of i = record { of = of_head i.head; from = i.origin; to = i.end }
 -- the spans are those of the complete items of the list, each once
 pub record AreSpans (g : Grammar) (keys : List Item) (spans : List Span) : Type 0 where
   pub only : (s : Span) → Contains spans s →
-      (i : Item) × Contains keys i × EndsAt (production_of g i.head) i.dot × (s ≡ span_of i)
-  pub every : (i : Item) → Contains keys i → EndsAt (production_of g i.head) i.dot →
+      (i : Item) × Contains keys i × HasDotAtEnd (production_of g i.head) i.dot × (s ≡ span_of i)
+  pub every : (i : Item) → Contains keys i → HasDotAtEnd (production_of g i.head) i.dot →
       Contains spans (span_of i)
   pub once : EachOnce spans
 
 -- the span of the item is added, if the item is complete
-abbrev pub Adds : Grammar → Item → List Span → List Span → Type 0
-Adds g item old new = (EndsAt (production_of g item.head) item.dot ×
-    (new ≡ old ++ span_of item ∷ [])) ⊎ ((EndsAt (production_of g item.head) item.dot → ⊥) ×
+abbrev pub AddsSpan : Grammar → Item → List Span → List Span → Type 0
+AddsSpan g item old new = (HasDotAtEnd (production_of g item.head) item.dot ×
+    (new ≡ old ++ span_of item ∷ [])) ⊎ ((HasDotAtEnd (production_of g item.head) item.dot → ⊥) ×
     (new ≡ old))
 
 -- no item of the list ends later

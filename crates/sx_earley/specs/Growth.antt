@@ -2,8 +2,8 @@
 use Rattle.std.specs.Prelude.{◌≡◌, ◌⊎◌, List, ◌++◌, Contains}
 
 -- the new list begins with the old one
-abbrev pub Extends : {X : Type 0} → List X → List X → Type 0
-Extends {X} old new = (more : List X) × (new ≡ old ++ more)
+abbrev pub GoesOnFrom : {X : Type 0} → List X → List X → Type 0
+GoesOnFrom {X} old new = (more : List X) × (new ≡ old ++ more)
 
 -- what is new in the list has the property
 abbrev pub Only : {X : Type 0} → List X → List X → (X → Type 0) → Type 0

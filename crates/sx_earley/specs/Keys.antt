@@ -5,7 +5,7 @@ use Rattle.sx_slots.specs.Mixed.{mixed_with, folded}
 use Rattle.sx_grammar.specs.declared.item.Item.{Item}
 use Rattle.sx_grammar.specs.Grammar.{Grammar, production_of}
 use Rattle.sx_earley.specs.declared.filed.Filed.{Filed}
-use Rattle.sx_earley.specs.Chart.{next_symbol, as_part, EndsAt, sort_made}
+use Rattle.sx_earley.specs.Chart.{next_symbol, as_part, HasDotAtEnd, sort_made}
 
 -- the key of items that wait at the place for a part of the sort
 abbrev pub waiting_key : ℕ → ℕ → ℕ
@@ -29,7 +29,7 @@ filling_key item (Some part) = Some (complete_key item.end part.0)
 pub data IsKey (g : Grammar) (item : Item) (key : ℕ) : Type 0 where
   of_waiting : (sort least : ℕ) → as_part (next_symbol g item.head item.dot) ≡ Some (sort, least) →
       key ≡ waiting_key item.end sort → IsKey g item key
-  of_complete : (sort : ℕ) → EndsAt (production_of g item.head) item.dot →
+  of_complete : (sort : ℕ) → HasDotAtEnd (production_of g item.head) item.dot →
       sort_made (production_of g item.head) ≡ Some sort → key ≡ complete_key item.origin sort →
       IsKey g item key
 

@@ -12,12 +12,12 @@ use Rattle.sx_grammar.specs.Grammar.{Text}
 use Rattle.sx_earley.specs.declared.shown.Shown.{Shown}
 use Rattle.sx_earley.specs.declared.shown.Shown.TheVariants.{Lit, Lex, Kind, Sort as OfSort, Other}
 use Rattle.sx_earley.specs.declared.stem_table.StemTable.{StemTable}
-use Rattle.sx_earley.specs.Tokens.{Stems, sort_of, stem_of}
+use Rattle.sx_earley.specs.Tokens.{Stems, stem_sort, meta_stem}
 
 -- the look-up finds the sort of each stem
 abbrev pub IsStems : Stems → StemTable → Type 0
 IsStems stems table = (text : Text) → get_by (λ k. bytes_eq text k.now) table.sorts
-    ≡ sort_of stems text
+    ≡ stem_sort stems text
 
 -- what a metavariable shows whose stem has this sort
 abbrev pub shown_stem : Option Sort → Shown
@@ -33,14 +33,15 @@ IsLiteralShown literals text Other = ¬ (Contains literals text)
 IsLiteralShown literals text _ = ⊥
 
 -- a token with this mark and text shows this
-abbrev pub Shows : List Text → Stems → Mark → Text → Shown → Type 0
-Shows literals stems (marks.Lit n) text shown = IsLiteralShown literals text shown
-Shows literals stems (marks.Lex kind) text shown = shown ≡ Lex kind
-Shows literals stems marks.Meta text shown = shown ≡ shown_stem (sort_of stems (stem_of text))
+abbrev pub TokenShows : List Text → Stems → Mark → Text → Shown → Type 0
+TokenShows literals stems (marks.Lit n) text shown = IsLiteralShown literals text shown
+TokenShows literals stems (marks.Lex kind) text shown = shown ≡ Lex kind
+TokenShows literals stems marks.Meta text shown = shown ≡ shown_stem (stem_sort stems
+    (meta_stem text))
 
 -- the tokens show these, one after another
 abbrev pub AllShow : List Text → Stems → List Token → List Shown → Type 0
 AllShow literals stems [] [] = Unit {0}
-AllShow literals stems (t ∷ ts) (s ∷ shown) = Shows literals stems t.mark t.text s ×
+AllShow literals stems (t ∷ ts) (s ∷ shown) = TokenShows literals stems t.mark t.text s ×
     AllShow literals stems ts shown
 AllShow literals stems _ _ = ⊥

@@ -15,8 +15,8 @@ abbrev pub plain : GrammarData → Grammar
 plain d = numbered d.parts
 
 -- its literals
-abbrev pub texts : GrammarData → List Text
-texts d = literals_of d.parts
+abbrev pub literal_texts : GrammarData → List Text
+literal_texts d = literals_of d.parts
 
 -- the token that is shown; only a literal's text is read, and no literal of a grammar is empty
 abbrev pub token_of : List Text → Shown → Token
@@ -28,7 +28,7 @@ token_of literals Other = record { mark = is_literal; text = [] }
 
 -- the tokens that are shown
 abbrev pub tokens_of : GrammarData → List Shown → List Token
-tokens_of d shown = map (token_of (texts d)) shown
+tokens_of d shown = map (token_of (literal_texts d)) shown
 
 -- the symbol reads what is shown
 abbrev pub Takes : NumberedSymbol → Shown → Type 0
@@ -39,18 +39,18 @@ Takes (symbols.Part sort least) (Sort b) = sort ≡ b
 Takes _ _ = ⊥
 
 -- the number of a literal is below the bound
-abbrev pub IsBelow : ℕ → NumberedSymbol → Type 0
-IsBelow bound (symbols.Lit n) = n < bound
-IsBelow bound (symbols.Lex kind) = Unit {0}
-IsBelow bound (symbols.Part sort least) = Unit {0}
+abbrev pub IsLiteralBelow : ℕ → NumberedSymbol → Type 0
+IsLiteralBelow bound (symbols.Lit n) = n < bound
+IsLiteralBelow bound (symbols.Lex kind) = Unit {0}
+IsLiteralBelow bound (symbols.Part sort least) = Unit {0}
 
 -- so it is of all symbols
-abbrev pub AllBelow : ℕ → List NumberedSymbol → Type 0
-AllBelow bound xs = (k n : ℕ) → slice_get xs k ≡ Some (symbols.Lit n) → n < bound
+abbrev pub LiteralsBelow : ℕ → List NumberedSymbol → Type 0
+LiteralsBelow bound xs = (k n : ℕ) → slice_get xs k ≡ Some (symbols.Lit n) → n < bound
 
 -- so it is of all that is shown
-abbrev pub AreBelow : ℕ → List Shown → Type 0
-AreBelow bound shown = (k n : ℕ) → slice_get shown k ≡ Some (Lit n) → n < bound
+abbrev pub ShownBelow : ℕ → List Shown → Type 0
+ShownBelow bound shown = (k n : ℕ) → slice_get shown k ≡ Some (Lit n) → n < bound
 
 -- the symbol of a bracket pair, with the numbers of its literals, at a place
 abbrev pub pair_symbol : Option (ℕ × ℕ) → ℕ → ℕ → Option NumberedSymbol

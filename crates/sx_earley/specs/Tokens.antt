@@ -24,17 +24,17 @@ without_digits [] = []
 without_digits (c ∷ cs) = kept c (without_digits cs)
 
 -- the stem of a metavariable: its name, which comes after `~`, without the digits at its end
-abbrev pub stem_of : Text → Text
-stem_of text = without_digits (without_tilde text)
+abbrev pub meta_stem : Text → Text
+meta_stem text = without_digits (without_tilde text)
 
 -- stems with their sorts
 abbrev pub Stems : Type 0
 Stems = List (Text × Sort)
 
 -- the sort of the stem, where it first stands
-abbrev pub sort_of : Stems → Text → Option Sort
-sort_of [] stem = None
-sort_of (s ∷ more) stem = if bytes_eq s.0 stem then Some s.1 else sort_of more stem
+abbrev pub stem_sort : Stems → Text → Option Sort
+stem_sort [] stem = None
+stem_sort (s ∷ more) stem = if bytes_eq s.0 stem then Some s.1 else stem_sort more stem
 
 -- what a metavariable of the sort stands for
 abbrev pub as_stem : Sort → Stem
@@ -48,14 +48,14 @@ found_stem None = of_kind Id
 found_stem (Some sort) = as_stem sort
 
 -- a token with this mark and text, as a grammar reads it
-abbrev pub shown : Stems → Mark → Text → plain.Token
-shown stems (Lit n) text = record { mark = is_literal; text = text }
-shown stems (Lex kind) text = record { mark = is_lexeme kind; text = text }
-shown stems Meta text = record {
-  mark = is_variable (found_stem (sort_of stems (stem_of text)));
+abbrev pub read_token : Stems → Mark → Text → plain.Token
+read_token stems (Lit n) text = record { mark = is_literal; text = text }
+read_token stems (Lex kind) text = record { mark = is_lexeme kind; text = text }
+read_token stems Meta text = record {
+  mark = is_variable (found_stem (stem_sort stems (meta_stem text)));
   text = text;
 }
 
 -- the tokens, as a grammar reads them
 abbrev pub plain_tokens : Stems → List Token → List plain.Token
-plain_tokens stems ts = map (λ t. shown stems t.mark t.text) ts
+plain_tokens stems ts = map (λ t. read_token stems t.mark t.text) ts

@@ -3,15 +3,15 @@ use Rattle.std.specs.Prelude.{◌≡◌, ℕ, true, List, Option, Some, None, sl
 use Rattle.std.specs.List.{AllByRecursion}
 use Rattle.sx_term.specs.declared.mark.Mark.TheVariants.{Meta}
 use Rattle.sx_token.specs.declared.token.Token.{Token}
-use Rattle.sx_earley.specs.Tokens.{Stems, sort_of, stem_of}
+use Rattle.sx_earley.specs.Tokens.{Stems, stem_sort, meta_stem}
 
 -- the token is a metavariable, and its stem has no sort
-abbrev pub IsUnknown : Stems → Token → Type 0
-IsUnknown stems t = (t.mark ≡ Meta) × (sort_of stems (stem_of t.text) ≡ None)
+abbrev pub IsUnknownStem : Stems → Token → Type 0
+IsUnknownStem stems t = (t.mark ≡ Meta) × (stem_sort stems (meta_stem t.text) ≡ None)
 
 -- if the token is a metavariable, its stem has a sort
 abbrev pub HasStem : Stems → Token → Type 0
-HasStem stems t = t.mark ≡ Meta → is_some (sort_of stems (stem_of t.text)) ≡ true
+HasStem stems t = t.mark ≡ Meta → is_some (stem_sort stems (meta_stem t.text)) ≡ true
 
 -- so it is of each token
 abbrev pub HaveStems : Stems → List Token → Type 0
@@ -21,4 +21,4 @@ HaveStems stems ts = AllByRecursion (HasStem stems) ts
 abbrev pub IsFirstUnknown : Stems → List Token → Option ℕ → Type 0
 IsFirstUnknown stems ts None = HaveStems stems ts
 IsFirstUnknown stems ts (Some n) = HaveStems stems (take n ts) ×
-    ((t : Token) × (slice_get ts n ≡ Some t) × IsUnknown stems t)
+    ((t : Token) × (slice_get ts n ≡ Some t) × IsUnknownStem stems t)

@@ -4,7 +4,7 @@ ghost use Rattle.std.specs.Prelude.{◌≡◌, ◌≤◌, ◌↔◌, [], OnOk, I
 ghost use Rattle.std.specs.Prelude.{slice_get};
 ghost use Rattle.sx_grammar.specs.ReadOne.{Holds, MoreHold};
 ghost use Rattle.sx_grammar.specs.declared.item.Item.{Item};
-ghost use Rattle.sx_earley.specs.Shown.{plain, texts, tokens_of, AreBelow};
+ghost use Rattle.sx_earley.specs.Shown.{plain, literal_texts, tokens_of, ShownBelow};
 ghost use Rattle.sx_earley.specs.Chart.{HasAllOpenings};
 ghost use Rattle.sx_grammar.specs.ReadOne.{most_items};
 ghost use Rattle.sx_term.specs.Limits.{most_tokens};
@@ -34,7 +34,7 @@ fn collect(
     found: &mut ItemSet,
 ) -> Result<(), ChartError>
     requires short { length shown.now ≤ most_tokens }
-    requires below { AreBelow (length (texts grammar.now)) shown.now }
+    requires below { ShownBelow (length (literal_texts grammar.now)) shown.now }
     requires openings { HasAllOpenings (plain grammar.now) notes.old.openings.now }
     requires asked { notes.old.asked ≡ [] }
     requires keys { notes.old.filed.keys ≡ [] }
@@ -92,7 +92,7 @@ pub(crate) fn all_items(
     shown: &[Shown],
 ) -> Result<ItemSet, ChartError>
     requires short { length shown.now ≤ most_tokens }
-    requires below { AreBelow (length (texts grammar.now)) shown.now }
+    requires below { ShownBelow (length (literal_texts grammar.now)) shown.now }
     requires openings { HasAllOpenings (plain grammar.now) openings.now }
     ensures all { IfOk result (λ s. (i : Item) →
         Contains s i ↔ Holds (plain grammar.now) (tokens_of grammar.now shown.now) start i) }

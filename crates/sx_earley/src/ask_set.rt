@@ -1,7 +1,7 @@
 //! What was asked for, found by its hash.
 
 ghost use Rattle.std.specs.Prelude.{◌≡◌, [], ◌∷◌, ◌++◌, OnOk, OnErr, IsTrue, IsFalse};
-ghost use Rattle.sx_earley.specs.AskSet.{hash_of, Covers, IsCovered};
+ghost use Rattle.sx_earley.specs.AskSet.{ask_hash, Covers, IsCovered};
 
 use crate::ask::Ask;
 use std::alloc::{AllocError, Global};
@@ -18,19 +18,19 @@ pub(crate) struct AskSet {
 impl Model for AskSet {
     ghost use Rattle.std.specs.Prelude.{◌≡◌, List, map};
     ghost use Rattle.sx_earley.specs.declared.ask.Ask.{Ask};
-    ghost use Rattle.sx_earley.specs.AskSet.{hash_of};
+    ghost use Rattle.sx_earley.specs.AskSet.{ask_hash};
 
     ghost Value = { List Ask };
 
     ghost view = { λ s. s.asks.items };
 
-    ghost invariant = { λ s. s.slots ≡ map hash_of s.asks.items };
+    ghost invariant = { λ s. s.slots ≡ map ask_hash s.asks.items };
 }
 
 /// The hash of what is asked for at any level.
 #[inline(always)]
 pub(crate) fn hash_of(ask: Ask) -> u32
-    ensures { result ≡ hash_of ask }
+    ensures { result ≡ ask_hash ask }
 {
     folded(mix(ask.sort as u64, ask.place as u64))
 }
@@ -58,7 +58,7 @@ impl AskSet {
     /// Whether all that begins for this, of which this is the hash, was asked for.
     #[inline(always)]
     pub(crate) fn covers(&self, ask: Ask, hash: u32) -> bool
-        requires { hash ≡ hash_of ask }
+        requires { hash ≡ ask_hash ask }
         ensures yes { IsTrue result → IsCovered self.now ask }
         ensures no { IsFalse result → IsCovered self.now ask → ⊥ }
     {
@@ -74,7 +74,7 @@ impl AskSet {
 
     /// This, of which this is the hash, is asked for. Where memory is lacking, all is as before.
     pub(crate) fn push(&mut self, ask: Ask, hash: u32) -> Result<(), AllocError>
-        requires { hash ≡ hash_of ask }
+        requires { hash ≡ ask_hash ask }
         ensures ok { OnOk result (self.new ≡ self.old ++ ask ∷ []) }
         ensures err { OnErr result (self.new ≡ self.old) }
     {

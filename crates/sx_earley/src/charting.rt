@@ -3,11 +3,11 @@
 ghost use Rattle.std.specs.Prelude.{◌≡◌, ◌≤◌, IfOk, Err, length};
 ghost use Rattle.sx_grammar.specs.Tally.{EachOnce};
 ghost use Rattle.sx_grammar.specs.ReadOne.{MoreHold, IsGreatestEnd};
-ghost use Rattle.sx_earley.specs.Shown.{plain, texts, tokens_of, AreBelow};
+ghost use Rattle.sx_earley.specs.Shown.{plain, literal_texts, tokens_of, ShownBelow};
 ghost use Rattle.sx_earley.specs.Tokens.{plain_tokens};
 ghost use Rattle.sx_earley.specs.Unknown.{HaveStems};
 ghost use Rattle.sx_earley.specs.Chart.{HasAllOpenings};
-ghost use Rattle.sx_earley.specs.Completed.{IsSort, number_of, IsChart};
+ghost use Rattle.sx_earley.specs.Completed.{IsSort, sort_number, IsChart};
 ghost use Rattle.sx_grammar.specs.ReadOne.{most_items};
 ghost use Rattle.sx_term.specs.Limits.{most_tokens};
 
@@ -28,7 +28,7 @@ use sx_token::Token;
 
 /// The number of a plain or typed sort.
 pub fn number_of(sort: Sort) -> u32
-    ensures { result ≡ number_of sort }
+    ensures { result ≡ sort_number sort }
 {
     match sort {
         Sort::Lex(_) => 0,
@@ -47,7 +47,7 @@ fn chart_by(
     shown: &[Shown],
 ) -> Result<Chart, ChartError>
     requires short { length shown.now ≤ most_tokens }
-    requires below { AreBelow (length (texts grammar.now)) shown.now }
+    requires below { ShownBelow (length (literal_texts grammar.now)) shown.now }
     requires openings { HasAllOpenings (plain grammar.now) openings.now }
     ensures spans { IfOk result (λ c. IsChart (plain grammar.now)
         (tokens_of grammar.now shown.now) start c.spans) }
@@ -73,7 +73,7 @@ pub fn chart_of(
     shown: &[Shown],
 ) -> Result<Chart, ChartError>
     requires short { length shown.now ≤ most_tokens }
-    requires below { AreBelow (length (texts by.now)) shown.now }
+    requires below { ShownBelow (length (literal_texts by.now)) shown.now }
     ensures spans { IfOk result (λ c. IsChart (plain by.now)
         (tokens_of by.now shown.now) start c.spans) }
     ensures once { IfOk result (λ c. EachOnce c.spans) }
@@ -103,15 +103,15 @@ pub fn chart(
     requires start { IsSort grammar.now.parts start }
     requires stems { HaveStems metas.now.stems.items tokens.now }
     ensures spans { IfOk result (λ c. IsChart (plain grammar.now)
-        (plain_tokens metas.now.stems.items tokens.now) (number_of start) c.spans) }
+        (plain_tokens metas.now.stems.items tokens.now) (sort_number start) c.spans) }
     ensures once { IfOk result (λ c. EachOnce c.spans) }
     ensures reach { IfOk result (λ c. IsGreatestEnd (plain grammar.now)
-        (plain_tokens metas.now.stems.items tokens.now) (number_of start) c.reach) }
+        (plain_tokens metas.now.stems.items tokens.now) (sort_number start) c.reach) }
     ensures few { IfOk result (λ _. MoreHold (plain grammar.now)
-        (plain_tokens metas.now.stems.items tokens.now) (number_of start) most_items → ⊥) }
+        (plain_tokens metas.now.stems.items tokens.now) (sort_number start) most_items → ⊥) }
     ensures hard { result ≡ Err ChartError.TooHard →
         MoreHold (plain grammar.now) (plain_tokens metas.now.stems.items tokens.now)
-        (number_of start) most_items }
+        (sort_number start) most_items }
 {
     grammar.facts();
     let shown = show_all(alloc, grammar, metas, tokens)?;

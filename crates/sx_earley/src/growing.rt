@@ -2,12 +2,12 @@
 
 ghost use Rattle.std.specs.Prelude.{◌≡◌, ◌+◌, ◌≤◌, ◌<◌, ℕ, OnOk, Contains, Some, Err};
 ghost use Rattle.std.specs.Prelude.{length, IsTrue};
-ghost use Rattle.sx_earley.specs.Growth.{Extends, Only};
-ghost use Rattle.sx_earley.specs.Shown.{plain, texts, tokens_of, AreBelow};
+ghost use Rattle.sx_earley.specs.Growth.{GoesOnFrom, Only};
+ghost use Rattle.sx_earley.specs.Shown.{plain, literal_texts, tokens_of, ShownBelow};
 ghost use Rattle.sx_earley.specs.Chart.{HasAllOpenings, AllAsked, Follows};
 ghost use Rattle.sx_earley.specs.Chart.{AllFollow, Joins, IsJoined, moved};
 ghost use Rattle.sx_earley.specs.Chart.{next_symbol, ReadsNext};
-ghost use Rattle.sx_earley.specs.Dotted.{IsNext, WaitsFor};
+ghost use Rattle.sx_earley.specs.Dotted.{IsNextSymbol, WaitsFor};
 ghost use Rattle.sx_earley.specs.Keys.{AreWithin, IsKeyed};
 ghost use Rattle.sx_grammar.specs.ReadOne.{most_items};
 ghost use Rattle.sx_term.specs.Limits.{most_tokens};
@@ -31,7 +31,7 @@ const MOST_ITEMS: usize = 2_000_000;
 /// Adds the item, if it is not there.
 pub(crate) fn add(found: &mut ItemSet, item: Item) -> Result<(), ChartError>
     ensures added { OnOk result (Contains found.new item) }
-    ensures extends { Extends found.old found.new }
+    ensures extends { GoesOnFrom found.old found.new }
     ensures only { Only found.old found.new (λ i. i ≡ item) }
     ensures few { OnOk result (length found.new ≤ most_items) }
     ensures hard { result ≡ Err ChartError.TooHard → most_items < length found.new }
@@ -69,7 +69,7 @@ fn is_known(found: &ItemSet, hints: &Hints, before: Item, filling: Item) -> bool
 fn add_noted(found: &mut ItemSet, hints: &mut Hints, item: Item) -> Result<(), ChartError>
     requires { length found.old ≤ most_items }
     ensures added { OnOk result (Contains found.new item) }
-    ensures extends { Extends found.old found.new }
+    ensures extends { GoesOnFrom found.old found.new }
     ensures only { Only found.old found.new (λ i. i ≡ item) }
     ensures few { OnOk result (length found.new ≤ most_items) }
     ensures hard { result ≡ Err ChartError.TooHard → most_items < length found.new }
@@ -93,7 +93,7 @@ fn join(
 ) -> Result<(), ChartError>
     requires few { length found.old ≤ most_items }
     requires waits { WaitsFor (plain grammar.now) before part }
-    ensures extends { Extends found.old found.new }
+    ensures extends { GoesOnFrom found.old found.new }
     ensures only { Only found.old found.new
         (λ i. Joins (plain grammar.now) before filling × (i ≡ moved before filling.end)) }
     ensures every { OnOk result (Joins (plain grammar.now) before filling →
@@ -135,7 +135,7 @@ fn join_each(
 ) -> Result<(), ChartError>
     requires few { length found.old ≤ most_items }
     requires within { AreWithin near.filed.now (length found.old) }
-    ensures extends { Extends found.old found.new }
+    ensures extends { GoesOnFrom found.old found.new }
     ensures only { Only found.old found.new (IsJoined (plain grammar.now)
         (IsKeyed found.old near.entry.filed.now near.entry.before) (λ x. x ≡ filling)) }
     ensures every { OnOk result ((before : Item) →
@@ -174,7 +174,7 @@ fn join_over(
     requires few { length found.old ≤ most_items }
     requires within { AreWithin near.filed.now (length found.old) }
     requires waits { WaitsFor (plain grammar.now) before part }
-    ensures extends { Extends found.old found.new }
+    ensures extends { GoesOnFrom found.old found.new }
     ensures only { Only found.old found.new (IsJoined (plain grammar.now) (λ x. x ≡ before)
         (IsKeyed found.old near.entry.filed.now near.entry.filling)) }
     ensures every { OnOk result ((filling : Item) →
@@ -207,10 +207,10 @@ fn scan(
     dotted: Dotted,
 ) -> Result<(), ChartError>
     requires few { length found.old ≤ most_items }
-    requires next { IsNext grammar.now dotted.item dotted.symbol }
+    requires next { IsNextSymbol grammar.now dotted.item dotted.symbol }
     requires short { length shown.now ≤ most_tokens }
-    requires below { AreBelow (length (texts grammar.now)) shown.now }
-    ensures extends { Extends found.old found.new }
+    requires below { ShownBelow (length (literal_texts grammar.now)) shown.now }
+    ensures extends { GoesOnFrom found.old found.new }
     ensures only { Only found.old found.new
         (λ i. ReadsNext (tokens_of grammar.now shown.now)
         (next_symbol (plain grammar.now) dotted.item.head dotted.item.dot) dotted.item.end ×
@@ -250,13 +250,13 @@ pub(crate) fn treat(
     dotted: Dotted,
 ) -> Result<(), ChartError>
     requires few { length found.old ≤ most_items }
-    requires next { IsNext given.grammar.now dotted.item dotted.symbol }
+    requires next { IsNextSymbol given.grammar.now dotted.item dotted.symbol }
     requires short { length given.shown.now ≤ most_tokens }
-    requires below { AreBelow (length (texts given.grammar.now)) given.shown.now }
+    requires below { ShownBelow (length (literal_texts given.grammar.now)) given.shown.now }
     requires openings { HasAllOpenings (plain given.grammar.now) given.openings.now }
     requires asked { AllAsked (plain given.grammar.now) asked.old found.old }
     requires within { AreWithin near.filed.now (length found.old) }
-    ensures extends { Extends found.old found.new }
+    ensures extends { GoesOnFrom found.old found.new }
     ensures only { Only found.old found.new
         (Follows (plain given.entry.grammar.now)
         (tokens_of given.entry.grammar.now given.entry.shown.now)

@@ -3,7 +3,7 @@
 ghost use Rattle.std.specs.Prelude.{◌≡◌, [], OnOk, OnErr, IsTrue, IsFalse, Contains, length};
 ghost use Rattle.std.specs.Prelude.{slice_get};
 ghost use Rattle.sx_grammar.specs.Tally.{EachOnce};
-ghost use Rattle.sx_earley.specs.ItemSet.{hash_of, IsAdded};
+ghost use Rattle.sx_earley.specs.ItemSet.{item_hash, IsItemAdded};
 
 use std::alloc::{AllocError, Global};
 use std::marker::Model;
@@ -20,19 +20,19 @@ pub(crate) struct ItemSet {
 impl Model for ItemSet {
     ghost use Rattle.std.specs.Prelude.{List};
     ghost use Rattle.sx_grammar.specs.declared.item.Item.{Item};
-    ghost use Rattle.sx_earley.specs.ItemSet.{IsSet};
+    ghost use Rattle.sx_earley.specs.ItemSet.{IsItemSet};
 
     ghost Value = { List Item };
 
     ghost view = { λ s. s.items.items };
 
-    ghost invariant = { λ s. IsSet s.items.items s.slots };
+    ghost invariant = { λ s. IsItemSet s.items.items s.slots };
 }
 
 /// The hash of an item.
 #[inline(always)]
 fn hash_of(item: Item) -> u32
-    ensures { result ≡ hash_of item }
+    ensures { result ≡ item_hash item }
 {
     let head = match item.head {
         Head::Labelled(label) => mix(1, label as u64),
@@ -98,7 +98,7 @@ impl ItemSet {
     /// Whether the item, of which this is the hash, is there.
     #[inline(always)]
     fn has(&self, item: Item, hash: u32) -> bool
-        requires { hash ≡ hash_of item }
+        requires { hash ≡ item_hash item }
         ensures yes { IsTrue result → Contains self.now item }
         ensures no { IsFalse result → Contains self.now item → ⊥ }
     {
@@ -114,7 +114,7 @@ impl ItemSet {
 
     /// Adds the item, if it is not there. Where memory is lacking, the items are as before.
     pub(crate) fn add(&mut self, item: Item) -> Result<(), AllocError>
-        ensures ok { OnOk result (IsAdded item self.old self.new) }
+        ensures ok { OnOk result (IsItemAdded item self.old self.new) }
         ensures err { OnErr result (self.new ≡ self.old) }
     {
         let hash = hash_of(item);

@@ -2,7 +2,7 @@
 
 ghost use Rattle.std.specs.Prelude.{◌≡◌, ◌≤◌, ◌<◌, ℕ, OnOk, Contains, Some, Err, length};
 ghost use Rattle.sx_grammar.specs.Grammar.{production_of};
-ghost use Rattle.sx_earley.specs.Growth.{Extends, Only};
+ghost use Rattle.sx_earley.specs.Growth.{GoesOnFrom, Only};
 ghost use Rattle.sx_earley.specs.Shown.{plain};
 ghost use Rattle.sx_earley.specs.Chart.{HasOpenings, HasAllOpenings, AllAsked, Foresees};
 ghost use Rattle.sx_earley.specs.Chart.{IsPredicted, IsOfSort, beginning, next_symbol, as_part};
@@ -27,7 +27,7 @@ fn predict_head(
     ask: Ask,
 ) -> Result<(), ChartError>
     requires { length found.old ≤ most_items }
-    ensures extends { Extends found.old found.new }
+    ensures extends { GoesOnFrom found.old found.new }
     ensures only { Only found.old found.new
         (IsPredicted (plain grammar.now) ask.sort ask.least ask.place) }
     ensures every { OnOk result
@@ -60,7 +60,7 @@ fn predict(
 ) -> Result<(), ChartError>
     requires few { length found.old ≤ most_items }
     requires openings { HasOpenings (plain grammar.now) ask.sort openings.now }
-    ensures extends { Extends found.old found.new }
+    ensures extends { GoesOnFrom found.old found.new }
     ensures only { Only found.old found.new
         (IsPredicted (plain grammar.now) ask.sort ask.least ask.place) }
     ensures every { OnOk result ((head : Head) →
@@ -86,7 +86,7 @@ pub(crate) fn predict_once(
     requires few { length found.old ≤ most_items }
     requires openings { HasAllOpenings (plain grammar.now) openings.now }
     requires asked { AllAsked (plain grammar.now) asked.old found.old }
-    ensures extends { Extends found.old found.new }
+    ensures extends { GoesOnFrom found.old found.new }
     ensures only { Only found.old found.new
         (IsPredicted (plain grammar.now) ask.sort ask.least ask.place) }
     ensures every { OnOk result ((head : Head) →
@@ -122,7 +122,7 @@ pub(crate) fn predict_next(
     requires waits { WaitsFor (plain grammar.now) item part }
     requires openings { HasAllOpenings (plain grammar.now) openings.now }
     requires asked { AllAsked (plain grammar.now) asked.old found.old }
-    ensures extends { Extends found.old found.new }
+    ensures extends { GoesOnFrom found.old found.new }
     ensures only { Only found.old found.new (Foresees (plain grammar.now) item) }
     ensures every { OnOk result ((sort least : ℕ) (head : Head) →
         as_part (next_symbol (plain grammar.now) item.head item.dot) ≡ Some (sort, least) →

@@ -3,7 +3,8 @@
 ghost use Rattle.std.specs.Prelude.{◌≡◌, ◌↔◌, IsTrue, Some, length, slice_get};
 ghost use Rattle.sx_grammar.specs.Items.{ReadsToken};
 ghost use Rattle.sx_grammar.specs.Numbered.{symbol};
-ghost use Rattle.sx_earley.specs.Shown.{Takes, IsBelow, AreBelow, texts, tokens_of};
+ghost use Rattle.sx_earley.specs.Shown.{Takes, IsLiteralBelow, ShownBelow, literal_texts};
+ghost use Rattle.sx_earley.specs.Shown.{tokens_of};
 ghost use Rattle.sx_earley.specs.Showing.{IsLiteralShown};
 
 use sx_grammar::{Grammar, NumberedSymbol};
@@ -23,7 +24,7 @@ pub enum Shown {
 
 /// Whether the literal with the number has these bytes.
 fn has_literal(grammar: &Grammar, number: u32, text: &[u8]) -> bool
-    ensures { IsTrue result ↔ (slice_get (texts grammar.now) number ≡ Some text.now) }
+    ensures { IsTrue result ↔ (slice_get (literal_texts grammar.now) number ≡ Some text.now) }
 {
     match grammar.literals().get(number as usize) {
         None => false,
@@ -34,7 +35,7 @@ fn has_literal(grammar: &Grammar, number: u32, text: &[u8]) -> bool
 /// What a literal with these bytes shows to the grammar. The number that it has elsewhere is looked
 /// at first, and its bytes are looked up where that is another literal's.
 pub(crate) fn literal_shown(grammar: &Grammar, number: u32, text: &[u8]) -> Shown
-    ensures { IsLiteralShown (texts grammar.now) text.now result }
+    ensures { IsLiteralShown (literal_texts grammar.now) text.now result }
 {
     if has_literal(grammar, number, text) {
         return Shown::Lit(number);
@@ -60,10 +61,10 @@ fn takes(expected: NumberedSymbol, shown: Shown) -> bool
 
 /// Whether the symbol reads by itself what is shown at the place.
 pub fn reads(grammar: &Grammar, expected: NumberedSymbol, shown: &[Shown], place: u32) -> bool
-    requires expected { IsBelow (length (texts grammar.now)) expected }
-    requires shown { AreBelow (length (texts grammar.now)) shown.now }
+    requires expected { IsLiteralBelow (length (literal_texts grammar.now)) expected }
+    requires shown { ShownBelow (length (literal_texts grammar.now)) shown.now }
     ensures { IsTrue result ↔ ReadsToken (tokens_of grammar.now shown.now)
-        (symbol (texts grammar.now) expected) place }
+        (symbol (literal_texts grammar.now) expected) place }
 {
     grammar.facts();
     match shown.get(place as usize) {

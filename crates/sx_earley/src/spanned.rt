@@ -2,7 +2,7 @@
 
 ghost use Rattle.std.specs.Prelude.{◌≡◌, ◌<◌, OnOk, IfOk, Some, length, slice_get, max};
 ghost use Rattle.sx_earley.specs.Shown.{plain};
-ghost use Rattle.sx_earley.specs.Completed.{span_of, AreSpans, Adds, IsReach};
+ghost use Rattle.sx_earley.specs.Completed.{span_of, AreSpans, AddsSpan, IsReach};
 
 use crate::item_set::ItemSet;
 use crate::span::{Span, SpanOf};
@@ -39,7 +39,7 @@ fn span_of(item: Item) -> Span
 
 /// Adds the item's span, if the item is complete.
 fn add_span(grammar: &Grammar, spans: &mut Vec<Span>, item: Item) -> Result<(), AllocError>
-    ensures { OnOk result (Adds (plain grammar.now) item spans.old.items spans.new.items) }
+    ensures { OnOk result (AddsSpan (plain grammar.now) item spans.old.items spans.new.items) }
 {
     if ends_at(grammar, item.head, item.dot) {
         spans.push(span_of(item))?;

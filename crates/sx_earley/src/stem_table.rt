@@ -4,10 +4,10 @@ ghost use Rattle.std.specs.Prelude.{◌≡◌, ℕ, List, IfOk, IsTrue, false};
 ghost use Rattle.std.specs.HashMap.{get_by};
 ghost use Rattle.std.specs.Str.{bytes_eq};
 ghost use Rattle.sx_term.specs.declared.sort.Sort.{Sort};
-ghost use Rattle.sx_earley.specs.Tokens.{without_digits, stem_of, sort_of};
-ghost use Rattle.sx_earley.specs.Shown.{texts};
-ghost use Rattle.sx_earley.specs.Showing.{IsStems, Shows, shown_stem};
-ghost use Rattle.sx_earley.specs.Unknown.{HasStem, IsUnknown};
+ghost use Rattle.sx_earley.specs.Tokens.{without_digits, meta_stem, stem_sort};
+ghost use Rattle.sx_earley.specs.Shown.{literal_texts};
+ghost use Rattle.sx_earley.specs.Showing.{IsStems, TokenShows, shown_stem};
+ghost use Rattle.sx_earley.specs.Unknown.{HasStem, IsUnknownStem};
 
 use crate::metas::Metas;
 use crate::shown::{Shown, literal_shown};
@@ -56,7 +56,7 @@ fn without_digits(bytes: &[u8]) -> &[u8]
 
 /// The stem of the metavariable.
 fn stem_of(text: &[u8]) -> &[u8]
-    ensures { result.now ≡ stem_of text.now }
+    ensures { result.now ≡ meta_stem text.now }
 {
     match text.split_first() {
         None => text,
@@ -85,7 +85,7 @@ impl<'a> StemTable<'a> {
     /// The sort of the stem.
     fn sort_of(&self, stem: &[u8]) -> Option<Sort>
         ensures { (stems : List (List ℕ × Sort)) → IsStems stems self.now →
-            result ≡ sort_of stems stem.now }
+            result ≡ stem_sort stems stem.now }
     {
         self.sorts.get(stem).copied()
     }
@@ -93,7 +93,7 @@ impl<'a> StemTable<'a> {
     /// The sort of the word's stem.
     pub(crate) fn sort_of_word(&self, word: &[u8]) -> Option<Sort>
         ensures { (stems : List (List ℕ × Sort)) → IsStems stems self.now →
-            result ≡ sort_of stems (without_digits word.now) }
+            result ≡ stem_sort stems (without_digits word.now) }
     {
         self.sort_of(without_digits(word))
     }
@@ -103,7 +103,7 @@ impl<'a> StemTable<'a> {
         ensures yes { (stems : List (List ℕ × Sort)) → IsStems stems self.now → IsTrue result →
             HasStem stems token.now }
         ensures not { (stems : List (List ℕ × Sort)) → IsStems stems self.now → result ≡ false →
-            IsUnknown stems token.now }
+            IsUnknownStem stems token.now }
     {
         match token.mark {
             Mark::Meta => self.sort_of(stem_of(token.text.bytes())).is_some(),
@@ -114,7 +114,7 @@ impl<'a> StemTable<'a> {
     /// What the token shows to the grammar.
     pub(crate) fn show(&self, grammar: &Grammar, token: &Token) -> Shown
         ensures { (stems : List (List ℕ × Sort)) → IsStems stems self.now →
-            Shows (texts grammar.now) stems token.now.mark token.now.text result }
+            TokenShows (literal_texts grammar.now) stems token.now.mark token.now.text result }
     {
         match token.mark {
             Mark::Lit(number) => literal_shown(grammar, number, token.text.bytes()),

@@ -2,8 +2,8 @@
 
 ghost use Rattle.std.specs.Prelude.{◌≡◌, ℕ, List, IfOk};
 ghost use Rattle.sx_term.specs.declared.sort.Sort.{Sort};
-ghost use Rattle.sx_earley.specs.Tokens.{without_digits, sort_of};
-ghost use Rattle.sx_earley.specs.Shown.{texts};
+ghost use Rattle.sx_earley.specs.Tokens.{without_digits, stem_sort};
+ghost use Rattle.sx_earley.specs.Shown.{literal_texts};
 ghost use Rattle.sx_earley.specs.Showing.{IsStems, AllShow};
 ghost use Rattle.sx_earley.specs.Unknown.{IsFirstUnknown};
 
@@ -57,7 +57,7 @@ fn show_each(
     tokens: &[Token],
 ) -> Result<Vec<Shown>, AllocError>
     ensures { IfOk result (λ v. (stems : List (List ℕ × Sort)) → IsStems stems table.now →
-        AllShow (texts grammar.now) stems tokens.now v.items) }
+        AllShow (literal_texts grammar.now) stems tokens.now v.items) }
 {
     let mut shown = Vec::with_capacity(alloc, tokens.len())?;
     for i in 0..tokens.len() {
@@ -79,7 +79,7 @@ impl<'a> Stems<'a> {
 
     /// The sort of the word's stem, or None where the stem is none of these.
     pub fn sort_of(&self, word: &[u8]) -> Option<Sort>
-        ensures { result ≡ sort_of self.now (without_digits word.now) }
+        ensures { result ≡ stem_sort self.now (without_digits word.now) }
     {
         let table = &self.table;
         table.sort_of_word(word)
@@ -101,7 +101,8 @@ impl<'a> Stems<'a> {
         grammar: &Grammar,
         tokens: &[Token],
     ) -> Result<Vec<Shown>, AllocError>
-        ensures { IfOk result (λ v. AllShow (texts grammar.now) self.now tokens.now v.items) }
+        ensures { IfOk result
+            (λ v. AllShow (literal_texts grammar.now) self.now tokens.now v.items) }
     {
         let table = &self.table;
         show_each(alloc, grammar, table, tokens)
@@ -115,7 +116,7 @@ pub fn show_all(
     metas: &Metas,
     tokens: &[Token],
 ) -> Result<Vec<Shown>, AllocError>
-    ensures { IfOk result (λ v. AllShow (texts grammar.now) metas.now.stems.items tokens.now
+    ensures { IfOk result (λ v. AllShow (literal_texts grammar.now) metas.now.stems.items tokens.now
         v.items) }
 {
     let stems = Stems::new(alloc, metas)?;

@@ -4,27 +4,29 @@ ghost use Rattle.std.specs.Prelude.{◌≡◌, ◌↔◌, ◌<◌, ◌≤◌, �
 ghost use Rattle.std.specs.Prelude.{ℕ, Some, List, option_map, is_some};
 ghost use Rattle.sx_grammar.specs.Numbered.{symbol, production};
 ghost use Rattle.sx_grammar.specs.Grammar.{Text, production_of};
-ghost use Rattle.sx_earley.specs.Shown.{plain, texts, pair_symbol, IsBelow, AllBelow};
-ghost use Rattle.sx_earley.specs.Chart.{symbol_after, next_symbol, as_part, EndsAt};
+ghost use Rattle.sx_earley.specs.Shown.{plain, literal_texts, pair_symbol, IsLiteralBelow};
+ghost use Rattle.sx_earley.specs.Shown.{LiteralsBelow};
+ghost use Rattle.sx_earley.specs.Chart.{symbol_after, next_symbol, as_part, HasDotAtEnd};
 ghost use Rattle.sx_earley.specs.Chart.{IsOfSort, sort_made};
-ghost use Rattle.sx_earley.specs.Dotted.{IsNext, HasMade};
+ghost use Rattle.sx_earley.specs.Dotted.{IsNextSymbol, HasMade};
 
 use sx_grammar::{Grammar, Head, Item, NumberedProduction, NumberedSymbol};
 
 /// The production with this label.
 pub fn production_at(grammar: &Grammar, label: u32) -> Option<&NumberedProduction>
-    ensures is { option_map (λ p. production (texts grammar.now) p.now) result
+    ensures is { option_map (λ p. production (literal_texts grammar.now) p.now) result
         ≡ slice_get (plain grammar.now).productions label }
-    ensures below { IfSome result (λ p. AllBelow (length (texts grammar.now)) p.now.symbols.items) }
+    ensures below { IfSome result (λ p. LiteralsBelow (length
+        (literal_texts grammar.now)) p.now.symbols.items) }
 {
     grammar.productions().get(label as usize)
 }
 
 /// The symbol at this place of the production with this label.
 fn symbol_at(grammar: &Grammar, label: u32, dot: usize) -> Option<NumberedSymbol>
-    ensures is { option_map (symbol (texts grammar.now)) result
+    ensures is { option_map (symbol (literal_texts grammar.now)) result
         ≡ symbol_after (slice_get (plain grammar.now).productions label) dot }
-    ensures below { IfSome result (IsBelow (length (texts grammar.now))) }
+    ensures below { IfSome result (IsLiteralBelow (length (literal_texts grammar.now))) }
     ensures small { IfSome result (λ _. dot < 2 ^ 63) }
 {
     let production = production_at(grammar, label)?;
@@ -47,9 +49,9 @@ fn bracket_symbol(pair: Option<(u32, u32)>, sort: u32, dot: usize) -> Option<Num
 
 /// The symbol after the dot, or None at the end and where the head makes nothing.
 pub fn symbol_of(grammar: &Grammar, head: Head, dot: usize) -> Option<NumberedSymbol>
-    ensures is { option_map (symbol (texts grammar.now)) result
+    ensures is { option_map (symbol (literal_texts grammar.now)) result
         ≡ next_symbol (plain grammar.now) head dot }
-    ensures below { IfSome result (IsBelow (length (texts grammar.now))) }
+    ensures below { IfSome result (IsLiteralBelow (length (literal_texts grammar.now))) }
     ensures small { IfSome result (λ _. dot < 2 ^ 63) }
 {
     match head {
@@ -89,7 +91,7 @@ fn pair_ends(pair: Option<(u32, u32)>, dot: usize) -> bool
 
 /// Whether the dot stands at the end.
 pub(crate) fn ends_at(grammar: &Grammar, head: Head, dot: usize) -> bool
-    ensures { IsTrue result ↔ EndsAt (production_of (plain grammar.now) head) dot }
+    ensures { IsTrue result ↔ HasDotAtEnd (production_of (plain grammar.now) head) dot }
 {
     match head {
         Head::Labelled(label) => match production_at(grammar, label) {
@@ -118,7 +120,7 @@ pub fn sort_of(grammar: &Grammar, head: Head) -> Option<u32>
 
 /// The sort that the head makes, if the dot stands at the end.
 fn sort_at_end(grammar: &Grammar, head: Head, dot: usize) -> Option<u32>
-    ensures { (sort : ℕ) → EndsAt (production_of (plain grammar.now) head) dot →
+    ensures { (sort : ℕ) → HasDotAtEnd (production_of (plain grammar.now) head) dot →
         sort_made (production_of (plain grammar.now) head) ≡ Some sort → result ≡ Some sort }
 {
     if ends_at(grammar, head, dot) {
@@ -135,7 +137,7 @@ pub(crate) fn sort_made(
     item: Item,
     symbol: Option<NumberedSymbol>,
 ) -> Option<u32>
-    requires { IsNext grammar.now item symbol }
+    requires { IsNextSymbol grammar.now item symbol }
     ensures { HasMade (plain grammar.now) item result }
 {
     match symbol {

@@ -9,9 +9,9 @@ use Rattle.sx_plain.proofs.Tables.{base-stays, sorted-below}
 use Rattle.sx_interface.specs.Interfaces.{InterfaceParts}
 use Rattle.sx_typing.specs.Dialects.{IsDialect}
 use Rattle.sx_environment.specs.declared.row.Row.TheVariants.{Signature}
-use Rattle.sx_environment.specs.BaseEnvironment.{base_of, BaseEnvironmentIsImage}
-use Rattle.sx_environment.specs.Environments.{empty_environment, with_import, Adds}
-use Rattle.sx_environment.specs.Seen.{IsGoodImport, IsRead, Sees}
+use Rattle.sx_environment.specs.BaseEnvironment.{base_seen, BaseEnvironmentIsImage}
+use Rattle.sx_environment.specs.Environments.{empty_environment, with_import, AddsImports}
+use Rattle.sx_environment.specs.Seen.{IsGoodImport, IsImportRowRead, Sees}
 use Rattle.sx_environment.specs.SeenFrom.{SeenFrom}
 use Rattle.sx_environment.proofs.Rows.{row_good}
 
@@ -21,7 +21,7 @@ module _ (s : SeenFrom) (is : IsDialect s.dialect) where
   plain t = image s.dialect.set.table t
 
   -- a signature's image is itself
-  signature_stays : (it : InterfaceParts) (t : Tree) → IsRead s it Signature t → plain t ≡ t
+  signature_stays : (it : InterfaceParts) (t : Tree) → IsImportRowRead s it Signature t → plain t ≡ t
   signature_stays it t read =
       base-stays (length (shapes_of s.dialect.language.parts)) s.dialect.set.table
       is.accepted.desugars.is_table t
@@ -29,14 +29,14 @@ module _ (s : SeenFrom) (is : IsDialect s.dialect) where
       (row_good s it Signature t is read).sorted)
 
   -- what is seen has the signature as its image
-  signature_is : (it : InterfaceParts) (signature seen : Tree) → IsRead s it Signature signature →
+  signature_is : (it : InterfaceParts) (signature seen : Tree) → IsImportRowRead s it Signature signature →
       Sees s it signature seen → plain seen ≡ signature
   signature_is it signature seen read (inl h) = h.2
   signature_is it signature seen read (inr h) = ap plain h.1 ∙ signature_stays it signature read
 
   -- so an import is seen by the language alone
   good_import : (it : InterfaceParts) (seen : Tree) → IsGoodImport s it seen →
-      IsGoodImport (base_of s) it (plain seen)
+      IsGoodImport (base_seen s) it (plain seen)
   good_import it seen good = record {
     language = good.language;
     signature = good.signature;
@@ -62,24 +62,24 @@ module _ (s : SeenFrom) (is : IsDialect s.dialect) where
   -- an added name stays, with the image of what is seen
   with_import_is : (before : Tree) (name : List ℕ) (seen : Tree) →
       plain (with_import s before name seen) ≡
-      with_import (base_of s) (plain before) name (plain seen)
+      with_import (base_seen s) (plain before) name (plain seen)
   with_import_is before name seen =
       ap (λ (o : Option Body). image_node o s.dialect.language.main.add
       (images s.dialect.set.table (before ▹ lexeme Id name ▹ seen ▹ none)))
       (is.accepted.desugars.is_table.keeps_base s.dialect.language.main.add add_below)
 
   adds_image : (before : Tree) (its : List InterfaceParts) (after : Tree) →
-      Adds s before its after → Adds (base_of s) (plain before) its (plain after)
+      AddsImports s before its after → AddsImports (base_seen s) (plain before) its (plain after)
   adds_image before [] after adds = ap plain adds
   adds_image before (it ∷ its) after adds = (
     plain adds.0,
     good_import it adds.0 adds.1,
-    subst (λ (t : Tree). Adds (base_of s) t its (plain after))
+    subst (λ (t : Tree). AddsImports (base_seen s) t its (plain after))
         (with_import_is before it.name adds.0)
         (adds_image (with_import s before it.name adds.0) its after adds.2),
   )
 
 pub base_environment_is_image : BaseEnvironmentIsImage
 base_environment_is_image s its t is adds =
-    subst (λ (e : Tree). Adds (base_of s) e its (image s.dialect.set.table t)) (empty_stays s is)
+    subst (λ (e : Tree). AddsImports (base_seen s) e its (image s.dialect.set.table t)) (empty_stays s is)
     (adds_image s is (empty_environment s) its t adds)

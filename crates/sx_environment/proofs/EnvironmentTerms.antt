@@ -20,14 +20,14 @@ use Rattle.sx_typing.specs.BodySource.{IsTermFor, main_sort}
 use Rattle.sx_typing.proofs.Lexemes.{without_more}
 use Rattle.sx_typing.proofs.MainSorts.{main_sort_is}
 use Rattle.sx_environment.specs.declared.row.Row.TheVariants.{Signature, Stated}
-use Rattle.sx_environment.specs.Environments.{empty_environment, with_import, Adds}
-use Rattle.sx_environment.specs.Seen.{IsGoodImport, IsRead, Sees}
+use Rattle.sx_environment.specs.Environments.{empty_environment, with_import, AddsImports}
+use Rattle.sx_environment.specs.Seen.{IsGoodImport, IsImportRowRead, Sees}
 use Rattle.sx_environment.specs.SeenFrom.{SeenFrom, HasFreeName}
 use Rattle.sx_environment.proofs.NameWords.{name_is_word}
 use Rattle.sx_environment.proofs.Rows.{row_good}
 
 module _ (s : SeenFrom) (is : IsDialect s.dialect) where
-  stated_is_term : (it : InterfaceParts) (t : Tree) → IsRead s it Stated t →
+  stated_is_term : (it : InterfaceParts) (t : Tree) → IsImportRowRead s it Stated t →
       IsTermFor s.dialect Out t
   stated_is_term it t read =
       let d = s.dialect in
@@ -40,7 +40,7 @@ module _ (s : SeenFrom) (is : IsDialect s.dialect) where
         lexemes = without_more d.language.parts is.more t there;
       }
 
-  signature_is_term : (it : InterfaceParts) (t : Tree) → IsRead s it Signature t →
+  signature_is_term : (it : InterfaceParts) (t : Tree) → IsImportRowRead s it Signature t →
       IsTermFor s.dialect Out t
   signature_is_term it t read =
       let d = s.dialect in
@@ -115,7 +115,7 @@ module _ (s : SeenFrom) (is : IsDialect s.dialect) where
 
   pub added_are_sorted : (before : Tree) (its : List InterfaceParts) (after : Tree) →
       IsSorted before → AllByRecursion (HasFreeName (literals_of s.dialect.language.parts)) its →
-      Adds s before its after → IsSorted after
+      AddsImports s before its after → IsSorted after
   added_are_sorted before [] after good named adds = subst IsSorted (sym adds) good
   added_are_sorted before (it ∷ its) after good named adds =
       added_are_sorted (with_import s before it.name adds.0) its after

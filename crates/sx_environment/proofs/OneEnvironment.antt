@@ -12,24 +12,24 @@ use Rattle.sx_environment.specs.declared.import_error.ImportError.TheVariants.{D
 use Rattle.sx_environment.specs.declared.import_error.ImportError.TheVariants.{StatedDiffers}
 use Rattle.sx_environment.specs.declared.import_error.ImportError.TheVariants.{TooDeep}
 use Rattle.sx_environment.specs.Alike.{AreAlike, OneEnvironment}
-use Rattle.sx_environment.specs.Environments.{empty_environment, with_import, Adds}
-use Rattle.sx_environment.specs.ImportErrors.{IsBadImport, IsRefused, HasNone}
+use Rattle.sx_environment.specs.Environments.{empty_environment, with_import, AddsImports}
+use Rattle.sx_environment.specs.ImportErrors.{IsBadImport, IsImportRefused, HasNoEnvironment}
 use Rattle.sx_environment.specs.Seen.{IsGoodImport}
 use Rattle.sx_environment.specs.SeenFrom.{SeenFrom}
 use Rattle.sx_environment.proofs.OneSeen.{good_one, Steps, steps_of, steps_alike, steps_none}
 
 module _ (s : SeenFrom) where
-  pub adds_one : (before : Tree) (its : List InterfaceParts) (t u : Tree) → Adds s before its t →
-      Adds s before its u → t ≡ u
+  pub adds_one : (before : Tree) (its : List InterfaceParts) (t u : Tree) → AddsImports s before its t →
+      AddsImports s before its u → t ≡ u
   adds_one before [] t u h k = h ∙ sym k
   adds_one before (it ∷ its) t u h k =
       adds_one (with_import s before it.name k.0) its t u
-      (subst (λ (x : Tree). Adds s (with_import s before it.name x) its t)
+      (subst (λ (x : Tree). AddsImports s (with_import s before it.name x) its t)
       (good_one s it h.0 k.0 h.1 k.1) h.2) k.2
 
   -- an environment with imports is as deep as without them, or deeper
   adds_deepen : (before : Tree) (its : List InterfaceParts) (after : Tree) →
-      Adds s before its after → depth_of before ≤ depth_of after
+      AddsImports s before its after → depth_of before ≤ depth_of after
   adds_deepen before [] after h = let e = ap depth_of h in omega (arith, e)
   adds_deepen before (it ∷ its) after h =
       let rest = adds_deepen (with_import s before it.name h.0) its after h.2 in
@@ -78,7 +78,7 @@ module _ (s : SeenFrom) where
 
     -- imports that have an environment that is not too deep are not refused
     refused_none : (before : Tree) (number : ℕ) (its : List InterfaceParts) (after : Tree)
-        (e : ImportError) → StandFrom number its → Adds s before its after →
+        (e : ImportError) → StandFrom number its → AddsImports s before its after →
         depth_of after ≤ 1000 → RefusedFrom before number its e → ⊥
     refused_none before number [] after e stand adds shallow h = h
     refused_none before number (it ∷ its) after e stand adds shallow (inl h) =
@@ -94,7 +94,7 @@ module _ (s : SeenFrom) where
     -- an import that is refused behind good ones
     refused_from : (before : Tree) (number : ℕ) (front : List InterfaceParts) (it : InterfaceParts)
         (rest : List InterfaceParts) (after : Tree) (e : ImportError) →
-        StandFrom number (front ++ it ∷ rest) → Adds s before front after →
+        StandFrom number (front ++ it ∷ rest) → AddsImports s before front after →
         depth_of after ≤ 1000 → IsBadImport s (number + length front) after it e → e ≢ Memory →
         RefusedFrom before number (front ++ it ∷ rest) e
     refused_from before number [] it rest after e stand adds shallow bad not =
@@ -117,7 +117,7 @@ module _ (s : SeenFrom) where
   stand_all : (its : List InterfaceParts) → StandFrom its 0 its
   stand_all its k = let same : 0 + k ≡ k = omega arith in ap (slice_get its) same
 
-  from_record : (its : List InterfaceParts) (e : ImportError) → IsRefused s its e → e ≢ Memory →
+  from_record : (its : List InterfaceParts) (e : ImportError) → IsImportRefused s its e → e ≢ Memory →
       RefusedFrom its (empty_environment s) 0 its e
   from_record its e h not =
       let list = h.front ++ h.it ∷ h.rest in
@@ -127,8 +127,8 @@ module _ (s : SeenFrom) where
       (subst (λ n. IsBadImport s n h.before h.it e) same h.bad) not in
       subst (λ (l : List InterfaceParts). RefusedFrom l (empty_environment s) 0 l e) (sym h.is) from
 
-  refused_of : (its : List InterfaceParts) (e : ImportError) → HasNone s its e → e ≢ Memory →
-      IsRefused s its e
+  refused_of : (its : List InterfaceParts) (e : ImportError) → HasNoEnvironment s its e → e ≢ Memory →
+      IsImportRefused s its e
   refused_of its Memory h not = absurd (not refl)
   refused_of its (LanguageDiffers import language) h not = h
   refused_of its (Differs import kept found) h not = h
@@ -137,7 +137,7 @@ module _ (s : SeenFrom) where
   refused_of its (StatedDiffers import kept found) h not = h
   refused_of its (TooDeep depth) h not = h
 
-  all_alike : (its : List InterfaceParts) (e d : ImportError) → HasNone s its e → HasNone s its d →
+  all_alike : (its : List InterfaceParts) (e d : ImportError) → HasNoEnvironment s its e → HasNoEnvironment s its d →
       e ≢ Memory → d ≢ Memory → AreAlike s its e d
   all_alike its e d h k not other =
       refused_alike its (empty_environment s) 0 its e d (stand_all its)
@@ -145,13 +145,13 @@ module _ (s : SeenFrom) where
       (from_record its d (refused_of its d k other) other)
 
   none_refused : (its : List InterfaceParts) (t : Tree) (e : ImportError) →
-      Adds s (empty_environment s) its t → depth_of t ≤ 1000 → HasNone s its e → e ≢ Memory → ⊥
+      AddsImports s (empty_environment s) its t → depth_of t ≤ 1000 → HasNoEnvironment s its e → e ≢ Memory → ⊥
   none_refused its t e made shallow h not =
       refused_none its (empty_environment s) 0 its t e (stand_all its) made shallow
       (from_record its e (refused_of its e h not) not)
 
   either_of : (its : List InterfaceParts) (t : Tree) (e : ImportError) →
-      Adds s (empty_environment s) its t → depth_of t ≤ 1000 → HasNone s its e → e ≡ Memory
+      AddsImports s (empty_environment s) its t → depth_of t ≤ 1000 → HasNoEnvironment s its e → e ≡ Memory
   either_of its t Memory made shallow h = refl
   either_of its t (LanguageDiffers import language) made shallow h =
       absurd (none_refused its t (LanguageDiffers import language) made shallow h (λ e. cc))

@@ -8,16 +8,16 @@ use Rattle.sx_environment.specs.declared.import_error.ImportError.TheVariants.{L
 use Rattle.sx_environment.specs.declared.import_error.ImportError.TheVariants.{Differs, Token, Read}
 use Rattle.sx_environment.specs.declared.import_error.ImportError.TheVariants.{StatedDiffers}
 use Rattle.sx_environment.specs.declared.import_error.ImportError.TheVariants.{TooDeep}
-use Rattle.sx_environment.specs.Environments.{with_import, Adds, IsEnvironment}
-use Rattle.sx_environment.specs.ImportErrors.{IsBadImport, IsRefused, HasNone}
+use Rattle.sx_environment.specs.Environments.{with_import, AddsImports, IsEnvironment}
+use Rattle.sx_environment.specs.ImportErrors.{IsBadImport, IsImportRefused, HasNoEnvironment}
 use Rattle.sx_environment.specs.Seen.{IsGoodImport}
 use Rattle.sx_environment.specs.SeenFrom.{SeenFrom}
 
 module _ (s : SeenFrom) where
   -- one more import is added
   pub adds_more : (before : Tree) (its : List InterfaceParts) (middle : Tree) (it : InterfaceParts)
-      (seen : Tree) → Adds s before its middle → IsGoodImport s it seen →
-      Adds s before (its ++ it ∷ []) (with_import s middle it.name seen)
+      (seen : Tree) → AddsImports s before its middle → IsGoodImport s it seen →
+      AddsImports s before (its ++ it ∷ []) (with_import s middle it.name seen)
   adds_more before [] middle it seen adds good =
       (seen, good, ap (λ (t : Tree). with_import s t it.name seen) adds)
   adds_more before (x ∷ xs) middle it seen adds good = (
@@ -26,7 +26,7 @@ module _ (s : SeenFrom) where
     adds_more (with_import s before x.name adds.0) xs middle it seen adds.2 good,
   )
 
-  none_of : (its : List InterfaceParts) (e : ImportError) → IsRefused s its e → HasNone s its e
+  none_of : (its : List InterfaceParts) (e : ImportError) → IsImportRefused s its e → HasNoEnvironment s its e
   none_of its Memory h = tt
   none_of its (LanguageDiffers import language) h = h
   none_of its (Differs import kept found) h = h
@@ -39,7 +39,7 @@ module _ (s : SeenFrom) where
   pub refused_behind : (its front : List InterfaceParts) (it : InterfaceParts)
       (rest : List InterfaceParts) (number : ℕ) (before : Tree) (e : ImportError) →
       its ≡ front ++ it ∷ rest → number ≡ length front → IsEnvironment s front before →
-      depth_of before ≤ 1000 → IsBadImport s number before it e → HasNone s its e
+      depth_of before ≤ 1000 → IsBadImport s number before it e → HasNoEnvironment s its e
   refused_behind its front it rest number before e is many environment shallow bad =
       none_of its e (record {
         front = front;

@@ -9,7 +9,7 @@ use Rattle.sx_interface.specs.Interfaces.{mark_lines, mark_text}
 use Rattle.sx_environment.specs.declared.row.Row.{Row}
 use Rattle.sx_environment.specs.declared.row.Row.TheVariants.{Signature, Stated}
 use Rattle.sx_environment.specs.Alike.{RowsHaveLines}
-use Rattle.sx_environment.specs.Seen.{line_of, text_of}
+use Rattle.sx_environment.specs.Seen.{row_line, row_text}
 
 behind : (xs ys : List Text) (n k : ℕ) → n ≡ length xs + k →
     slice_get (xs ++ ys) n ≡ slice_get ys k
@@ -58,15 +58,15 @@ first_at it n k e =
     (codes "---" ∷ it.signature ∷ []) n k (omega (arith, e, is))
 
 second_has : (it : InterfaceParts) (row : Row) →
-    slice_get (interface_lines it) (line_of it row - 1) ≡ Some (text_of it row)
-second_has it Signature = second_at it (line_of it Signature - 1) 1 (omega arith)
-second_has it Stated = second_at it (line_of it Stated - 1) 2 (omega arith)
+    slice_get (interface_lines it) (row_line it row - 1) ≡ Some (row_text it row)
+second_has it Signature = second_at it (row_line it Signature - 1) 1 (omega arith)
+second_has it Stated = second_at it (row_line it Stated - 1) 2 (omega arith)
 
 first_has : (it : InterfaceParts) → it.uses ≡ [] →
-    slice_get (first_lines it) (line_of it Signature - 1) ≡ Some it.signature
+    slice_get (first_lines it) (row_line it Signature - 1) ≡ Some it.signature
 first_has it none =
     let no_uses = ap length none in
-    first_at it (line_of it Signature - 1) 1 (omega (arith, no_uses))
+    first_at it (row_line it Signature - 1) 1 (omega (arith, no_uses))
 
 pub rows_have_lines : RowsHaveLines
 rows_have_lines = record { first = first_has; second = second_has }

@@ -17,19 +17,19 @@ use Rattle.sx_typing.proofs.MainSorts.{signature_is_sort}
 use Rattle.sx_typing.proofs.ReadSorted.{read_good}
 use Rattle.sx_environment.specs.declared.row.Row.{Row}
 use Rattle.sx_environment.specs.declared.row.Row.TheVariants.{Signature, Stated}
-use Rattle.sx_environment.specs.Seen.{text_of, parts_of, sort_of, IsRead}
+use Rattle.sx_environment.specs.Seen.{row_text, row_parts, row_sort, IsImportRowRead}
 use Rattle.sx_environment.specs.SeenFrom.{SeenFrom, IsShort}
 
 -- each row is read as a sort of its grammar
 pub row_is_sort : (s : SeenFrom) (row : Row) → IsDialect s.dialect →
-    IsSort (parts_of s row) (sort_of s)
+    IsSort (row_parts s row) (row_sort s)
 row_is_sort s Signature is =
     let d = s.dialect in
     subst (λ (p : Parts). IsSort p (main_sort d.language Out)) is.goes_on (signature_is_sort d is)
 row_is_sort s Stated is = signature_is_sort s.dialect is
 
 -- each row is short
-pub row_is_short : (it : InterfaceParts) (row : Row) → IsShort it → length (text_of it row) ≤ 262144
+pub row_is_short : (it : InterfaceParts) (row : Row) → IsShort it → length (row_text it row) ≤ 262144
 row_is_short it Signature short = short.signature
 row_is_short it Stated short = short.stated
 
@@ -43,8 +43,8 @@ unread_row p q sort other text shown e parts same is h =
 
 -- the term of a row is one of its grammar
 pub row_good : (s : SeenFrom) (it : InterfaceParts) (row : Row) (t : Tree) → IsDialect s.dialect →
-    IsRead s it row t → IsGoodTerm (literals_of (parts_of s row)) (shapes_of (parts_of s row))
-    (sort_of s) t
+    IsImportRowRead s it row t → IsGoodTerm (literals_of (row_parts s row)) (shapes_of (row_parts s row))
+    (row_sort s) t
 row_good s it row t is read =
-    read_good (parts_of s row) (sort_of s) (text_of it row) read.0 read.1 t (row_is_sort s row is)
+    read_good (row_parts s row) (row_sort s) (row_text it row) read.0 read.1 t (row_is_sort s row is)
     read.2

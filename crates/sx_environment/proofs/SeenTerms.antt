@@ -11,13 +11,14 @@ use Rattle.sx_environment.specs.declared.import_error.ImportError.TheVariants.{M
 use Rattle.sx_environment.specs.declared.row.Row.TheVariants.{Signature, Stated}
 use Rattle.sx_environment.specs.Environments.{with_import}
 use Rattle.sx_environment.specs.ImportErrors.{IsBadImport}
-use Rattle.sx_environment.specs.Seen.{IsRead, HasLanguage, SeesStated, IsPlainOf, IsGoodImport}
+use Rattle.sx_environment.specs.Seen.{IsImportRowRead, HasLanguage, SeesStated, IsPlainOf}
+use Rattle.sx_environment.specs.Seen.{IsGoodImport}
 use Rattle.sx_environment.specs.SeenFrom.{SeenFrom}
 
 -- a stated signature that is seen
 pub sees_stated : (s : SeenFrom) (it : InterfaceParts) (signature : Tree)
-    (r : Result Term ImportError) → HasLanguage s it → IsRead s it Signature signature →
-    SeesStated s it → IfOk r (λ t. IsRead s it Stated (tree t)) →
+    (r : Result Term ImportError) → HasLanguage s it → IsImportRowRead s it Signature signature →
+    SeesStated s it → IfOk r (λ t. IsImportRowRead s it Stated (tree t)) →
     IfOk r (λ t. IsPlainOf s (tree t) signature) → IfOk r (λ t. IsGoodImport s it (tree t))
 sees_stated s it signature (Ok t) language read sees stated plain = record {
   language = language;

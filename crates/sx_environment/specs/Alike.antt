@@ -11,15 +11,15 @@ use Rattle.sx_environment.specs.declared.import_error.ImportError.TheVariants.{M
 use Rattle.sx_environment.specs.declared.row.Row.{Row}
 use Rattle.sx_environment.specs.declared.row.Row.TheVariants.{Signature}
 use Rattle.sx_environment.specs.Environments.{IsEnvironment}
-use Rattle.sx_environment.specs.ImportErrors.{HasNone}
-use Rattle.sx_environment.specs.Seen.{text_of, line_of, parts_of, sort_of}
+use Rattle.sx_environment.specs.ImportErrors.{HasNoEnvironment}
+use Rattle.sx_environment.specs.Seen.{row_text, row_line, row_parts, row_sort}
 use Rattle.sx_environment.specs.SeenFrom.{SeenFrom}
 use Rattle.sx_term.specs.Limits.{most_depth}
 
 -- a row of the import has more than two readings
 abbrev pub HasRowOfThree : SeenFrom → InterfaceParts → Type 0
 HasRowOfThree s it =
-    (row : Row) × HasThree (parts_of s row) (sort_of s) (text_of it row)
+    (row : Row) × HasThree (row_parts s row) (row_sort s) (row_text it row)
 
 -- both say that the same row of an import has more than one reading, and show two of them; it has
 -- more than two
@@ -48,13 +48,14 @@ pub record OneEnvironment : Type 0 where
   pub found : (s : SeenFrom) (its : List InterfaceParts) (t u : Tree) → IsEnvironment s its t →
       IsEnvironment s its u → t ≡ u
   pub either : (s : SeenFrom) (its : List InterfaceParts) (t : Tree) (e : ImportError) →
-      IsEnvironment s its t → depth_of t ≤ most_depth → HasNone s its e → e ≡ Memory
+      IsEnvironment s its t → depth_of t ≤ most_depth → HasNoEnvironment s its e → e ≡ Memory
   pub refused : (s : SeenFrom) (its : List InterfaceParts) (e d : ImportError) →
-      HasNone s its e → HasNone s its d → e ≢ Memory → d ≢ Memory → AreAlike s its e d
+      HasNoEnvironment s its e → HasNoEnvironment s its d → e ≢ Memory → d ≢ Memory →
+      AreAlike s its e d
 
 -- the rows stand on their lines in the text of an interface, in both versions
 pub record RowsHaveLines : Type 0 where
   pub first : (it : InterfaceParts) → it.uses ≡ [] →
-      slice_get (first_lines it) (line_of it Signature - 1) ≡ Some it.signature
+      slice_get (first_lines it) (row_line it Signature - 1) ≡ Some it.signature
   pub second : (it : InterfaceParts) (row : Row) →
-      slice_get (interface_lines it) (line_of it row - 1) ≡ Some (text_of it row)
+      slice_get (interface_lines it) (row_line it row - 1) ≡ Some (row_text it row)

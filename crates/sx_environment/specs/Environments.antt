@@ -17,11 +17,12 @@ with_import s before name seen =
     node s.dialect.language.main.add (before ▹ lexeme Id name ▹ seen ▹ none)
 
 -- the environment to which each import is added in order, with the term that is seen of it
-abbrev pub Adds : SeenFrom → (before : Tree) → List InterfaceParts → (after : Tree) → Type 0
-Adds s before [] after = after ≡ before
-Adds s before (it ∷ its) after =
-    (seen : Tree) × IsGoodImport s it seen × Adds s (with_import s before it.name seen) its after
+abbrev pub AddsImports : SeenFrom → (before : Tree) → List InterfaceParts → (after : Tree) → Type 0
+AddsImports s before [] after = after ≡ before
+AddsImports s before (it ∷ its) after =
+    (seen : Tree) × IsGoodImport s it seen × AddsImports s (with_import s before it.name seen) its
+    after
 
 -- it begins with the empty one
 abbrev pub IsEnvironment : SeenFrom → List InterfaceParts → Tree → Type 0
-IsEnvironment s its environment = Adds s (empty_environment s) its environment
+IsEnvironment s its environment = AddsImports s (empty_environment s) its environment

@@ -18,7 +18,8 @@ use Rattle.sx_environment.specs.declared.import_error.ImportError.TheVariants.{T
 use Rattle.sx_environment.specs.declared.row.Row.{Row}
 use Rattle.sx_environment.specs.declared.row.Row.TheVariants.{Signature, Stated}
 use Rattle.sx_environment.specs.Environments.{IsEnvironment, with_import}
-use Rattle.sx_environment.specs.Seen.{text_of, line_of, parts_of, sort_of, IsRead, HasLanguage}
+use Rattle.sx_environment.specs.Seen.{row_text, row_line, row_parts, row_sort, IsImportRowRead}
+use Rattle.sx_environment.specs.Seen.{HasLanguage}
 use Rattle.sx_environment.specs.Seen.{SeesStated, IsPlainOf, IsGoodImport}
 use Rattle.sx_environment.specs.SeenFrom.{SeenFrom}
 use Rattle.sx_term.specs.Limits.{most_depth}
@@ -27,36 +28,37 @@ use Rattle.sx_term.specs.Limits.{most_depth}
 
 -- the row is read: the signature where the import is in the language, the stated signature where
 -- also the signature is read and the stated one is seen
-abbrev pub IsDue : SeenFrom → InterfaceParts → Row → Type 0
-IsDue s it Signature = HasLanguage s it
-IsDue s it Stated =
-    HasLanguage s it × ((signature : Tree) × IsRead s it Signature signature) × SeesStated s it
+abbrev pub IsImportRowDue : SeenFrom → InterfaceParts → Row → Type 0
+IsImportRowDue s it Signature = HasLanguage s it
+IsImportRowDue s it Stated =
+    HasLanguage s it × ((signature : Tree) × IsImportRowRead s it Signature signature) ×
+    SeesStated s it
 
 -- line and column are those of this place in the row, in the interface's file
 abbrev pub IsSpot : InterfaceParts → Row → (place line column : ℕ) → Type 0
-IsSpot it row place line column = (line ≡ line_of it row) × (column ≡ 1 + place)
+IsSpot it row place line column = (line ≡ row_line it row) × (column ≡ 1 + place)
 
 -- the row has no tokens: this is its first defect
 abbrev pub IsUncut : SeenFrom → InterfaceParts → Row → (line column : ℕ) → TokenError → Type 0
 IsUncut s it row line column e =
-    HasDefect (parts_of s row) (text_of it row) e × IsSpot it row (defect_place e) line column
+    HasDefect (row_parts s row) (row_text it row) e × IsSpot it row (defect_place e) line column
 
 -- its tokens have not one reading
 abbrev pub IsUnread : SeenFrom → InterfaceParts → Row → (line column : ℕ) → Unread → Type 0
 IsUnread s it row line column u =
-    ((ts : List Token) × IsCut (parts_of s row) (text_of it row) ts ×
-    IsUnreadAs (parts_of s row) [] (sort_of s) ts (length (text_of it row)) u)
+    ((ts : List Token) × IsCut (row_parts s row) (row_text it row) ts ×
+    IsUnreadAs (row_parts s row) [] (row_sort s) ts (length (row_text it row)) u)
     × IsSpot it row (unread_place u) line column
 
 -- ---- an import that is refused
 
 -- the plain image of the stated signature is not the signature
 pub record StatesOther (s : SeenFrom) (it : InterfaceParts) : Type 0 where
-  pub due : IsDue s it Stated
+  pub due : IsImportRowDue s it Stated
   pub signature : Tree
   pub stated : Tree
-  pub read : IsRead s it Signature signature
-  pub read_stated : IsRead s it Stated stated
+  pub read : IsImportRowRead s it Signature signature
+  pub read_stated : IsImportRowRead s it Stated stated
   pub other : IsPlainOf s stated signature → ⊥
 
 -- the environment with the import is deeper than 1,000, and this deep
@@ -78,9 +80,9 @@ IsBadImport s number before it (Differs import kept found) = (import ≡ number)
     (it.language.name ≡ s.language.name) × (kept.bytes ≡ it.language.digest) ×
     (found.bytes ≡ s.language.digest) × (it.language.digest ≢ s.language.digest)
 IsBadImport s number before it (BadTokens import line column e) = (import ≡ number) ×
-    ((row : Row) × IsDue s it row × IsUncut s it row line column e)
+    ((row : Row) × IsImportRowDue s it row × IsUncut s it row line column e)
 IsBadImport s number before it (Read import line column u) = (import ≡ number) ×
-    ((row : Row) × IsDue s it row × IsUnread s it row line column u)
+    ((row : Row) × IsImportRowDue s it row × IsUnread s it row line column u)
 IsBadImport s number before it (StatedDiffers import kept found) = (import ≡ number) ×
     (kept ≡ it.signature) × (found ≡ it.stated) × StatesOther s it
 IsBadImport s number before it (TooDeep depth) = IsTooDeep s before it depth
@@ -88,7 +90,8 @@ IsBadImport s number before it (TooDeep depth) = IsTooDeep s before it depth
 -- ---- the first of them
 
 -- the imports before this one are good, and their environment is not too deep; this one is refused
-pub record IsRefused (s : SeenFrom) (its : List InterfaceParts) (e : ImportError) : Type 0 where
+pub record IsImportRefused (s : SeenFrom) (its : List InterfaceParts)
+    (e : ImportError) : Type 0 where
   pub front : List InterfaceParts
   pub it : InterfaceParts
   pub rest : List InterfaceParts
@@ -99,6 +102,6 @@ pub record IsRefused (s : SeenFrom) (its : List InterfaceParts) (e : ImportError
   pub bad : IsBadImport s (length front) before it e
 
 -- why no environment is made; out of memory is free
-abbrev pub HasNone : SeenFrom → List InterfaceParts → ImportError → Type 0
-HasNone s its Memory = Unit {0}
-HasNone s its e = IsRefused s its e
+abbrev pub HasNoEnvironment : SeenFrom → List InterfaceParts → ImportError → Type 0
+HasNoEnvironment s its Memory = Unit {0}
+HasNoEnvironment s its e = IsImportRefused s its e

@@ -16,27 +16,27 @@ use Rattle.sx_environment.specs.SeenFrom.{SeenFrom}
 -- ---- the rows that are read
 
 -- the text of a row
-abbrev pub text_of : InterfaceParts → Row → Text
-text_of it Signature = it.signature
-text_of it Stated = it.stated
+abbrev pub row_text : InterfaceParts → Row → Text
+row_text it Signature = it.signature
+row_text it Stated = it.stated
 
 -- its line in the interface's file, which stands behind a line for each use and each import
-abbrev pub line_of : InterfaceParts → Row → ℕ
-line_of it Signature = 6 + (length it.uses + length it.imports)
-line_of it Stated = 7 + (length it.uses + length it.imports)
+abbrev pub row_line : InterfaceParts → Row → ℕ
+row_line it Signature = 6 + (length it.uses + length it.imports)
+row_line it Stated = 7 + (length it.uses + length it.imports)
 
 -- the grammar by which it is read: the language's, and for the stated signature the dialect's
-abbrev pub parts_of : SeenFrom → Row → Parts
-parts_of s Signature = s.dialect.language.parts
-parts_of s Stated = s.dialect.parts
+abbrev pub row_parts : SeenFrom → Row → Parts
+row_parts s Signature = s.dialect.language.parts
+row_parts s Stated = s.dialect.parts
 
 -- the sort as which it is read: that of the main form's output
-abbrev pub sort_of : SeenFrom → Sort
-sort_of s = main_sort s.dialect.language Out
+abbrev pub row_sort : SeenFrom → Sort
+row_sort s = main_sort s.dialect.language Out
 
 -- the row has only one reading, with this term
-abbrev pub IsRead : SeenFrom → InterfaceParts → Row → Tree → Type 0
-IsRead s it row t = ReadsOnly (parts_of s row) (sort_of s) (text_of it row) t
+abbrev pub IsImportRowRead : SeenFrom → InterfaceParts → Row → Tree → Type 0
+IsImportRowRead s it row t = ReadsOnly (row_parts s row) (row_sort s) (row_text it row) t
 
 -- ---- what is seen
 
@@ -57,12 +57,12 @@ IsPlainOf s stated signature = image s.dialect.set.table stated ≡ signature
 -- signature
 abbrev pub Sees : SeenFrom → InterfaceParts → (signature seen : Tree) → Type 0
 Sees s it signature seen =
-    (SeesStated s it × IsRead s it Stated seen × IsPlainOf s seen signature)
+    (SeesStated s it × IsImportRowRead s it Stated seen × IsPlainOf s seen signature)
     ⊎ ((SeesStated s it → ⊥) × (seen ≡ signature))
 
 -- the import is in the language, its signature has only one reading, and this is the term seen
 pub record IsGoodImport (s : SeenFrom) (it : InterfaceParts) (seen : Tree) : Type 0 where
   pub language : HasLanguage s it
   pub signature : Tree
-  pub read : IsRead s it Signature signature
+  pub read : IsImportRowRead s it Signature signature
   pub sees : Sees s it signature seen

@@ -9,7 +9,7 @@ ghost use Rattle.sx_typing.specs.Dialects.{IsDialectOf};
 ghost use Rattle.sx_typing.specs.BodySource.{IsTermFor};
 ghost use Rattle.sx_environment.specs.Environments as known;
 ghost use Rattle.sx_environment.specs.Environments.{IsEnvironment};
-ghost use Rattle.sx_environment.specs.ImportErrors.{HasNone, IsBadImport};
+ghost use Rattle.sx_environment.specs.ImportErrors.{HasNoEnvironment, IsBadImport};
 ghost use Rattle.sx_environment.specs.declared.import_error.ImportError.TheVariants.{Memory};
 ghost use Rattle.sx_environment.specs.declared.import_error.ImportError.TheVariants.{TooDeep};
 ghost use Rattle.sx_environment.specs.Seen.{IsGoodImport};
@@ -144,7 +144,8 @@ pub fn environment(
         (λ t. IsEnvironment (seen_from given.now) (interfaces_of imports.now) (tree t)) }
     // It is a term of the dialect, and its lexemes are no literals of the language.
     ensures good { IfOk result (λ t. IsTermFor (seen_from given.now).dialect In (tree t)) }
-    ensures refused { IfErr result (HasNone (seen_from given.now) (interfaces_of imports.now)) }
+    ensures refused { IfErr result (HasNoEnvironment (seen_from given.now)
+        (interfaces_of imports.now)) }
 {
     let mut environment = empty(alloc, given);
     for i in 0..imports.len() {

@@ -2,7 +2,7 @@
 
 ghost use Rattle.std.specs.Prelude.{◌≡◌};
 ghost use Rattle.sx_interface.specs.InterfaceView.{interface_view};
-ghost use Rattle.sx_environment.specs.Seen.{line_of, text_of};
+ghost use Rattle.sx_environment.specs.Seen.{row_line, row_text};
 ghost use Rattle.sx_environment.specs.SeenFrom.{IsShort};
 
 use sx_interface::Interface;
@@ -23,7 +23,7 @@ pub(crate) enum Row {
 impl Row {
     /// The text of the row.
     pub(crate) fn text(self, interface: &Interface) -> &Text
-        ensures { result.now ≡ text_of (interface_view interface.now) self }
+        ensures { result.now ≡ row_text (interface_view interface.now) self }
     {
         match self {
             Row::Signature => &interface.signature,
@@ -34,7 +34,7 @@ impl Row {
     /// The line of the row in the interface's file, from 1.
     pub(crate) fn line(self, interface: &Interface) -> u64
         requires { IsShort (interface_view interface.now) }
-        ensures { result ≡ line_of (interface_view interface.now) self }
+        ensures { result ≡ row_line (interface_view interface.now) self }
     {
         let marks = interface.uses.len() as u64 + interface.imports.len() as u64;
         match self {

@@ -6,8 +6,8 @@ ghost use Rattle.sx_term.specs.Tree.{Tree};
 ghost use Rattle.sx_interface.specs.InterfaceView.{interface_view};
 ghost use Rattle.sx_typing.specs.Dialects.{IsDialectOf};
 ghost use Rattle.sx_typing.specs.Unread.{IsUnreadText};
-ghost use Rattle.sx_environment.specs.ImportErrors.{IsBadImport, IsDue};
-ghost use Rattle.sx_environment.specs.Seen.{IsRead, parts_of, sort_of, text_of};
+ghost use Rattle.sx_environment.specs.ImportErrors.{IsBadImport, IsImportRowDue};
+ghost use Rattle.sx_environment.specs.Seen.{IsImportRowRead, row_parts, row_sort, row_text};
 ghost use Rattle.sx_environment.specs.SeenFrom.{IsShort, SeenFrom, seen_from};
 
 use crate::import_error::ImportError;
@@ -17,11 +17,11 @@ use crate::surroundings::Surroundings;
 use std::alloc::Global;
 use sx_grammar::Grammar;
 use sx_term::{Role, Term};
-use sx_typing::{Body, Dialect, UnreadText, defect_place, main_sort, read_text, unread_place};
+use sx_typing::{Body, Dialect, UnreadText, defect_place, main_sort, read_body_text, unread_place};
 
 /// The grammar by which the row is read.
 fn row_grammar<'a>(given: &Surroundings<'a>, row: Row) -> &'a Grammar
-    ensures { result.now.parts ≡ parts_of (seen_from given.entry.now) row }
+    ensures { result.now.parts ≡ row_parts (seen_from given.entry.now) row }
 {
     match row {
         Row::Signature => &given.dialect.language.grammar,
@@ -32,12 +32,12 @@ fn row_grammar<'a>(given: &Surroundings<'a>, row: Row) -> &'a Grammar
 /// The refusal of a row that is not read, with its place.
 fn refusal(import: &Numbered, row: Row, error: UnreadText) -> ImportError
     requires short { IsShort (interface_view import.now.interface.now) }
-    requires unread { (s : SeenFrom) × IsUnreadText (parts_of s row) (sort_of s)
-        (text_of (interface_view import.now.interface.now) row) error }
+    requires unread { (s : SeenFrom) × IsUnreadText (row_parts s row) (row_sort s)
+        (row_text (interface_view import.now.interface.now) row) error }
     ensures { (s : SeenFrom) (before : Tree) →
-        IsUnreadText (parts_of s row) (sort_of s)
-        (text_of (interface_view import.now.interface.now) row) error →
-        IsDue s (interface_view import.now.interface.now) row →
+        IsUnreadText (row_parts s row) (row_sort s)
+        (row_text (interface_view import.now.interface.now) row) error →
+        IsImportRowDue s (interface_view import.now.interface.now) row →
         IsBadImport s import.now.number before (interface_view import.now.interface.now) result }
 {
     let line = row.line(import.interface);
@@ -81,16 +81,16 @@ pub(crate) fn read_row(
 ) -> Result<Term, ImportError>
     requires dialect { IsDialectOf given.now.dialect }
     requires short { IsShort (interface_view import.now.interface.now) }
-    ensures read { IfOk result (λ t. IsRead (seen_from given.now)
+    ensures read { IfOk result (λ t. IsImportRowRead (seen_from given.now)
         (interface_view import.now.interface.now) row (tree t)) }
     ensures refused { IfErr result (λ e. (before : Tree) →
-        IsDue (seen_from given.now) (interface_view import.now.interface.now) row →
+        IsImportRowDue (seen_from given.now) (interface_view import.now.interface.now) row →
         IsBadImport (seen_from given.now) import.now.number before
         (interface_view import.now.interface.now) e) }
 {
     let sort = main_sort(given.dialect.language, Role::Out);
     let text = row.text(import.interface);
-    match read_text(alloc, row_grammar(given, row), sort, text.bytes()) {
+    match read_body_text(alloc, row_grammar(given, row), sort, text.bytes()) {
         Ok(body) => Ok(term_of(body)),
         Err(error) => Err(refusal(import, row, error)),
     }

@@ -5,8 +5,8 @@ ghost use Rattle.sx_term.specs.Term.{tree};
 ghost use Rattle.sx_term.specs.Tree.{Tree};
 ghost use Rattle.sx_interface.specs.InterfaceView.{interface_view, mark_view, marks_view};
 ghost use Rattle.sx_typing.specs.Dialects.{IsDialectOf};
-ghost use Rattle.sx_environment.specs.ImportErrors.{IsBadImport, IsDue};
-ghost use Rattle.sx_environment.specs.Seen.{HasLanguage, IsGoodImport, IsPlainOf, IsRead};
+ghost use Rattle.sx_environment.specs.ImportErrors.{IsBadImport, IsImportRowDue};
+ghost use Rattle.sx_environment.specs.Seen.{HasLanguage, IsGoodImport, IsPlainOf, IsImportRowRead};
 ghost use Rattle.sx_environment.specs.Seen.{SeesStated};
 ghost use Rattle.sx_environment.specs.SeenFrom.{IsShort, seen_from};
 
@@ -104,11 +104,12 @@ fn stated_term(
 ) -> Result<Term, ImportError>
     requires dialect { IsDialectOf given.now.dialect }
     requires short { IsShort (interface_view import.now.interface.now) }
-    requires due { IsDue (seen_from given.now) (interface_view import.now.interface.now)
+    requires due { IsImportRowDue (seen_from given.now) (interface_view import.now.interface.now)
         Row.Stated }
-    requires signature { IsRead (seen_from given.now) (interface_view import.now.interface.now)
+    requires signature { IsImportRowRead (seen_from given.now)
+        (interface_view import.now.interface.now)
         Row.Signature (tree signature.now) }
-    ensures read { IfOk result (λ t. IsRead (seen_from given.now)
+    ensures read { IfOk result (λ t. IsImportRowRead (seen_from given.now)
         (interface_view import.now.interface.now) Row.Stated (tree t)) }
     ensures plain { IfOk result
         (λ t. IsPlainOf (seen_from given.now) (tree t) (tree signature.now)) }

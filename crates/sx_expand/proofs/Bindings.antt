@@ -6,7 +6,8 @@ use Rattle.sx_term.specs.Tree.{Tree}
 use Rattle.sx_rules.specs.Derivations.{Proofs, by, Derives, DeriveEach}
 use Rattle.sx_rules.specs.Instances.{bound_by}
 use Rattle.sx_rules.specs.Modes.{Modes, inputs_of, outputs_of, AllModed}
-use Rattle.sx_rules.specs.Rules.{Judgement, Premise, holds, Rule, Hypotheses, judgement_instance, judgements_of}
+use Rattle.sx_rules.specs.Rules.{Judgement, Premise, holds, Rule, Hypotheses, judgement_instance}
+use Rattle.sx_rules.specs.Rules.{judgements_of}
 use Rattle.sx_rules.proofs.Moded.{moded-at}
 use Rattle.sx_plain.specs.Plain.{Table}
 use Rattle.sx_arena.specs.declared.arena.Arena.{Arena}
@@ -14,13 +15,13 @@ use Rattle.sx_arena.specs.Arena.{Extends}
 use Rattle.sx_arena.specs.Binds.{env_at}
 use Rattle.sx_arena.specs.Limits.{first_values}
 use Rattle.sx_arena.specs.Places.{AreHeld}
-use Rattle.sx_arena.specs.Matching.{Assignment, unbound, match_all, filled, IsBound}
+use Rattle.sx_arena.specs.Matching.{Assignment, nothing_bound, match_all, filled, IsBound}
 use Rattle.sx_arena.proofs.BindChains.{envs_stay}
 use Rattle.sx_arena.proofs.Growing.{extends-then}
 use Rattle.sx_expand.specs.declared.reader.Reader.{Reader}
 use Rattle.sx_expand.specs.declared.work.Work.{Work}
 use Rattle.sx_expand.specs.Followed.{Follows, IsWork, bindings_of}
-use Rattle.sx_expand.specs.Readers.{terms_in, IsReader, GoesOn}
+use Rattle.sx_expand.specs.Readers.{terms_in, IsLoweringReader, ReaderGoesOn}
 use Rattle.sx_expand.proofs.Following.{Matched, follows-start, follows-inputs, follows-outputs, follows-bound, follows-binds, follows-concluded}
 use Rattle.sx_expand.proofs.KidsStay.{found-is, rule-within}
 use Rattle.sx_expand.proofs.NumbersPut.{arena-grows}
@@ -55,17 +56,17 @@ matched-follows modes rule s patterns terms env more ps m e =
 module _ (modes own : Modes) (same_modes : own ≡ modes) where
   module _ (rules : List Rule) (hyps : Hypotheses) (moded : AllModed modes rules) (r : ℕ) (rule code : Rule) (same : code ≡ rule) (found : slice_get rules r ≡ Some rule) (j : Judgement) (binds : List Tree) (kids : Proofs) (d : Derives rules hyps j (by r binds kids)) where
     module _ (terms : List Tree) (is : terms ≡ inputs_of modes j) where
-      begun : Matched modes rule (bound_by binds) (inputs_of modes rule.conclusion) terms unbound rule.premises
+      begun : Matched modes rule (bound_by binds) (inputs_of modes rule.conclusion) terms nothing_bound rule.premises
       begun = follows-start modes rule (bound_by binds) terms (moded-at modes rules r rule moded found) (is ∙ ap (inputs_of modes) (sym (is-by rules hyps r rule j binds kids found d).concluded))
 
       patterns-are : inputs_of own code.conclusion ≡ inputs_of modes rule.conclusion
       patterns-are = ap (λ (m : Modes). inputs_of m code.conclusion) same_modes ∙ ap (λ (x : Rule). inputs_of modes x.conclusion) same
 
-      pub begins : (more : Assignment) × (match_all (inputs_of own code.conclusion) terms unbound ≡ Some more)
-      begins = (begun.more, ap (λ (us : List Tree). match_all us terms unbound) patterns-are ∙ begun.found)
+      pub begins : (more : Assignment) × (match_all (inputs_of own code.conclusion) terms nothing_bound ≡ Some more)
+      begins = (begun.more, ap (λ (us : List Tree). match_all us terms nothing_bound) patterns-are ∙ begun.found)
 
-      pub begins-followed : (more : Assignment) → match_all (inputs_of own code.conclusion) terms unbound ≡ Some more → Follows modes rule (bound_by binds) rule.premises more
-      begins-followed more e = matched-follows modes rule (bound_by binds) (inputs_of modes rule.conclusion) terms unbound more rule.premises begun (sym (ap (λ (us : List Tree). match_all us terms unbound) patterns-are) ∙ e)
+      pub begins-followed : (more : Assignment) → match_all (inputs_of own code.conclusion) terms nothing_bound ≡ Some more → Follows modes rule (bound_by binds) rule.premises more
+      begins-followed more e = matched-follows modes rule (bound_by binds) (inputs_of modes rule.conclusion) terms nothing_bound more rule.premises begun (sym (ap (λ (us : List Tree). match_all us terms nothing_bound) patterns-are) ∙ e)
 
     module _ (env : Assignment) (f : Follows modes rule (bound_by binds) [] env) where
       pub ends-concluded : outputs_of own (judgement_instance (filled env) code.conclusion) ≡ outputs_of modes j
@@ -110,10 +111,10 @@ pub bindings-stay : (old new : List Tree) (w : Work) → Extends old new → IsW
 bindings-stay old new w x h = ap (λ (es : List Assignment). env_at es w.env) (envs_stay old new x w.binds h.binds).0
 
 -- one reader after another
-pub goes-then : (table : Table) (old mid new : Reader) → GoesOn table old mid → GoesOn table mid new → GoesOn table old new
+pub goes-then : (table : Table) (old mid new : Reader) → ReaderGoesOn table old mid → ReaderGoesOn table mid new → ReaderGoesOn table old new
 goes-then table old mid new g h = record { reader = h.reader; extends = extends-then (terms_in old) (terms_in mid) (terms_in new) g.extends h.extends }
 
-pub made-goes : {E : Type 0} (table : Table) (old : Reader) (arena : Arena) (r : Result (Vec ℕ Global) E) (ts : List Tree) → IsReader table old → IfOk r (λ x. AreHeld old.arena arena x.items ts) → OnOk r (GoesOn table old (record { arena = arena; images = old.images }))
+pub made-goes : {E : Type 0} (table : Table) (old : Reader) (arena : Arena) (r : Result (Vec ℕ Global) E) (ts : List Tree) → IsLoweringReader table old → IfOk r (λ x. AreHeld old.arena arena x.items ts) → OnOk r (ReaderGoesOn table old (record { arena = arena; images = old.images }))
 made-goes table old arena (Ok x) ts r h = arena-grows table old arena r h.arena h.extends
 made-goes table old arena (Err e) ts r h = tt
 

@@ -11,7 +11,8 @@ use Rattle.sx_rules.specs.declared.entry.Entry.TheVariants.{Rule as OfRule, Give
 use Rattle.sx_rules.specs.declared.proof.Proof.{Proof as ProofOf, By}
 use Rattle.sx_rules.specs.declared.rule.Judgement.{Judgement as JudgementOf}
 use Rattle.sx_rules.specs.Deep.{AreShallow}
-use Rattle.sx_rules.specs.Derivations.{Proof, Proofs, by, given, Derives, ShallowJudgements, nodes_of, nodes_of_all}
+use Rattle.sx_rules.specs.Derivations.{Proof, Proofs, by, given, Derives, ShallowJudgements}
+use Rattle.sx_rules.specs.Derivations.{nodes_of, nodes_of_all}
 use Rattle.sx_rules.specs.EntryView.{entry}
 use Rattle.sx_rules.specs.Instances.{instance, bound_by}
 use Rattle.sx_rules.specs.Modes.{AllModed, inputs, inputs_of, outputs, outputs_of}
@@ -21,10 +22,11 @@ use Rattle.sx_rules.specs.Views.{judgement}
 use Rattle.sx_rules.proofs.ProofRows.{proof-at_by}
 use Rattle.sx_arena.specs.Arena.{tree_at, AreBelow}
 use Rattle.sx_arena.specs.Limits.{first_values}
-use Rattle.sx_arena.specs.Matching.{Assignment, unbound, match_all, filled}
+use Rattle.sx_arena.specs.Matching.{Assignment, nothing_bound, match_all, filled}
 use Rattle.sx_expand.specs.declared.made.Made.{Made}
 use Rattle.sx_expand.specs.declared.origin.Origin.{Origin}
-use Rattle.sx_expand.specs.Boxes.{rules_from, modes_from, hyps_from, entries_from, CanBox, HaveInputs, IsBoxNode, IsBoxed, IsFollowed}
+use Rattle.sx_expand.specs.Boxes.{rules_from, modes_from, hyps_from, entries_from, CanBox}
+use Rattle.sx_expand.specs.Boxes.{HaveInputs, IsBoxNode, IsBoxed, IsFollowed}
 use Rattle.sx_expand.specs.ReadNodes.{NodeData, KidData}
 use Rattle.sx_expand.specs.Standing.{StandsAt}
 use Rattle.sx_expand.proofs.Bindings.{rule-same, begins, begins-followed, kid-asks, kid-gives, kid-followed, ends-concluded, node-binds}
@@ -42,10 +44,10 @@ module _ (o : Origin) (moded : AllModed (modes_from o) (rules_from o)) (code : R
 
   module _ (terms : List Tree) (ins : terms ≡ inputs_of (modes_from o) d.judgement) where
     -- what its inputs bind
-    pub box-begins : (more : Assignment) × (match_all (inputs_of (modes_from o) code.conclusion) terms unbound ≡ Some more)
+    pub box-begins : (more : Assignment) × (match_all (inputs_of (modes_from o) code.conclusion) terms nothing_bound ≡ Some more)
     box-begins = begins (modes_from o) (modes_from o) refl (rules_from o) (hyps_from o) moded r d.rule code same is.found d.judgement d.binds d.kids is.derives terms ins
 
-    pub box-begun : (more : Assignment) → match_all (inputs_of (modes_from o) code.conclusion) terms unbound ≡ Some more → IsFollowed o d.rule d.binds d.rule.premises more
+    pub box-begun : (more : Assignment) → match_all (inputs_of (modes_from o) code.conclusion) terms nothing_bound ≡ Some more → IsFollowed o d.rule d.binds d.rule.premises more
     box-begun = begins-followed (modes_from o) (modes_from o) refl (rules_from o) (hyps_from o) moded r d.rule code same is.found d.judgement d.binds d.kids is.derives terms ins
 
   -- what is bound at its end

@@ -16,9 +16,10 @@ use Rattle.sx_rules.proofs.ProofRows.{proof-at_by}
 use Rattle.sx_rewrite.specs.Accepted.{Accepted, known_of}
 use Rattle.sx_rewrite.specs.LoweredSizes.{FitKids}
 use Rattle.sx_rewrite.specs.Stored.{certificate_at}
-use Rattle.sx_expand.specs.LoweredOrders.{all_entries, grafted_order, grafted_orders, lowered_order, lowered_orders}
-use Rattle.sx_expand.specs.Standing.{IsListed, ListedEach, AreEnds}
-use Rattle.sx_expand.specs.Steps.{AreFrom}
+use Rattle.sx_expand.specs.LoweredOrders.{all_entries, grafted_order, grafted_orders, lowered_order}
+use Rattle.sx_expand.specs.LoweredOrders.{lowered_orders}
+use Rattle.sx_expand.specs.Standing.{IsDerivationListed, ListedEach, AreEnds}
+use Rattle.sx_expand.specs.Steps.{AreNotBelow}
 use Rattle.sx_expand.proofs.Standing.{listed-kids, rule-stands, given-stands}
 use Rattle.sx_expand.proofs.EndsAt.{listed-within}
 use Rattle.sx_expand.proofs.Nodes.{checked-order, basic-order}
@@ -43,10 +44,10 @@ module _ (a : Accepted) (es : List EntryOf) (ends : List ℕ) (known : AreEnds a
     pub fit : FitKids (slice_get (known_of a) r) kids
     pub up : UpTo a (entries es) (i + 1) (get_or ends i 0) kids
 
-  pub rule-at : (r : ℕ) → x ≡ Rule r → (p : Proof) → IsListed a (entries es) i p → IsRuleAt r p
+  pub rule-at : (r : ℕ) → x ≡ Rule r → (p : Proof) → IsDerivationListed a (entries es) i p → IsRuleAt r p
   rule-at r is p h =
       let b = rule-stands es i x r p (listed-within a es i p h) same is h.stands in
-      let k = subst (IsListed a (entries es) i) b.is h in
+      let k = subst (IsDerivationListed a (entries es) i) b.is h in
       let e = known.each i p (omega arith) h in
       let n = ap nodes_of b.is in
       record {
@@ -64,7 +65,7 @@ module _ (a : Accepted) (es : List EntryOf) (ends : List ℕ) (known : AreEnds a
   pub basic-is : (r : ℕ) → certificate_at a r ≡ None → (p : Proof) (s : IsRuleAt r p) → lowered_order a p ≡ of_rule r ∷ all_entries (lowered_orders a s.kids)
   basic-is r e p s = ap (lowered_order a) s.is ∙ basic-order (slice_get (known_of a) r) r s.kids (lowered_orders a s.kids) e s.fit
 
-  pub given-is : (n : ℕ) → x ≡ Given n → (p : Proof) → IsListed a (entries es) i p → lowered_order a p ≡ of_given n ∷ []
+  pub given-is : (n : ℕ) → x ≡ Given n → (p : Proof) → IsDerivationListed a (entries es) i p → lowered_order a p ≡ of_given n ∷ []
   given-is n is p h = ap (lowered_order a) (given-stands es i x n p (listed-within a es i p h) same is h.stands)
 
 -- what is written so far, with what is written of those that are left, is what is written of all
@@ -80,7 +81,7 @@ pub writing-first : (a : Accepted) (list : List Entry) (first end : ℕ) (old : 
 writing-first a list first end old ps up = record { left = ps; up = up; all = refl }
 
 pub writing-more : (a : Accepted) (list : List Entry) (ends : List ℕ) (first end here : ℕ) (old now new : List EntryOf) → AreEnds a list ends → here < end →
-    ((p : Proof) → IsListed a list here p → entries new ≡ entries now ++ lowered_order a p) → Writing a list first end here old now → Writing a list first end (get_or ends here 0) old new
+    ((p : Proof) → IsDerivationListed a list here p → entries new ≡ entries now ++ lowered_order a p) → Writing a list first end here old now → Writing a list first end (get_or ends here 0) old new
 writing-more a list ends first end here old now new known l one so ps up =
     let s = so ps up in
     let h = head-is a list ends here end s.left known l s.up in
@@ -104,7 +105,7 @@ writing-last a list first end here old now l so ps up =
 -- the derivation at one of the places
 pub record IsPlaced (a : Accepted) (list : List Entry) (places : List ℕ) (n : ℕ) (ps : Proofs) : Type 0 where
   pub one : Proof
-  pub listed : IsListed a list (get_or places n 0) one
+  pub listed : IsDerivationListed a list (get_or places n 0) one
   pub order : (d : List Entry) → slice_index_or (lowered_orders a ps) n d ≡ lowered_order a one
 
 pub placed-at : (a : Accepted) (list : List Entry) (places : List ℕ) (ps : Proofs) (n : ℕ) → ListedEach a list places ps → n < length places → IsPlaced a list places n ps
@@ -129,7 +130,7 @@ abbrev pub most_left : ℕ → List ℕ → ℕ
 most_left n [] = 0
 most_left n (i ∷ is) = max (n - i) (most_left n is)
 
-pub left-from : (n first : ℕ) (is : List ℕ) → AreFrom first is → most_left n is ≤ n - first
+pub left-from : (n first : ℕ) (is : List ℕ) → AreNotBelow first is → most_left n is ≤ n - first
 left-from n first [] h = omega arith
 left-from n first (i ∷ is) h =
     let r = left-from n first is h.1 in

@@ -11,10 +11,12 @@ use Rattle.sx_rules.specs.Orders.{Entry}
 use Rattle.sx_rules.specs.Rules.{Judgement, Hypotheses}
 use Rattle.sx_rules.specs.Sets.{shapes_in}
 use Rattle.sx_rewrite.specs.declared.rewrite_error.RewriteError.{RewriteError}
-use Rattle.sx_rewrite.specs.declared.rewrite_error.RewriteError.TheVariants.{Memory, RewriteSpent, RewriteDeep, TooDeep, TooBig}
+use Rattle.sx_rewrite.specs.declared.rewrite_error.RewriteError.TheVariants.{Memory, RewriteSpent}
+use Rattle.sx_rewrite.specs.declared.rewrite_error.RewriteError.TheVariants.{RewriteDeep, TooDeep}
+use Rattle.sx_rewrite.specs.declared.rewrite_error.RewriteError.TheVariants.{TooBig}
 use Rattle.sx_rewrite.specs.Accepted.{Accepted, Signature, IsAccepted}
 use Rattle.sx_rewrite.specs.LoweredSizes.{HasFitKids}
-use Rattle.sx_rewrite.specs.Lowering.{IsRefused}
+use Rattle.sx_rewrite.specs.Lowering.{IsLoweringRefused}
 use Rattle.sx_rewrite.specs.Lowers.{Lowers}
 use Rattle.sx_rewrite.specs.Measured.{Measures}
 use Rattle.sx_rewrite.specs.Sizes.{in_u64}
@@ -27,7 +29,7 @@ use Rattle.sx_expand.specs.declared.reading.Reading.{Reading}
 use Rattle.sx_expand.specs.declared.lowered_list.LoweredList.{LoweredList}
 use Rattle.sx_expand.specs.Expansions.{IsListedFrom, IsExpanding}
 use Rattle.sx_expand.specs.Listed.{set_in, entries_in, StandsIn}
-use Rattle.sx_expand.specs.Readings.{CountsAs, IsReading, set_by, signature_by, hyps_by}
+use Rattle.sx_expand.specs.Readings.{CountsAs, IsListReading, set_by, signature_by, hyps_by}
 use Rattle.sx_expand.specs.LoweredLists.{IsListLowered}
 use Rattle.sx_expand.specs.Roots.{IsRoot, IsRootLowered}
 use Rattle.sx_expand.proofs.Orders.{orders_are_lowered}
@@ -71,7 +73,7 @@ list-as a b p same budget (Err RewriteDeep) h = (
 list-as a b p same budget (Err (TooDeep depth)) h = absurd h
 list-as a b p same budget (Err (TooBig nodes)) h = absurd h
 
-module _ (l : Reading) (good : IsReading l) (goal : Goal) (answer : Answer) (is : IsListedFrom (signature_by l).modes (set_by l) (hyps_by l) goal (entries_in l.listing) answer) where
+module _ (l : Reading) (good : IsListReading l) (goal : Goal) (answer : Answer) (is : IsListedFrom (signature_by l).modes (set_by l) (hyps_by l) goal (entries_in l.listing) answer) where
   counts : CountsAs (set_by l) (set_in l.listing) answer.0
   counts = good.rules.counts answer.0
 
@@ -114,7 +116,7 @@ module _ (l : Reading) (good : IsReading l) (goal : Goal) (answer : Answer) (is 
     measured = terms_are_measured (signature_by l) (shapes_in l.listing.set.now.base) (shapes_in l.listing.set.now.rules) (set_by l) ok (hyps_by l) answer.0 is.derives.0 is.derives.3
 
     -- a term passes a limit
-    pub root-refused : (e : RewriteError) → IsRefused (set_by l) (signature_by l).subjects (hyps_by l) answer.0 e → IsExpanding (set_by l) (signature_by l).subjects (hyps_by l) answer.0 budget (Err e)
+    pub root-refused : (e : RewriteError) → IsLoweringRefused (set_by l) (signature_by l).subjects (hyps_by l) answer.0 e → IsExpanding (set_by l) (signature_by l).subjects (hyps_by l) answer.0 budget (Err e)
     root-refused Memory f = tt
     root-refused (RewriteSpent nodes) f = absurd (f measured.0 measured.1)
     root-refused RewriteDeep f = absurd (f measured.0 measured.1)

@@ -5,7 +5,7 @@ use Rattle.sx_rules.specs.Instances.{StandsAmong, bound_by}
 use Rattle.sx_rules.specs.Rules.{Judgement, Premise, holds, apart, Rule, judgement_instance}
 use Rattle.sx_rules.specs.Modes.{Modes, inputs_of, outputs_of, AreModed, IsModed}
 use Rattle.sx_rules.proofs.Moded.{inputs-map, outputs-map}
-use Rattle.sx_arena.specs.Matching.{Assignment, unbound, match_all, filled, IsBound}
+use Rattle.sx_arena.specs.Matching.{Assignment, nothing_bound, match_all, filled, IsBound}
 use Rattle.sx_arena.specs.Limits.{first_values}
 use Rattle.sx_arena.proofs.Matchings.{match_all-matches, match_all_found, stays-bound}
 use Rattle.sx_arena.proofs.Filled.{filled-agrees, filled-inputs, filled-outputs, first_values-bound}
@@ -29,11 +29,11 @@ pub record Matched (modes : Modes) (rule : Rule) (s : ℕ → Tree) (patterns te
 
 module _ (modes : Modes) (rule : Rule) (s : ℕ → Tree) where
   -- the inputs of the conclusion are matched
-  pub follows-start : (terms : List Tree) → IsModed modes rule → HasInputs modes rule s terms → Matched modes rule s (inputs_of modes rule.conclusion) terms unbound rule.premises
+  pub follows-start : (terms : List Tree) → IsModed modes rule → HasInputs modes rule s terms → Matched modes rule s (inputs_of modes rule.conclusion) terms nothing_bound rule.premises
   follows-start terms m is =
       let patterns = inputs_of modes rule.conclusion in
-      let n = match_all_found patterns terms unbound s (λ v u e. cc) (sym (inputs-map s (modes rule.conclusion.form) rule.conclusion.places) ∙ sym is) in
-      let k = match_all-matches patterns terms unbound n.0 n.1 in
+      let n = match_all_found patterns terms nothing_bound s (λ v u e. cc) (sym (inputs-map s (modes rule.conclusion.form) rule.conclusion.places) ∙ sym is) in
+      let k = match_all-matches patterns terms nothing_bound n.0 n.1 in
       record {
         more = n.0;
         found = n.1;
@@ -43,7 +43,7 @@ module _ (modes : Modes) (rule : Rule) (s : ℕ → Tree) where
         };
       }
     where
-      only : (v : ℕ) → IsBound unbound v ⊎ StandsAmong v (inputs_of modes rule.conclusion) → StandsAmong v (inputs_of modes rule.conclusion)
+      only : (v : ℕ) → IsBound nothing_bound v ⊎ StandsAmong v (inputs_of modes rule.conclusion) → StandsAmong v (inputs_of modes rule.conclusion)
       only v (inl (u, e)) = cc
       only v (inr h) = h
 

@@ -12,10 +12,10 @@ use Rattle.sx_rules.specs.Rules.{Judgement, Hypotheses, no_hypotheses}
 use Rattle.sx_rules.specs.Sets.{forms_in, shapes_in}
 use Rattle.sx_rules.specs.Views.{FormData, sorts_of, places_at}
 use Rattle.sx_plain.specs.Plain.{Table, Body}
-use Rattle.sx_plain.specs.Tables.{LabelsBelow, AllLabelsBelow, IsTable, HasParts}
+use Rattle.sx_plain.specs.Tables.{LabelsBelow, AllLabelsBelow, IsPlainTable, HasParts}
 use Rattle.sx_plain.specs.Tables.{FitsTable, FitTable}
 use Rattle.sx_rewrite.specs.declared.accepted.Accepted.{Accepted as AcceptedOf}
-use Rattle.sx_rewrite.specs.Lowers.{AreBelow, JudgementsBelow}
+use Rattle.sx_rewrite.specs.Lowers.{TreeLabelsBelow, JudgementsBelow}
 use Rattle.sx_expand.specs.Readings.{AllSmall, IsGiven, AreGiven}
 
 each-at : (P : Judgement → Type 0) (js : List Judgement) (i : ℕ) (j : Judgement) →
@@ -25,10 +25,10 @@ each-at P (x ∷ js) zero j h e = let same : x ≡ j = cc in subst P same h.0
 each-at P (x ∷ js) (suc i) j h e = each-at P js i j h.1 e
 
 below-at : (n : ℕ) (js : List Judgement) (i : ℕ) (j : Judgement) → JudgementsBelow n js →
-    slice_get js i ≡ Some j → AreBelow n j.places
+    slice_get js i ≡ Some j → TreeLabelsBelow n j.places
 below-at n [] i j h e = cc
 below-at n (x ∷ js) zero j h e =
-    let same : x ≡ j = cc in subst (λ (y : Judgement). AreBelow n y.places) same h.0
+    let same : x ≡ j = cc in subst (λ (y : Judgement). TreeLabelsBelow n y.places) same h.0
 below-at n (x ∷ js) (suc i) j h e = below-at n js i j h.1 e
 
 small-shallow : (ts : List Tree) → AllSmall ts → AreShallow ts
@@ -41,7 +41,7 @@ all-shallow forms [] h = tt
 all-shallow forms (j ∷ js) h = (small-shallow j.places h.0.small, all-shallow forms js h.1)
 
 -- base labels have no entry in a plain table
-module _ (n : ℕ) (table : Table) (is : IsTable n table) where
+module _ (n : ℕ) (table : Table) (is : IsPlainTable n table) where
   mutual
     base-fits : (t : Tree) → LabelsBelow n t → FitsTable table t
     base-fits (node label kids) h = (
@@ -55,7 +55,7 @@ module _ (n : ℕ) (table : Table) (is : IsTable n table) where
     bases-fit none h = tt
     bases-fit (t ▹ ts) h = (base-fits t h.0, bases-fit ts h.1)
 
-  row-fits : (ts : List Tree) → AreBelow n ts → FitTable table (forest ts)
+  row-fits : (ts : List Tree) → TreeLabelsBelow n ts → FitTable table (forest ts)
   row-fits [] h = tt
   row-fits (t ∷ ts) h = (base-fits t h.0, row-fits ts h.1)
 
@@ -89,7 +89,7 @@ module _ (set : AcceptedOf) (hyps : Hypotheses) (good : AreGiven set hyps) where
         here.many ∙ sym (length-map (places_at (forms_in set.base) j.form) (λ (p : Place). p.sort))
 
     -- and as many parts as a table of plain constructors asks for
-    pub given-fits : (table : Table) → IsTable (length (shapes_in set.base)) table →
+    pub given-fits : (table : Table) → IsPlainTable (length (shapes_in set.base)) table →
         FitTable table (forest j.places)
     given-fits table is =
         row-fits (length (shapes_in set.base)) table is j.places

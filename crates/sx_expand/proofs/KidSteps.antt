@@ -9,7 +9,9 @@ use Rattle.sx_rules.specs.declared.rule.Premise.{Premise as PremiseOf}
 use Rattle.sx_rules.specs.declared.rule.Premise.TheVariants.{Holds, Apart}
 use Rattle.sx_rules.specs.declared.rule.Judgement.{Judgement as JudgementOf}
 use Rattle.sx_rules.specs.Deep.{AreShallow, PremiseIsShallow, PremisesAreShallow}
-use Rattle.sx_rules.specs.Derivations.{Proof, Proofs, no_more, ◌⊳◌, proof_at, Derives, DeriveEach, HasShallowBinds, HaveShallowBinds, ShallowJudgements, nodes_of}
+use Rattle.sx_rules.specs.Derivations.{Proof, Proofs, no_more, ◌⊳◌, proof_at, Derives, DeriveEach}
+use Rattle.sx_rules.specs.Derivations.{HasShallowBinds, HaveShallowBinds, ShallowJudgements}
+use Rattle.sx_rules.specs.Derivations.{nodes_of}
 use Rattle.sx_rules.specs.Instances.{bound_by}
 use Rattle.sx_rules.specs.Modes.{Modes}
 use Rattle.sx_rules.specs.Rules.{Premise, holds, Hypotheses, judgement_instance, judgements_of}
@@ -19,8 +21,9 @@ use Rattle.sx_arena.specs.Arena.{Extends}
 use Rattle.sx_arena.specs.Matching.{Assignment}
 use Rattle.sx_rewrite.specs.declared.rewrite_error.RewriteError.{RewriteError}
 use Rattle.sx_rewrite.specs.Accepted.{Accepted, extended_rules, IsAccepted}
-use Rattle.sx_rewrite.specs.Lowering.{BindsFit, AllBindsFit, CanLower, IsRefused, needed_terms, IsKidRefused}
-use Rattle.sx_rewrite.specs.LoweredSizes.{number_of}
+use Rattle.sx_rewrite.specs.Lowering.{BindsFit, AllBindsFit, CanLower, IsLoweringRefused}
+use Rattle.sx_rewrite.specs.Lowering.{needed_terms, IsKidRefused}
+use Rattle.sx_rewrite.specs.LoweredSizes.{proof_count}
 use Rattle.sx_rewrite.specs.Measured.{Measures, MeasuresEach}
 use Rattle.sx_rewrite.specs.Needed.{needed}
 use Rattle.sx_rewrite.specs.Puts.{Tells}
@@ -36,10 +39,11 @@ use Rattle.sx_expand.specs.declared.reader.Reader.{Reader}
 use Rattle.sx_expand.specs.Followed.{IsWork, bindings_of}
 use Rattle.sx_expand.specs.KidsRead.{IsKidRead}
 use Rattle.sx_expand.specs.Listed.{StandsIn, StandInRow, set_in, entries_in}
-use Rattle.sx_expand.specs.Readings.{IsReading, set_by, signature_by, hyps_by}
+use Rattle.sx_expand.specs.Readings.{IsListReading, set_by, signature_by, hyps_by}
 use Rattle.sx_expand.specs.ReadDerivations.{IsReadRefused}
-use Rattle.sx_expand.specs.ReadNodes.{NodeData, IsNodeIn, proof_by, AreFollowed, IsNodeRead, KidData, IsKidIn}
-use Rattle.sx_expand.specs.Readers.{terms_in, GoesOn}
+use Rattle.sx_expand.specs.ReadNodes.{NodeData, IsNodeIn, proof_by, AreFollowed, IsNodeRead}
+use Rattle.sx_expand.specs.ReadNodes.{KidData, IsKidIn}
+use Rattle.sx_expand.specs.Readers.{terms_in, ReaderGoesOn}
 use Rattle.sx_expand.proofs.Bindings.{is-by, bindings-stay}
 use Rattle.sx_expand.proofs.Following.{follows-apart}
 use Rattle.sx_expand.proofs.Givens.{given-near}
@@ -85,7 +89,7 @@ refused-at a subjects hyps need e n (x ⊳ ps) (suc i) p (ts ∷ tss) f g k h =
     here true c = f 0 x (omega arith) (let v : n + 0 ≡ n = omega arith in ap need v ∙ c) refl ts h.0
     here false c = refl
 
-within-number : (ps : Proofs) (i : ℕ) (p : Proof) → proof_at ps i ≡ Some p → i < number_of ps
+within-number : (ps : Proofs) (i : ℕ) (p : Proof) → proof_at ps i ≡ Some p → i < proof_count ps
 within-number no_more i p e = cc
 within-number (x ⊳ ps) zero p e = omega arith
 within-number (x ⊳ ps) (suc i) p e = let h = within-number ps i p e in omega (arith, h)
@@ -98,12 +102,12 @@ pub record KidsSoFar (l : Reading) (n : Node) (ps : List PremiseOf) (i at : ℕ)
   pub binds : HaveShallowBinds left
   pub fit : AllBindsFit (set_by l).table left
   pub from : (m : ℕ) → proof_at left m ≡ proof_at d.kids (length numbers + m)
-  pub many : number_of d.kids ≡ length numbers + number_of left
+  pub many : proof_count d.kids ≡ length numbers + proof_count left
   pub followed : AreFollowed l d.rule d.binds (map premise (drop i ps)) (bindings_of terms w)
   pub read : (m : ℕ) (p : Proof) → n.is_needed ≡ true → m < length numbers → needed (certificate_at (set_by l) n.number) m ≡ true → proof_at d.kids m ≡ Some p →
       IsKidRead (set_by l) (signature_by l).subjects (hyps_by l) terms p (get_or numbers m None)
 
-module _ (l : Reading) (good : IsReading l) (n : Node) (d : NodeData) (is : IsNodeIn l n d) where
+module _ (l : Reading) (good : IsListReading l) (n : Node) (d : NodeData) (is : IsNodeIn l n d) where
   ok : IsAccepted (signature_by l) (shapes_in l.listing.set.now.base) (shapes_in l.listing.set.now.rules) (set_by l)
   ok = good.rules.accepted_with
 
@@ -154,7 +158,7 @@ module _ (l : Reading) (good : IsReading l) (n : Node) (d : NodeData) (is : IsNo
           };
         }
       where
-        empty : (left : Proofs) → DeriveEach (extended_rules a) (hyps_by l) [] left → number_of left ≡ 0
+        empty : (left : Proofs) → DeriveEach (extended_rules a) (hyps_by l) [] left → proof_count left ≡ 0
         empty no_more h = refl
         empty (q ⊳ qs) h = absurd h
 
@@ -252,7 +256,7 @@ module _ (l : Reading) (good : IsReading l) (n : Node) (d : NodeData) (is : IsNo
               let q = next-kid in
               let one : length new ≡ length numbers + 1 = ap length is_new ∙ length_push numbers number in
               let after : end ≡ at + nodes_of q.first = to ∙ good.ends.each at q.first (omega arith) q.listed in
-              let left_many : number_of so.left ≡ number_of q.rest + 1 = ap number_of q.is_left in
+              let left_many : proof_count so.left ≡ proof_count q.rest + 1 = ap proof_count q.is_left in
               let all = so.many in
               record {
                 left = q.rest;
@@ -288,7 +292,7 @@ module _ (l : Reading) (good : IsReading l) (n : Node) (d : NodeData) (is : IsNo
               here need true f ts m = h.0 (needs ∙ and_from n.is_needed _ need f) ts m
               here need false f ts m = subst (λ (x : RewriteError). Tells None x) (sym (h.1 (needs ∙ and_right n.is_needed _ f))) tt
 
-              refuses : n.is_needed ≡ true → IsRefused a (signature_by l).subjects (hyps_by l) (proof_by n d) e
+              refuses : n.is_needed ≡ true → IsLoweringRefused a (signature_by l).subjects (hyps_by l) (proof_by n d) e
               refuses need = by-refuse (signature_by l) base shapes a ok (hyps_by l) good.given.below near n.number d.binds d.kids (can-lower l n d is need) cert refl e (λ tss m.
                   refused-at a (signature_by l).subjects (hyps_by l) (needed cert) e 0 d.kids (length numbers) next-kid.first tss
                   (λ i x low f g. (so.read i x need low (let z : 0 + i ≡ i = omega arith in sym (ap (needed cert) z) ∙ f) g).small)
@@ -296,7 +300,7 @@ module _ (l : Reading) (good : IsReading l) (n : Node) (d : NodeData) (is : IsNo
 
 -- in the loop over the premises the reader goes on, and the kids up to here are read
 pub record IsLooping (l : Reading) (n : Node) (ps : List PremiseOf) (i at : ℕ) (start now : Reader) (old w : Work) (numbers : List (Option ℕ)) : Type 0 where
-  pub on : GoesOn (set_by l).table start now
+  pub on : ReaderGoesOn (set_by l).table start now
   pub work : IsWork (terms_in now) w
   pub after : n.at + 1 ≤ at
   pub kids : (d : NodeData) → IsNodeIn l n d → AreFollowed l d.rule d.binds d.rule.premises (bindings_of (terms_in start) old) → KidsSoFar l n ps i at (terms_in now) w numbers d

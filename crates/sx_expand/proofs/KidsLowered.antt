@@ -6,9 +6,10 @@ use Rattle.sx_term.specs.Sorts.{Shape}
 use Rattle.sx_rules.specs.Discipline.{subjects_of}
 use Rattle.sx_rules.specs.Instances.{bound_by}
 use Rattle.sx_rules.specs.Rules.{Judgement, Rule, Hypotheses, judgement_instance}
-use Rattle.sx_rules.specs.Derivations.{Proof, Proofs, by, given, no_more, ◌⊳◌, proof_at, Derives, DeriveEach}
+use Rattle.sx_rules.specs.Derivations.{Proof, Proofs, by, given, no_more, ◌⊳◌, proof_at, Derives}
+use Rattle.sx_rules.specs.Derivations.{DeriveEach}
 use Rattle.sx_rewrite.specs.Accepted.{Accepted, extended_rules, Signature, IsAccepted}
-use Rattle.sx_rewrite.specs.LoweredSizes.{number_of}
+use Rattle.sx_rewrite.specs.LoweredSizes.{proof_count}
 use Rattle.sx_rewrite.specs.Lowering.{AreLoweredTo}
 use Rattle.sx_rewrite.specs.Lowers.{HypothesesBelow}
 use Rattle.sx_rewrite.proofs.Lowerings.{lowered_are_derivations}
@@ -38,7 +39,7 @@ abbrev pub masked : (ℕ → Bool) → ℕ → Proofs → Proofs
 masked need n no_more = no_more
 masked need n (q ⊳ qs) = (if need n then q else given 0) ⊳ masked need (suc n) qs
 
-masked-many : (need : ℕ → Bool) (n : ℕ) (qs : Proofs) → number_of (masked need n qs) ≡ number_of qs
+masked-many : (need : ℕ → Bool) (n : ℕ) (qs : Proofs) → proof_count (masked need n qs) ≡ proof_count qs
 masked-many need n no_more = refl
 masked-many need n (q ⊳ qs) = let h = masked-many need (suc n) qs in omega (arith, h)
 

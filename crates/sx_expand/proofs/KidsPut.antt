@@ -14,9 +14,9 @@ use Rattle.sx_rules.specs.Discipline.{subjects_of, AreBareSubjects}
 use Rattle.sx_rules.specs.Derivations.{Proof, Proofs, no_more, ◌⊳◌, proof_at, Derives}
 use Rattle.sx_plain.specs.declared.measure.Measure.{Measure}
 use Rattle.sx_arena.specs.declared.arena.Cell.{Cell}
-use Rattle.sx_arena.specs.Arena.{tree_at, AreBelow, IsRead}
+use Rattle.sx_arena.specs.Arena.{tree_at, AreBelow, IsCellRead}
 use Rattle.sx_arena.proofs.Arenas.{depth_read, size_read}
-use Rattle.sx_rewrite.specs.LoweredSizes.{number_of}
+use Rattle.sx_rewrite.specs.LoweredSizes.{proof_count}
 use Rattle.sx_rewrite.specs.Puts.{IsMeasureOf, AreMeasuresOf, AreMadeOf}
 use Rattle.sx_rewrite.specs.PutSubjects.{IsSubjectPut, ArePutBelow}
 use Rattle.sx_rewrite.proofs.PutSubjects.{greatest-set, measures-set}
@@ -72,7 +72,7 @@ many-made f (t ∷ ts) [] h = absurd h
 many-made f (t ∷ ts) (j ∷ is) h = let r = many-made f ts is h.1 in omega (arith, r)
 
 -- the cell tells the measure of a term that is not too deep
-pub cell-measure : (terms : List Tree) (i d : ℕ) (c : Cell) → depth_of (tree_at terms i) ≤ 1000 → IsRead terms i c → (c.depth ≤ 1000 → d ≡ c.depth) → IsMeasureOf (tree_at terms i) (record { depth = d; size = c.size })
+pub cell-measure : (terms : List Tree) (i d : ℕ) (c : Cell) → depth_of (tree_at terms i) ≤ 1000 → IsCellRead terms i c → (c.depth ≤ 1000 → d ≡ c.depth) → IsMeasureOf (tree_at terms i) (record { depth = d; size = c.size })
 cell-measure terms i d c s r f =
     let a = depth_read terms i c r in
     let b = size_read terms i c r in
@@ -151,7 +151,7 @@ drop-none [] n e = omega arith
 drop-none (x ∷ js) zero e = cc
 drop-none (x ∷ js) (suc n) e = let h = drop-none js n e in omega (arith, h)
 
-pub proof-within : (ps : Proofs) (i : ℕ) → i < number_of ps → (p : Proof) × (proof_at ps i ≡ Some p)
+pub proof-within : (ps : Proofs) (i : ℕ) → i < proof_count ps → (p : Proof) × (proof_at ps i ≡ Some p)
 proof-within no_more i l = absurd (omega (arith, l))
 proof-within (p ⊳ ps) zero l = (p, refl)
 proof-within (p ⊳ ps) (suc i) l = proof-within ps i (omega (arith, l))

@@ -7,7 +7,7 @@ use Rattle.sx_rules.specs.Modes.{Modes}
 use Rattle.sx_rules.specs.Derivations.{Proof, Proofs}
 use Rattle.sx_arena.specs.Arena.{Extends}
 use Rattle.sx_arena.proofs.Growing.{extends-length, extends-at}
-use Rattle.sx_rewrite.specs.Puts.{IsSmall}
+use Rattle.sx_rewrite.specs.Puts.{IsSmallTerm}
 use Rattle.sx_expand.specs.KidSubjects.{IsSubjectAt, IsKidSubject, AreKidSubjects}
 
 pub subject-stays : (old new subjects : List Tree) (o : Option ℕ) → Extends old new → IsSubjectAt old subjects o → IsSubjectAt new subjects o
@@ -15,7 +15,7 @@ subject-stays old new subjects None x h = h
 subject-stays old new subjects (Some i) x (l, d, (rest, e)) =
     let same = extends-at old new x i (node 0 none) l in
     let n = extends-length old new x in
-    (omega (arith, l, n), subst IsSmall (sym same) d, (rest, e ∙ ap (λ (t : Tree). t ∷ rest) (sym same)))
+    (omega (arith, l, n), subst IsSmallTerm (sym same) d, (rest, e ∙ ap (λ (t : Tree). t ∷ rest) (sym same)))
 
 pub kid-stays : (subjects : Modes) (rules : List Rule) (hyps : Hypotheses) (old new : List Tree) (kid : Proof) (o : Option ℕ) → Extends old new → IsKidSubject subjects rules hyps old kid o → IsKidSubject subjects rules hyps new kid o
 kid-stays subjects rules hyps old new kid o x h = record { judgement = h.judgement; derives = h.derives; is = λ k d. subject-stays old new _ o x (h.is k d) }

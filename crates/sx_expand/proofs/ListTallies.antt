@@ -10,13 +10,14 @@ use Rattle.sx_rewrite.specs.declared.given_use.GivenUse.{GivenUse}
 use Rattle.sx_rewrite.specs.declared.lowered_tally.LoweredTally.{LoweredTally}
 use Rattle.sx_rewrite.specs.Accepted.{Accepted}
 use Rattle.sx_rewrite.specs.Copied.{copied, copied_of}
-use Rattle.sx_rewrite.specs.LoweredSizes.{number_of}
+use Rattle.sx_rewrite.specs.LoweredSizes.{proof_count}
 use Rattle.sx_rewrite.specs.Sizes.{in_u64, in_u128, used_sum, used_most, used_copies}
 use Rattle.sx_rewrite.specs.Tallies.{IsSizedTally, IsBaseTally, IsWithKid}
-use Rattle.sx_rewrite.specs.Used.{lowered_nodes, lowered_nodes_of, lowered_height, lowered_heights_of}
+use Rattle.sx_rewrite.specs.Used.{lowered_nodes, lowered_nodes_of, lowered_height}
+use Rattle.sx_rewrite.specs.Used.{lowered_heights_of}
 use Rattle.sx_rewrite.proofs.SizeLaws.{uses-drop}
 use Rattle.sx_rewrite.proofs.Tallied.{one_time, no_time}
-use Rattle.sx_expand.specs.Standing.{IsListed, AreListed, AreEnds}
+use Rattle.sx_expand.specs.Standing.{IsDerivationListed, AreListed, AreEnds}
 use Rattle.sx_expand.proofs.Standing.{nodes-some, stands-within, listed-first}
 use Rattle.sx_expand.proofs.Rows.{UpTo, head-is, row-ended}
 
@@ -24,7 +25,7 @@ use Rattle.sx_expand.proofs.Rows.{UpTo, head-is, row-ended}
 pub record SizedSoFar (a : Accepted) (list : List Entry) (size : CertificateSize) (here i : ℕ) (all : LoweredTally) (ps : Proofs) : Type 0 where
   pub left : Proofs
   pub row : AreListed a list here left
-  pub many : number_of left + i ≡ length size.uses.items
+  pub many : proof_count left + i ≡ length size.uses.items
   pub low : most_height left ≤ most_height ps
   pub nodes : in_u128 (all.nodes + used_sum (drop i size.uses.items) (lowered_nodes_of a left)) ≡ in_u128 (size.nodes + used_sum size.uses.items (lowered_nodes_of a ps))
   pub within : in_u128 all.nodes ≡ all.nodes
@@ -33,7 +34,7 @@ pub record SizedSoFar (a : Accepted) (list : List Entry) (size : CertificateSize
   pub copied : in_u64 (all.copied + used_copies (drop i size.uses.items) (lowered_nodes_of a left) (copied_of a left)) ≡ in_u64 (used_copies size.uses.items (lowered_nodes_of a ps) (copied_of a ps))
 
 abbrev pub Sizing : Accepted → List Entry → CertificateSize → ℕ → ℕ → ℕ → LoweredTally → Type 0
-Sizing a list size first here i all = (ps : Proofs) → AreListed a list first ps → number_of ps ≡ length size.uses.items → SizedSoFar a list size here i all ps
+Sizing a list size first here i all = (ps : Proofs) → AreListed a list first ps → proof_count ps ≡ length size.uses.items → SizedSoFar a list size here i all ps
 
 pub sizing-first : (a : Accepted) (list : List Entry) (size : CertificateSize) (first : ℕ) (all : LoweredTally) → all ≡ record { nodes = size.nodes; height = size.height; copied = 0 } → in_u128 size.nodes ≡ size.nodes → size.height ≤ 3000 → Sizing a list size first first 0 all
 sizing-first a list size first all e within small ps row many =
@@ -54,13 +55,13 @@ pub record IsNextKid (a : Accepted) (list : List Entry) (ends : List ℕ) (here 
   pub first : Proof
   pub rest : Proofs
   pub is : left ≡ first ⊳ rest
-  pub listed : IsListed a list here first
+  pub listed : IsDerivationListed a list here first
   pub low : height_of first ≤ high
   pub within : here < length ends
   pub more : here < get_or ends here 0
   pub row : AreListed a list (get_or ends here 0) rest
 
-pub next-kid : (a : Accepted) (list : List Entry) (ends : List ℕ) (here : ℕ) (left : Proofs) (high : ℕ) → AreEnds a list ends → 0 < number_of left → most_height left ≤ high → AreListed a list here left → IsNextKid a list ends here left high
+pub next-kid : (a : Accepted) (list : List Entry) (ends : List ℕ) (here : ℕ) (left : Proofs) (high : ℕ) → AreEnds a list ends → 0 < proof_count left → most_height left ≤ high → AreListed a list here left → IsNextKid a list ends here left high
 next-kid a list ends here no_more high known l h row = absurd (omega (arith, l))
 next-kid a list ends here (p ⊳ ps) high known l h row =
     let f = listed-first a list here p ps row in
@@ -79,11 +80,11 @@ next-kid a list ends here (p ⊳ ps) high known l h row =
       row = subst (λ (x : ℕ). AreListed a list x ps) (sym e) f.1;
     }
 
-pub some-left : (a : Accepted) (list : List Entry) (size : CertificateSize) (here i : ℕ) (all : LoweredTally) (ps : Proofs) → i < length size.uses.items → (so : SizedSoFar a list size here i all ps) → 0 < number_of so.left
+pub some-left : (a : Accepted) (list : List Entry) (size : CertificateSize) (here i : ℕ) (all : LoweredTally) (ps : Proofs) → i < length size.uses.items → (so : SizedSoFar a list size here i all ps) → 0 < proof_count so.left
 some-left a list size here i all ps l so = let m = so.many in omega (arith, l, m)
 
 pub sizing-more : (a : Accepted) (list : List Entry) (ends : List ℕ) (size : CertificateSize) (first here i : ℕ) (old new : LoweredTally) (u : GivenUse) → AreEnds a list ends → i < length size.uses.items → u ≡ get_or size.uses.items i u →
-    ((p : Proof) → IsListed a list here p → IsWithKid a u p old new) → Sizing a list size first here i old → Sizing a list size first (get_or ends here 0) (i + 1) new
+    ((p : Proof) → IsDerivationListed a list here p → IsWithKid a u p old new) → Sizing a list size first here i old → Sizing a list size first (get_or ends here 0) (i + 1) new
 sizing-more a list ends size first here i old new u known l at_u one so ps row many =
     let s = so ps row many in
     let k = next-kid a list ends here s.left (most_height s.left) known (some-left a list size here i old ps l s) (omega arith) s.row in
@@ -98,7 +99,7 @@ sizing-more a list ends size first here i old new u known l at_u one so ps row m
     ≡ (u.times - 1) * lowered_nodes a k.first + (if nat_lt 0 u.times then copied a k.first else 0) + used_copies (drop (i + 1) size.uses.items) (lowered_nodes_of a k.rest) (copied_of a k.rest) =
     (λ j. used_copies (us j) (lowered_nodes_of a (q j)) (copied_of a (q j))) in
     let eh : most_height s.left ≡ max (height_of k.first) (most_height k.rest) = ap most_height q in
-    let en : number_of s.left ≡ number_of k.rest + 1 = ap number_of q in
+    let en : proof_count s.left ≡ proof_count k.rest + 1 = ap proof_count q in
     let hn = w.nodes in
     let hh = w.height in
     let hs = w.small in
@@ -121,7 +122,7 @@ sizing-more a list ends size first here i old new u known l at_u one so ps row m
       copied = omega (arith, c, hc, sc);
     }
 
-pub sizing-last : (a : Accepted) (list : List Entry) (size : CertificateSize) (first here i : ℕ) (all : LoweredTally) → length size.uses.items ≤ i → Sizing a list size first here i all → (ps : Proofs) → AreListed a list first ps → number_of ps ≡ length size.uses.items → IsSizedTally a size ps all
+pub sizing-last : (a : Accepted) (list : List Entry) (size : CertificateSize) (first here i : ℕ) (all : LoweredTally) → length size.uses.items ≤ i → Sizing a list size first here i all → (ps : Proofs) → AreListed a list first ps → proof_count ps ≡ length size.uses.items → IsSizedTally a size ps all
 sizing-last a list size first here i all l so ps row many =
     let s = so ps row many in
     let none = drop_all i size.uses.items l in
@@ -169,7 +170,7 @@ basing-first a list first end all e ps up =
     })
 
 pub basing-more : (a : Accepted) (list : List Entry) (ends : List ℕ) (first end here : ℕ) (old new : LoweredTally) → AreEnds a list ends → here < end →
-    ((p : Proof) → IsListed a list here p → IsWithKid a (record { times = 1; above = 1 }) p old new) → Basing a list first end here old → Basing a list first end (get_or ends here 0) new
+    ((p : Proof) → IsDerivationListed a list here p → IsWithKid a (record { times = 1; above = 1 }) p old new) → Basing a list first end here old → Basing a list first end (get_or ends here 0) new
 basing-more a list ends first end here old new known l one so ps up =
     let s = so ps up in
     let k = head-is a list ends here end s.left known l s.up in

@@ -8,7 +8,8 @@ use Rattle.sx_rules.specs.Discipline.{AreBareSubjects}
 use Rattle.sx_rules.specs.Rules.{Rule, Hypotheses, judgements_of}
 use Rattle.sx_rules.specs.Sets.{shapes_in}
 use Rattle.sx_rewrite.specs.declared.rewrite_error.RewriteError.{RewriteError}
-use Rattle.sx_rewrite.specs.Accepted.{Known, rule_in, Accepted, known_of, extended_rules, Signature, IsAccepted}
+use Rattle.sx_rewrite.specs.Accepted.{Known, rule_in, Accepted, known_of, extended_rules, Signature}
+use Rattle.sx_rewrite.specs.Accepted.{IsAccepted}
 use Rattle.sx_rewrite.specs.Lowering.{CanLower}
 use Rattle.sx_rewrite.specs.Needed.{needed}
 use Rattle.sx_rewrite.specs.PutSubjects.{IsNodeOf}
@@ -18,7 +19,7 @@ use Rattle.sx_expand.specs.declared.reading.Reading.{Reading}
 use Rattle.sx_expand.specs.declared.node.Node.{Node}
 use Rattle.sx_expand.specs.declared.work.Work.{Work}
 use Rattle.sx_expand.specs.KidSubjects.{AreKidSubjects}
-use Rattle.sx_expand.specs.Readings.{IsReading, set_by, signature_by, hyps_by}
+use Rattle.sx_expand.specs.Readings.{IsListReading, set_by, signature_by, hyps_by}
 use Rattle.sx_expand.specs.LoweredNodes.{NodeOver, IsNodeLowered}
 use Rattle.sx_expand.specs.ReadNodes.{NodeData, IsNodeIn, proof_by, IsNodeRead, IsSubjectRead}
 use Rattle.sx_expand.proofs.Bindings.{is-by}
@@ -30,7 +31,7 @@ use Rattle.sx_expand.proofs.NodeSubject.{node-subject}
 use Rattle.sx_expand.proofs.Nodes.{kids-many}
 use Rattle.sx_rewrite.proofs.Tallied.{derived-fit}
 
-module _ (l : Reading) (good : IsReading l) (n : Node) (need : n.is_needed ≡ true) (d : NodeData) (is : IsNodeIn l n d)
+module _ (l : Reading) (good : IsListReading l) (n : Node) (need : n.is_needed ≡ true) (d : NodeData) (is : IsNodeIn l n d)
     (terms : List Tree) (w : Work) (numbers : List (Option ℕ)) (read : IsNodeRead l n terms w numbers d) where
   ok : IsAccepted (signature_by l) (shapes_in l.listing.set.now.base) (shapes_in l.listing.set.now.rules) (set_by l)
   ok = good.rules.accepted_with

@@ -11,7 +11,7 @@ use Rattle.sx_plain.specs.Plain.{Table}
 use Rattle.sx_expand.specs.declared.reader.Reader.{Reader}
 use Rattle.sx_expand.specs.LoweredNodes.{IsInstanceAt}
 use Rattle.sx_expand.specs.OwnSubjects.{IsSubjectMade}
-use Rattle.sx_expand.specs.Readers.{terms_in, GoesOn}
+use Rattle.sx_expand.specs.Readers.{terms_in, ReaderGoesOn}
 use Rattle.sx_expand.proofs.NumbersPut.{arena-grows}
 
 pub instance-at : (old new : Arena) (numbers : List ℕ) (subjects : List Tree) (o : Option ℕ) → IsSubjectMade old new numbers subjects o → IsInstanceAt (trees new) (map (tree_at (trees old)) numbers) subjects o
@@ -24,7 +24,7 @@ rule-shallow (r ∷ rs) zero x h e = let q : r ≡ x = cc in subst RuleIsShallow
 rule-shallow (r ∷ rs) (suc i) x h e = rule-shallow rs i x h.1 e
 
 -- a reader whose arena grows again
-pub goes-on : (table : Table) (old mid : Reader) (arena : Arena) → GoesOn table old mid → IsArena arena → Extends (terms_in mid) (trees arena) → GoesOn table old (record { arena = arena; images = mid.images })
+pub goes-on : (table : Table) (old mid : Reader) (arena : Arena) → ReaderGoesOn table old mid → IsArena arena → Extends (terms_in mid) (trees arena) → ReaderGoesOn table old (record { arena = arena; images = mid.images })
 goes-on table old mid arena g a x =
     let n = arena-grows table mid arena g.reader a x in
     record { reader = n.reader; extends = extends-then (terms_in old) (terms_in mid) (trees arena) g.extends x }

@@ -7,8 +7,9 @@ use Rattle.sx_rules.specs.Rules.{Hypotheses, judgements_of}
 use Rattle.sx_rules.specs.Derivations.{Proof, Proofs, by, ShallowJudgements}
 use Rattle.sx_rewrite.specs.declared.rewrite_error.RewriteError.{RewriteError}
 use Rattle.sx_rewrite.specs.declared.rewrite_error.RewriteError.TheVariants.{Memory}
-use Rattle.sx_rewrite.specs.Accepted.{Known, basic, checked, Checked, rule_in, Accepted, known_of, Signature, IsAccepted}
-use Rattle.sx_rewrite.specs.Lowering.{own_terms, CanLower, AreLoweredTo, IsRefused}
+use Rattle.sx_rewrite.specs.Accepted.{Known, basic, checked, Checked, rule_in, Accepted, known_of}
+use Rattle.sx_rewrite.specs.Accepted.{Signature, IsAccepted}
+use Rattle.sx_rewrite.specs.Lowering.{own_terms, CanLower, AreLoweredTo, IsLoweringRefused}
 use Rattle.sx_rewrite.specs.Lowers.{HypothesesBelow}
 use Rattle.sx_rewrite.specs.Measured.{Measures}
 use Rattle.sx_rewrite.specs.Needed.{needed}
@@ -59,7 +60,7 @@ module _ (sig : Signature) (base shapes : List Shape) (a : Accepted) (ok : IsAcc
       ∙ ap first_over (own-is own.more) ∙ own.small
 
   -- or the error tells the first that does
-  pub node-refused : (e : RewriteError) → IsNodeRefused a sig.subjects hyps over e → IsRefused a sig.subjects hyps (by r binds kids) e
+  pub node-refused : (e : RewriteError) → IsNodeRefused a sig.subjects hyps over e → IsLoweringRefused a sig.subjects hyps (by r binds kids) e
   node-refused e (inl same) = λ ts m. tells-memory (first_over ts) e same
   node-refused e (inr (more, put, tells)) =
       node.node-refuses sig base shapes a ok hyps below near r binds kids can known at_r kl.news lowered (length numbers) (sym kl.subjects.many) more (puts more put) e

@@ -11,21 +11,24 @@ use Rattle.std.proofs.lemmas.Option.{slice_get_within}
 use Rattle.sx_rules.specs.Discipline.{subjects_of, IsSubjectIn}
 use Rattle.sx_rules.specs.Modes.{Modes, outputs}
 use Rattle.sx_rules.specs.Rules.{Judgement, Rule, Hypotheses, judgement_instance, judgements_of}
-use Rattle.sx_rules.specs.Derivations.{Proof, Proofs, by, given, no_more, ◌⊳◌, proof_at, put_for, Derives, DeriveEach, ShallowJudgements, proof_instance, graft}
+use Rattle.sx_rules.specs.Derivations.{Proof, Proofs, by, given, no_more, ◌⊳◌, proof_at, put_for}
+use Rattle.sx_rules.specs.Derivations.{Derives, DeriveEach, ShallowJudgements, proof_instance}
+use Rattle.sx_rules.specs.Derivations.{graft}
 use Rattle.sx_rules.proofs.Instancing.{map_instance-bound}
 use Rattle.sx_rules.proofs.Moded.{outputs-map}
 use Rattle.sx_arena.specs.Arena.{tree_at}
-use Rattle.sx_rewrite.specs.Accepted.{Known, basic, checked, Checked, rule_in, Accepted, known_of, extended_rules, Signature, IsAccepted, flat_conclusion}
+use Rattle.sx_rewrite.specs.Accepted.{Known, basic, checked, Checked, rule_in, Accepted, known_of}
+use Rattle.sx_rewrite.specs.Accepted.{extended_rules, Signature, IsAccepted, flat_conclusion}
 use Rattle.sx_rewrite.specs.Flat.{flat_judgement, flat_hypotheses}
 use Rattle.sx_rewrite.specs.Lowering.{CanLower}
 use Rattle.sx_rewrite.specs.Lowers.{LowersTo, Lowers, HypothesesBelow}
 use Rattle.sx_rewrite.specs.Measured.{node_terms, certificate_terms, certificate_terms_of}
 use Rattle.sx_rewrite.specs.Needed.{needed}
-use Rattle.sx_rewrite.specs.Puts.{IsSmall}
+use Rattle.sx_rewrite.specs.Puts.{IsSmallTerm}
 use Rattle.sx_rewrite.specs.Rewriting.{too_deep, too_big, first_over}
 use Rattle.sx_rewrite.specs.Stored.{stored_in, certificate_at}
 use Rattle.sx_plain.specs.Plain.{Table}
-use Rattle.sx_rewrite.specs.LoweredSizes.{number_of}
+use Rattle.sx_rewrite.specs.LoweredSizes.{proof_count}
 use Rattle.sx_rewrite.specs.PutImages.{images_for}
 use Rattle.sx_rewrite.specs.PutSubjects.{ArePutBelow}
 use Rattle.sx_rewrite.proofs.Known.{certified-at, rule-at, accepted-sorted, accepted-disciplined}
@@ -69,7 +72,7 @@ small-outputs (false ∷ mask) (t ∷ ts) h = small-outputs mask ts h.1
 
 -- so does the first subject of a judgement whose places pass none
 pub subject-small : (modes : Modes) (j : Judgement) (t : Tree) (rest : List Tree) →
-    AllSmall j.places → subjects_of modes j ≡ t ∷ rest → IsSmall t
+    AllSmall j.places → subjects_of modes j ≡ t ∷ rest → IsSmallTerm t
 subject-small modes j t rest h is =
     (subst AllSmall is (small-outputs (modes j.form) j.places h)).0
 
@@ -77,7 +80,7 @@ subject-small modes j t rest h is =
 pub record Head (s : ℕ → Tree) (t : Tree) (subjects : List Tree) : Type 0 where
   pub rest : List Tree
   pub is : subjects ≡ instance s t ∷ rest
-  pub small : IsSmall (instance s t)
+  pub small : IsSmallTerm (instance s t)
 
 from-places : (modes : Modes) (s : ℕ → Tree) (own k : Judgement) (t : Tree) (rest : List Tree) → k ≡ judgement_instance s own → AllSmall k.places → subjects_of modes own ≡ t ∷ rest → Head s t (subjects_of modes k)
 from-places modes s own k t rest e h f =
@@ -153,7 +156,7 @@ get-within (x ∷ js) (suc i) j e = let h = get-within js i j e in omega (arith,
 
 module _ (sig : Signature) (base shapes : List Shape) (a : Accepted) (ok : IsAccepted sig base shapes a) (hyps : Hypotheses) (terms : List Tree) (news : Proofs) (numbers : List (Option ℕ)) (need : ℕ → Bool)
     (subjects : AreKidSubjects sig.subjects a.base hyps need terms news numbers) (r : ℕ) (c : Checked) (at : slice_get (known_of a) r ≡ Some (checked c)) (binds more : List Tree) (many : length binds ≡ length c.rule.sorts)
-    (kids_many : number_of news ≡ length (judgements_of c.rule.premises)) (put : ArePutBelow sig.subjects a.base hyps need (judgements_of c.rule.premises) news (length numbers) (images_for a.table c.rule.sorts binds) more)
+    (kids_many : proof_count news ≡ length (judgements_of c.rule.premises)) (put : ArePutBelow sig.subjects a.base hyps need (judgements_of c.rule.premises) news (length numbers) (images_for a.table c.rule.sorts binds) more)
     (t : Tree) (rest : List Tree) (k : Judgement) (u : Tree) (us : List Tree) (has : subjects_of sig.subjects k ≡ u ∷ us) where
   -- a node by an extension rule whose certificate is a given
   pub given-head : (i : ℕ) → c.proof ≡ given i → need i ≡ true → Derives a.base hyps k (graft news (proof_instance (bound_by more) c.proof)) → subjects_of sig.subjects (flat_conclusion a.table sig.subjects c) ≡ t ∷ rest →
@@ -187,10 +190,10 @@ module _ (sig : Signature) (base shapes : List Shape) (a : Accepted) (ok : IsAcc
           let sm = subjects.many in
           let v = put.here i j w (omega (arith, l, kids_many, sm)) at_j one (omega (arith, within, old)) needs q at_q k dq (tree_at terms n) st.2.0 st.2.1 in
           let h : Head (bound_by more) (hole w) (subjects_of sig.subjects k) =
-          record { rest = st.2.0; is = st.2.1 ∙ ap (λ (y : Tree). y ∷ st.2.0) (sym v); small = subst IsSmall (sym v) st.1 } in
+          record { rest = st.2.0; is = st.2.1 ∙ ap (λ (y : Tree). y ∷ st.2.0) (sym v); small = subst IsSmallTerm (sym v) st.1 } in
           subst (λ (y : Tree). Head (bound_by more) y (subjects_of sig.subjects k)) same h
 
-each-many : (rules : List Rule) (hyps : Hypotheses) (f : Judgement → Judgement) (js : List Judgement) (ps : Proofs) → DeriveEach rules hyps (map f js) ps → number_of ps ≡ length js
+each-many : (rules : List Rule) (hyps : Hypotheses) (f : Judgement → Judgement) (js : List Judgement) (ps : Proofs) → DeriveEach rules hyps (map f js) ps → proof_count ps ≡ length js
 each-many rules hyps f [] no_more d = refl
 each-many rules hyps f [] (p ⊳ ps) d = absurd d
 each-many rules hyps f (j ∷ js) no_more d = absurd d
@@ -205,10 +208,10 @@ module _ (sig : Signature) (base shapes : List Shape) (a : Accepted) (ok : IsAcc
     (terms : List Tree) (numbers : List (Option ℕ)) (kl : KidsLoweredTo a sig hyps (needed (certificate_at a r)) terms kids numbers)
     (later : List Tree) (number : Option ℕ) (own : IsOwnSubject a sig.subjects hyps later (record { rule = r; known = known; binds = binds; kids = kl.news; count = length numbers }) number)
     (q : Proof) (k : Judgement) (l : Lowers a sig.subjects hyps (by r binds kids) q k) where
-  kids-many : number_of kl.news ≡ length (judgements_of (rule_in known).premises)
+  kids-many : proof_count kl.news ≡ length (judgements_of (rule_in known).premises)
   kids-many = kl.lowered.many ∙ go can.derives
     where
-      go : Derives (extended_rules a) hyps can.judgement (by r binds kids) → number_of kids ≡ length (judgements_of (rule_in known).premises)
+      go : Derives (extended_rules a) hyps can.judgement (by r binds kids) → proof_count kids ≡ length (judgements_of (rule_in known).premises)
       go (found, at, many, concluded, apart_ones, each) =
           let o : Some found ≡ Some (rule_in known) = sym at ∙ rule-at (known_of a) r known at_r in
           let same : found ≡ rule_in known = cc in
@@ -260,7 +263,7 @@ module _ (sig : Signature) (base shapes : List Shape) (a : Accepted) (ok : IsAcc
               let needs : needed (certificate_at a r) i ≡ true = ap (λ (o : Option Known). needed (option_map (λ (x : Checked). x.proof) (stored_in o)) i) at ∙ ap (λ (p : Proof). needed (Some p) i) is ∙ eq-eqb i i refl in
               given-head sig base shapes a ok hyps terms kl.news numbers (needed (certificate_at a r)) kl.subjects r c at binds own.more
               (subst (λ (y : Known). length binds ≡ length (rule_in y).sorts) same (node.binds-many sig base shapes a ok hyps below near r binds kids can known at_r))
-              (subst (λ (y : Known). number_of kl.news ≡ length (judgements_of (rule_in y).premises)) same kids-many)
+              (subst (λ (y : Known). proof_count kl.news ≡ length (judgements_of (rule_in y).premises)) same kids-many)
               (subst (λ (y : Known). ArePutBelow sig.subjects a.base hyps (needed (certificate_at a r)) (judgements_of (rule_in y).premises) kl.news (length numbers) (images_for a.table (rule_in y).sorts binds) own.more) same own.put)
               t rest k (instance (bound_by k-subjects.0) t) (map (instance (bound_by k-subjects.0)) rest) (k-subjects.1 ∙ ap (map (instance (bound_by k-subjects.0))) e) i is needs d f
 
@@ -273,4 +276,4 @@ module _ (sig : Signature) (base shapes : List Shape) (a : Accepted) (ok : IsAcc
       go (Some i) (t, rest, e, within, is) =
           let h = head-of t rest e in
           let m = is ∙ put-made own.more own.made t own.made_are h.small in
-          (within, subst IsSmall (sym m) h.small, (h.rest, h.is ∙ ap (λ (y : Tree). y ∷ h.rest) (sym m)))
+          (within, subst IsSmallTerm (sym m) h.small, (h.rest, h.is ∙ ap (λ (y : Tree). y ∷ h.rest) (sym m)))

@@ -5,14 +5,15 @@ use Rattle.sx_term.specs.Tree.{Tree}
 use Rattle.sx_rules.specs.Rules.{Rule, judgements_of}
 use Rattle.sx_rules.specs.Derivations.{Proof, Proofs, by}
 use Rattle.sx_rules.specs.Orders.{Entry, of_rule}
-use Rattle.sx_rewrite.specs.Accepted.{Known, basic, checked, Checked, Accepted, known_of, extended_rules, rule_in}
-use Rattle.sx_rewrite.specs.LoweredSizes.{number_of, FitKids, HasFitKids}
+use Rattle.sx_rewrite.specs.Accepted.{Known, basic, checked, Checked, Accepted, known_of}
+use Rattle.sx_rewrite.specs.Accepted.{extended_rules, rule_in}
+use Rattle.sx_rewrite.specs.LoweredSizes.{proof_count, FitKids, HasFitKids}
 use Rattle.sx_rewrite.specs.Stored.{stored_in}
 use Rattle.sx_rewrite.proofs.Known.{known-at}
 use Rattle.sx_expand.specs.LoweredOrders.{all_entries, grafted_order, order_at}
 
 -- a node has a kid for each judgement among the premises of its rule
-pub kids-many : (a : Accepted) (r : ℕ) (binds : List Tree) (kids : Proofs) (rule : Rule) → HasFitKids a (by r binds kids) → slice_get (extended_rules a) r ≡ Some rule → number_of kids ≡ length (judgements_of rule.premises)
+pub kids-many : (a : Accepted) (r : ℕ) (binds : List Tree) (kids : Proofs) (rule : Rule) → HasFitKids a (by r binds kids) → slice_get (extended_rules a) r ≡ Some rule → proof_count kids ≡ length (judgements_of rule.premises)
 kids-many a r binds kids rule fit at_r =
     let known = known-at (known_of a) r rule at_r in
     let f : FitKids (Some known.0) kids = subst (λ (o : Option Known). FitKids o kids) known.1 fit.0 in

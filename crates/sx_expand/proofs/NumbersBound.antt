@@ -2,7 +2,7 @@
 use Rattle.std.proofs.Common.{◌≡◌, arith, ℕ, zero, suc, ◌+◌, ◌<◌, List, [], ◌∷◌, ◌++◌, map, length, Some, None, refl, sym, ap, ◌∙◌, subst}
 use Rattle.sx_term.specs.Tree.{Tree}
 use Rattle.sx_arena.specs.Arena.{tree_at, AreBelow}
-use Rattle.sx_arena.specs.Binds.{IsFound}
+use Rattle.sx_arena.specs.Binds.{IsBoundTerm}
 use Rattle.sx_arena.specs.Limits.{first_values}
 use Rattle.sx_arena.specs.Matching.{value_or, filled, IsBound}
 use Rattle.sx_expand.specs.declared.work.Work.{Work}
@@ -29,7 +29,7 @@ pub none-bound : (w : Work) (count : ℕ) (ns : List ℕ) → ns ≡ [] → Boun
 none-bound w count ns e = subst (BoundSoFar w count 0) (sym e) (record { goes = λ terms h b. (tt, refl) })
 
 -- one more is found
-pub one-bound : (w : Work) (count v t : ℕ) (ns more : List ℕ) → BoundSoFar w count v ns → ((terms : List Tree) → IsWork terms w → IsFound terms (bindings_of terms w v) (Some t)) → more ≡ ns ++ t ∷ [] →
+pub one-bound : (w : Work) (count v t : ℕ) (ns more : List ℕ) → BoundSoFar w count v ns → ((terms : List Tree) → IsWork terms w → IsBoundTerm terms (bindings_of terms w v) (Some t)) → more ≡ ns ++ t ∷ [] →
     BoundSoFar w count (v + 1) more
 one-bound w count v t ns more so found e = record {
   goes = λ terms h b.
@@ -52,5 +52,5 @@ all-bound w count v ns so e terms h b =
     (x.0, x.1 ∙ ap (λ (n : ℕ). first_values n (filled (bindings_of terms w))) e)
 
 -- a bound variable is found
-pub is-found : (w : Work) (count v : ℕ) (terms : List Tree) → ((x : ℕ) → x < count → IsBound (bindings_of terms w) x) → v < count → IsFound terms (bindings_of terms w v) None → ⊥
+pub is-found : (w : Work) (count v : ℕ) (terms : List Tree) → ((x : ℕ) → x < count → IsBound (bindings_of terms w) x) → v < count → IsBoundTerm terms (bindings_of terms w v) None → ⊥
 is-found w count v terms b l f = let x = b v l in let q : None ≡ Some x.0 = sym f ∙ x.1 in cc

@@ -18,7 +18,7 @@ use Rattle.sx_rewrite.proofs.Instanced.{greatest-both, measures-both}
 use Rattle.sx_expand.specs.declared.put_number.PutNumber.{PutNumber}
 use Rattle.sx_expand.specs.declared.reader.Reader.{Reader}
 use Rattle.sx_expand.specs.Put.{IsPutAt, ArePutAt}
-use Rattle.sx_expand.specs.Readers.{terms_in, IsReader, GoesOn}
+use Rattle.sx_expand.specs.Readers.{terms_in, IsLoweringReader, ReaderGoesOn}
 
 made-both : (ts us xs ys : List Tree) → AreMadeOf ts us → AreMadeOf xs ys → AreMadeOf (ts ++ xs) (us ++ ys)
 made-both [] [] xs ys h k = k
@@ -75,10 +75,10 @@ below-at m (x ∷ ns) (suc i) n h l e = below-at m ns i n h.1 (omega (arith, l))
 
 -- the images up to a place are put
 pub record NumbersSoFar (table : Table) (sorts : List Sort) (start now : Reader) (binds : List ℕ) (i : ℕ) (ns : List ℕ) (ms : List Measure) : Type 0 where
-  pub on : GoesOn table start now
+  pub on : ReaderGoesOn table start now
   pub put : ArePutAt (terms_in now) (take i (images_for table sorts (map (tree_at (terms_in start)) binds))) ns ms
 
-pub no-numbers : (table : Table) (sorts : List Sort) (start : Reader) (binds : List ℕ) (ns : List ℕ) (ms : List Measure) → IsReader table start → ns ≡ [] → ms ≡ [] → NumbersSoFar table sorts start start binds 0 ns ms
+pub no-numbers : (table : Table) (sorts : List Sort) (start : Reader) (binds : List ℕ) (ns : List ℕ) (ms : List Measure) → IsLoweringReader table start → ns ≡ [] → ms ≡ [] → NumbersSoFar table sorts start start binds 0 ns ms
 no-numbers table sorts start binds ns ms r e f =
     subst (λ (x : List ℕ). NumbersSoFar table sorts start start binds 0 x ms) (sym e)
     (subst (λ (x : List Measure). NumbersSoFar table sorts start start binds 0 [] x) (sym f)
@@ -96,7 +96,7 @@ module _ (table : Table) (sorts : List Sort) (start now : Reader) (binds : List 
     pub bound-is : tree_at (terms_in now) n ≡ tree_at (terms_in start) n
     bound-is = extends-at (terms_in start) (terms_in now) so.on.extends n _ (below-at (length (terms_in start)) binds i n below l at)
 
-    pub numbers-step : (next : Reader) (sort : Sort) (p : PutNumber) → length binds ≡ length sorts → sort ≡ get_or sorts i sort → GoesOn table now next →
+    pub numbers-step : (next : Reader) (sort : Sort) (p : PutNumber) → length binds ≡ length sorts → sort ≡ get_or sorts i sort → ReaderGoesOn table now next →
         IsPutAt (terms_in next) (image_for table sort (tree_at (terms_in now) n)) p →
         NumbersSoFar table sorts start next binds (i + 1) (ns ++ p.number ∷ []) (ms ++ p.measure ∷ [])
     numbers-step next sort p many e on is =
@@ -117,22 +117,22 @@ module _ (table : Table) (sorts : List Sort) (start now : Reader) (binds : List 
           };
         }
 
-  pub numbers-end : length binds ≤ i → GoesOn table start now × ArePutAt (terms_in now) (images_for table sorts (map (tree_at (terms_in start)) binds)) ns ms
+  pub numbers-end : length binds ≤ i → ReaderGoesOn table start now × ArePutAt (terms_in now) (images_for table sorts (map (tree_at (terms_in start)) binds)) ns ms
   numbers-end l =
       let e = images-all table sorts (map (tree_at (terms_in start)) binds) i (let m = length-map (tree_at (terms_in start)) binds in omega (arith, l, m)) in
       (so.on, subst (λ (us : List Tree). ArePutAt (terms_in now) us ns ms) e so.put)
 
 -- what is known of a reader stays where terms are put into its arena
-pub arena-grows : (table : Table) (old : Reader) (arena : Arena) → IsReader table old → IsArena arena → Extends (terms_in old) (trees arena) → GoesOn table old (record { arena = arena; images = old.images })
+pub arena-grows : (table : Table) (old : Reader) (arena : Arena) → IsLoweringReader table old → IsArena arena → Extends (terms_in old) (trees arena) → ReaderGoesOn table old (record { arena = arena; images = old.images })
 arena-grows table old arena r a x = record {
   reader = record { arena = a; images = images_stay_known table (terms_in old) (trees arena) old.images x r.images };
   extends = x;
 }
 
 -- a node without kids is put
-pub blank-put : (table : Table) (sort : Sort) (k : ℕ) (t : Tree) (old : Reader) (arena : Arena) (i : ℕ) (kids : List ℕ) → sort ≡ Typed k → kids ≡ [] → IsReader table old →
+pub blank-put : (table : Table) (sort : Sort) (k : ℕ) (t : Tree) (old : Reader) (arena : Arena) (i : ℕ) (kids : List ℕ) → sort ≡ Typed k → kids ≡ [] → IsLoweringReader table old →
     IsHeld old.arena arena i (node 0 (forest (map (tree_at (terms_in old)) kids))) →
-    GoesOn table old (record { arena = arena; images = old.images }) × IsPutAt (trees arena) (image_for table sort t) (record { number = i; measure = record { depth = 1; size = 1 } })
+    ReaderGoesOn table old (record { arena = arena; images = old.images }) × IsPutAt (trees arena) (image_for table sort t) (record { number = i; measure = record { depth = 1; size = 1 } })
 blank-put table sort k t old arena i kids e f r h =
     let blank = ap (λ (is : List ℕ). node 0 (forest (map (tree_at (terms_in old)) is))) f in
     let put : IsPutAt (trees arena) (node 0 none) (record { number = i; measure = record { depth = 1; size = 1 } }) =

@@ -4,7 +4,7 @@ use Rattle.sx_rules.specs.Derivations.{Proofs}
 use Rattle.sx_rules.specs.Orders.{Entry}
 use Rattle.sx_rewrite.specs.Accepted.{Accepted}
 use Rattle.sx_expand.specs.Standing.{ListedEach, AreEnds}
-use Rattle.sx_expand.specs.Steps.{AreFrom}
+use Rattle.sx_expand.specs.Steps.{AreNotBelow}
 use Rattle.sx_expand.proofs.Rows.{UpTo, head-is, row-ended}
 
 -- the places so far, with those of what is left, are those of all
@@ -44,9 +44,9 @@ placing-last a list first end here so_far l so ps up =
     let all : ListedEach a list (so_far ++ []) ps = s.all [] (subst (λ (x : Proofs). ListedEach a list [] x) (sym none) tt) in
     subst (λ (x : List ℕ). ListedEach a list x ps) (append-nil so_far) all
 
-pub from-push : (first here : ℕ) (xs ys : List ℕ) → ys ≡ xs ++ here ∷ [] → first ≤ here → AreFrom first xs → AreFrom first ys
-from-push first here xs ys e l h = subst (AreFrom first) (sym e) (go xs h)
+pub from-push : (first here : ℕ) (xs ys : List ℕ) → ys ≡ xs ++ here ∷ [] → first ≤ here → AreNotBelow first xs → AreNotBelow first ys
+from-push first here xs ys e l h = subst (AreNotBelow first) (sym e) (go xs h)
   where
-    go : (zs : List ℕ) → AreFrom first zs → AreFrom first (zs ++ here ∷ [])
+    go : (zs : List ℕ) → AreNotBelow first zs → AreNotBelow first (zs ++ here ∷ [])
     go [] f = (l, tt)
     go (z ∷ zs) f = (f.0, go zs f.1)

@@ -18,7 +18,7 @@ use Rattle.sx_expand.specs.declared.read.Read.{Read}
 use Rattle.sx_expand.specs.KidSubjects.{IsSubjectAt}
 use Rattle.sx_expand.specs.Listed.{set_in}
 use Rattle.sx_expand.specs.Readings.{set_by, signature_by, hyps_by}
-use Rattle.sx_expand.specs.ReadDerivations.{CanRead, IsRead, IsReadRefused}
+use Rattle.sx_expand.specs.ReadDerivations.{CanReadDerivation, IsDerivationRead, IsReadRefused}
 use Rattle.sx_expand.specs.ReadNodes.{NodeData, IsNodeIn}
 use Rattle.sx_expand.proofs.EndsAt.{listed-within}
 use Rattle.sx_expand.proofs.Givens.{one-given}
@@ -43,7 +43,7 @@ pub record IsGivenAt (l : Reading) (n : ℕ) (j : Judgement) (p : Proof) : Type 
   pub found : slice_get (hyps_by l).judgements n ≡ Some j
 
 module _ (l : Reading) (at : ℕ) (need : Bool) (j : Judgement) (p : Proof)
-    (can : CanRead l at need j p) where
+    (can : CanReadDerivation l at need j p) where
   pub can-within : at < length l.listing.list.now
   can-within = listed-within (set_in l.listing) l.listing.list.now at p can.stands
 
@@ -62,28 +62,28 @@ module _ (l : Reading) (at : ℕ) (need : Bool) (j : Judgement) (p : Proof)
 
   module _ (r : ℕ) (binds : List Tree) (kids : Proofs) (same : p ≡ by r binds kids) where
     pub node-for : NodeFor l at r need j binds kids
-    node-for = go (subst (λ (x : Proof). CanRead l at need j x) same can)
+    node-for = go (subst (λ (x : Proof). CanReadDerivation l at need j x) same can)
       where
         ruled : Derives (extended_rules (set_by l)) (hyps_by l) j (by r binds kids) →
             (rule : Rule) × (slice_get (extended_rules (set_by l)) r ≡ Some rule)
         ruled (rule, found, many, concluded, apart_ones, each) = (rule, found)
 
-        go : CanRead l at need j (by r binds kids) → NodeFor l at r need j binds kids
+        go : CanReadDerivation l at need j (by r binds kids) → NodeFor l at r need j binds kids
         go it = let x = ruled it.derives in record { rule = x.0; is = record { found = x.1; can = it } }
 
     pub read-for : (terms : List Tree) (x : Result Read RewriteError) →
-        IsRead l terms need j (by r binds kids) x → IsRead l terms need j p x
-    read-for terms x h = subst (λ (q : Proof). IsRead l terms need j q x) (sym same) h
+        IsDerivationRead l terms need j (by r binds kids) x → IsDerivationRead l terms need j p x
+    read-for terms x h = subst (λ (q : Proof). IsDerivationRead l terms need j q x) (sym same) h
 
   -- nothing is measured for a hypothesis
   module _ (n : ℕ) (it : IsGivenAt l n j p) where
     pub given-read : (terms : List Tree) (r : Read) → AreBelow (length terms) r.outputs.items →
         map (tree_at terms) r.outputs.items ≡ outputs_of (signature_by l).modes j →
         (need ≡ true → IsSubjectAt terms (subjects_of (signature_by l).subjects j) r.subject) →
-        IsRead l terms need j p (Ok r)
+        IsDerivationRead l terms need j p (Ok r)
     given-read terms r below outs subject =
         let own = (signature_by l).subjects in
-        subst (λ (q : Proof). IsRead l terms need j q (Ok r)) (sym it.is) (
+        subst (λ (q : Proof). IsDerivationRead l terms need j q (Ok r)) (sym it.is) (
           below,
           outs,
           λ needs. record {

@@ -23,7 +23,7 @@ use Rattle.sx_arena.proofs.Growing.{extends-length}
 use Rattle.sx_rewrite.specs.Accepted.{Accepted, Signature, IsAccepted, extended_rules}
 use Rattle.sx_rewrite.specs.Lowers.{Lowers}
 use Rattle.sx_rewrite.specs.Measured.{AllPass, ProofPasses, node_terms}
-use Rattle.sx_rewrite.specs.Puts.{IsSmall}
+use Rattle.sx_rewrite.specs.Puts.{IsSmallTerm}
 use Rattle.sx_rewrite.specs.Rewriting.{too_deep, too_big, first_over}
 use Rattle.sx_rewrite.proofs.Lowerings.{lowered_are_derivations}
 use Rattle.sx_rewrite.proofs.LoweredAlways.{lowering_exists}
@@ -33,9 +33,9 @@ use Rattle.sx_expand.specs.declared.read.Read.{Read}
 use Rattle.sx_expand.specs.declared.reader.Reader.{Reader}
 use Rattle.sx_expand.specs.Expansions.{HasOneSubject}
 use Rattle.sx_expand.specs.KidSubjects.{IsSubjectAt}
-use Rattle.sx_expand.specs.Readings.{AllSmall, IsReading, set_by, signature_by, hyps_by}
-use Rattle.sx_expand.specs.ReadDerivations.{IsRead}
-use Rattle.sx_expand.specs.Readers.{terms_in, GoesOn}
+use Rattle.sx_expand.specs.Readings.{AllSmall, IsListReading, set_by, signature_by, hyps_by}
+use Rattle.sx_expand.specs.ReadDerivations.{IsDerivationRead}
+use Rattle.sx_expand.specs.Readers.{terms_in, ReaderGoesOn}
 use Rattle.sx_expand.specs.Roots.{StandAt, roles_of, IsRoot, IsRootLowered}
 use Rattle.sx_expand.proofs.Givens.{given-small, given-many, given-fits}
 use Rattle.sx_expand.proofs.NodeSubject.{node-places}
@@ -63,7 +63,7 @@ passed : (ts : List Tree) → AllPass is_small ts → AllSmall ts
 passed [] h = tt
 passed (t ∷ ts) h = (go (nat_lt 1000 (depth_of t)) (nat_lt 1000000 (size_of t)) refl refl h.0, passed ts h.1)
   where
-    go : (x y : Bool) → nat_lt 1000 (depth_of t) ≡ x → nat_lt 1000000 (size_of t) ≡ y → (if x then false else if y then false else true) ≡ true → IsSmall t
+    go : (x y : Bool) → nat_lt 1000 (depth_of t) ≡ x → nat_lt 1000000 (size_of t) ≡ y → (if x then false else if y then false else true) ≡ true → IsSmallTerm t
     go true y q r e = cc
     go false true q r e = cc
     go false false q r e = let a = ltb-false 1000 (depth_of t) q in let b = ltb-false 1000000 (size_of t) r in (omega (arith, a), omega (arith, b))
@@ -73,7 +73,7 @@ places-small : (base : List Rule) (hyps : Hypotheses) → ((i : ℕ) (j : Judgem
 places-small base hyps f (given i) k d h = f i k d
 places-small base hyps f (by r binds kids) k d h = node-places base hyps r binds kids k d (passed (node_terms (slice_get base r) binds) h.0)
 
-module _ (l : Reading) (good : IsReading l) where
+module _ (l : Reading) (good : IsListReading l) where
   ok : IsAccepted (signature_by l) (shapes_in l.listing.set.now.base) (shapes_in l.listing.set.now.rules) (set_by l)
   ok = good.rules.accepted_with
 
@@ -93,14 +93,14 @@ module _ (l : Reading) (good : IsReading l) where
   sig = signature_by l
 
   module _ (form : ℕ) (numbers : List ℕ) (old new : Reader) (below : AreBelow (length (terms_in old)) numbers) (near : AreShallow (map (tree_at (terms_in old)) numbers)) (one : HasOneSubject forms form)
-      (on : GoesOn set.table old new) (r : Read) (j : Judgement) (p : Proof) (root : IsRoot l (record { form = form; terms = map (tree_at (terms_in old)) numbers }) j p) where
+      (on : ReaderGoesOn set.table old new) (r : Read) (j : Judgement) (p : Proof) (root : IsRoot l (record { form = form; terms = map (tree_at (terms_in old)) numbers }) j p) where
     form-is : j.form ≡ form
     form-is = ap (λ (g : Goal). g.form) root.goal_is
 
     terms-are : map (tree_at (terms_in old)) numbers ≡ inputs_of sig.modes j
     terms-are = sym (ap (λ (g : Goal). g.terms) root.goal_is)
 
-    module _ (read : IsRead l (terms_in new) true j p (Ok r)) where
+    module _ (read : IsDerivationRead l (terms_in new) true j p (Ok r)) where
       pub stands : (q : Proof) (k : Judgement) → Lowers set sig.subjects (hyps_by l) p q k → StandAt set.table (terms_in new) r.subject (roles_of (places_at forms form)) numbers r.outputs.items k.places
       stands q k lowers =
           let ps = places_at forms j.form in

@@ -11,8 +11,8 @@ use Rattle.sx_arena.specs.Arena.{tree_at, AreBelow, Extends}
 use Rattle.sx_arena.proofs.Arenas.{maps_same, below_more}
 use Rattle.sx_arena.proofs.Growing.{extends-then, extends-length, extends-at, extends-same}
 use Rattle.sx_expand.specs.declared.reader.Reader.{Reader}
-use Rattle.sx_expand.specs.Readers.{terms_in, IsReader, GoesOn}
-use Rattle.sx_expand.specs.Roots.{IsImagePlace, IsSubjectPlace, IsPlace, StandAt, roles_of}
+use Rattle.sx_expand.specs.Readers.{terms_in, IsLoweringReader, ReaderGoesOn}
+use Rattle.sx_expand.specs.Roots.{IsImagePlace, IsSubjectPlace, IsRootPlace, StandAt, roles_of}
 use Rattle.sx_expand.proofs.NumbersPut.{below-both, maps-both}
 
 -- what stands at a place stays where terms are put into the arena
@@ -35,17 +35,17 @@ subject-place-stays old new (Some i) k x h =
     let w = h.0 in
     let n = extends-length old new x in (omega (arith, w, n), extends-at old new x i (node 0 none) w ∙ h.1)
 
-place-stays : (table : Table) (old new : List Tree) (o : Option ℕ) (role : Role) (i : ℕ) (k : Tree) → Extends old new → IsPlace table old o role i k → IsPlace table new o role i k
+place-stays : (table : Table) (old new : List Tree) (o : Option ℕ) (role : Role) (i : ℕ) (k : Tree) → Extends old new → IsRootPlace table old o role i k → IsRootPlace table new o role i k
 place-stays table old new o In i k x h = image-place-stays table old new i k x h
 place-stays table old new o Sub i k x h = subject-place-stays old new o k x h
 place-stays table old new o Out i k x h = image-place-stays table old new i k x h
 
 -- the subject stands at its number
-pub subject-stands : (table : Table) (r : Reader) (o : Option ℕ) (role : Role) (i n : ℕ) → IsReader table r → role ≡ Sub → o ≡ Some n → (k : Tree) × IsPlace table (terms_in r) o role i k →
-    GoesOn table r r × (n < length (terms_in r)) × ((k : Tree) → IsPlace table (terms_in r) o role i k → tree_at (terms_in r) n ≡ k)
+pub subject-stands : (table : Table) (r : Reader) (o : Option ℕ) (role : Role) (i n : ℕ) → IsLoweringReader table r → role ≡ Sub → o ≡ Some n → (k : Tree) × IsRootPlace table (terms_in r) o role i k →
+    ReaderGoesOn table r r × (n < length (terms_in r)) × ((k : Tree) → IsRootPlace table (terms_in r) o role i k → tree_at (terms_in r) n ≡ k)
 subject-stands table r o role i n known e f (k, h) =
-    let at : (t : Tree) → IsPlace table (terms_in r) o role i t → IsSubjectPlace (terms_in r) (Some n) t =
-    (λ t p. subst (λ (x : Option ℕ). IsSubjectPlace (terms_in r) x t) f (subst (λ (x : Role). IsPlace table (terms_in r) o x i t) e p)) in
+    let at : (t : Tree) → IsRootPlace table (terms_in r) o role i t → IsSubjectPlace (terms_in r) (Some n) t =
+    (λ t p. subst (λ (x : Option ℕ). IsSubjectPlace (terms_in r) x t) f (subst (λ (x : Role). IsRootPlace table (terms_in r) o x i t) e p)) in
     (record { reader = known; extends = extends-same (terms_in r) }, (at k h).0, λ t p. (at t p).1)
 
 module _ (table : Table) (terms : List Tree) (subject : Option ℕ) where
@@ -54,7 +54,7 @@ module _ (table : Table) (terms : List Tree) (subject : Option ℕ) where
     pub k : Tree
     pub rest : List Tree
     pub are : ks ≡ k ∷ rest
-    pub place : IsPlace table terms subject role i k
+    pub place : IsRootPlace table terms subject role i k
     pub stand : StandAt table terms subject roles is os rest
 
   first-input : (role : Role) → (role ≡ In) ⊎ (role ≡ Sub) → (roles : List Role) (is os : List ℕ) (ks : List Tree) → StandAt table terms subject (role ∷ roles) is os ks →
@@ -105,11 +105,11 @@ module _ (table : Table) (places : List Place) (ins outs : List ℕ) (subject : 
 
   -- the numbers up to a place
   pub record PlacesSoFar (i given made : ℕ) (now : Reader) (numbers : List ℕ) : Type 0 where
-    pub on : GoesOn table start now
+    pub on : ReaderGoesOn table start now
     pub below : AreBelow (length (terms_in now)) numbers
     pub rest : (ks : List Tree) → StandAll ks → (left : List Tree) × LeftAt i given made left × (ks ≡ map (tree_at (terms_in now)) numbers ++ left)
 
-  pub no-places : (numbers : List ℕ) → IsReader table start → numbers ≡ [] → PlacesSoFar 0 0 0 start numbers
+  pub no-places : (numbers : List ℕ) → IsLoweringReader table start → numbers ≡ [] → PlacesSoFar 0 0 0 start numbers
   no-places numbers r e = subst (λ (ns : List ℕ). PlacesSoFar 0 0 0 start ns) (sym e)
       (record {
         on = record { reader = r; extends = extends-same (terms_in start) };
@@ -118,7 +118,7 @@ module _ (table : Table) (places : List Place) (ins outs : List ℕ) (subject : 
       })
 
   pub places-end : (i given made : ℕ) (now : Reader) (numbers : List ℕ) → PlacesSoFar i given made now numbers → length places ≤ i →
-      GoesOn table start now × AreBelow (length (terms_in now)) numbers × ((ks : List Tree) → StandAll ks → map (tree_at (terms_in now)) numbers ≡ ks)
+      ReaderGoesOn table start now × AreBelow (length (terms_in now)) numbers × ((ks : List Tree) → StandAll ks → map (tree_at (terms_in now)) numbers ≡ ks)
   places-end i given made now numbers so l = (
     so.on,
     so.below,
@@ -177,14 +177,14 @@ module _ (table : Table) (places : List Place) (ins outs : List ℕ) (subject : 
 
     module _ (given' made' term : ℕ) (takes : Takes given' made' term) where
       -- what is to stand at the next place
-      pub next-place : (ks : List Tree) × StandAll ks → (k : Tree) × IsPlace table (terms_in now) subject p.role term k
+      pub next-place : (ks : List Tree) × StandAll ks → (k : Tree) × IsRootPlace table (terms_in now) subject p.role term k
       next-place (ks, h) =
           let w = so.rest ks h in
           let f = takes.each w.0 w.1 in
           (f.k, place-stays table (terms_in start) (terms_in now) subject p.role term f.k so.on.extends f.place)
 
       -- it stands there
-      pub place-next : (next : Reader) (n : ℕ) → GoesOn table now next → n < length (terms_in next) → ((k : Tree) → IsPlace table (terms_in now) subject p.role term k → tree_at (terms_in next) n ≡ k) →
+      pub place-next : (next : Reader) (n : ℕ) → ReaderGoesOn table now next → n < length (terms_in next) → ((k : Tree) → IsRootPlace table (terms_in now) subject p.role term k → tree_at (terms_in next) n ≡ k) →
           PlacesSoFar (i + 1) given' made' next (numbers ++ n ∷ [])
       place-next next n on l is = record {
         on = record { reader = on.reader; extends = extends-then (terms_in start) (terms_in now) (terms_in next) so.on.extends on.extends };

@@ -21,7 +21,7 @@ use Rattle.sx_plain.specs.Tables.{Desugars, FitsTable, FitTable, HasParts}
 use Rattle.sx_plain.proofs.Tables.{sorted-fits}
 use Rattle.sx_arena.specs.Arena.{tree_at, AreBelow}
 use Rattle.sx_rewrite.specs.Lowering.{BindsFit}
-use Rattle.sx_rewrite.specs.Puts.{IsSmall}
+use Rattle.sx_rewrite.specs.Puts.{IsSmallTerm}
 use Rattle.sx_rewrite.proofs.Known.{sorted-at}
 use Rattle.sx_expand.specs.KidSubjects.{IsSubjectAt}
 use Rattle.sx_expand.specs.Readings.{AllSmall}
@@ -33,7 +33,7 @@ AreSubject terms o [] = Unit {0}
 AreSubject terms o (k ∷ ks) = IsSubjectPlace terms o k × AreSubject terms o ks
 
 module _ (table : Table) (terms : List Tree) (subject : Option ℕ) where
-  image-place : (i : ℕ) (j k : Tree) → i < length terms → tree_at terms i ≡ j → depth_of j ≤ 1000 → FitsTable table j → k ≡ image table j → IsSmall k → IsImagePlace table terms i k
+  image-place : (i : ℕ) (j k : Tree) → i < length terms → tree_at terms i ≡ j → depth_of j ≤ 1000 → FitsTable table j → k ≡ image table j → IsSmallTerm k → IsImagePlace table terms i k
   image-place i j k l e near fits is small = record {
     within = l;
     shallow = subst (λ (t : Tree). depth_of t ≤ 1000) (sym e) near;

@@ -3,7 +3,7 @@ use Rattle.std.proofs.Common.{◌≡◌, ℕ, ◌+◌, ◌<◌, ◌≤◌, List,
 use Rattle.sx_rules.specs.Derivations.{Proof, Proofs, no_more, ◌⊳◌, nodes_of_all}
 use Rattle.sx_rules.specs.Orders.{Entry}
 use Rattle.sx_rewrite.specs.Accepted.{Accepted}
-use Rattle.sx_expand.specs.Standing.{IsListed, AreListed, AreEnds}
+use Rattle.sx_expand.specs.Standing.{IsDerivationListed, AreListed, AreEnds}
 use Rattle.sx_expand.proofs.Standing.{nodes-some, stands-within, listed-first}
 
 -- a row stands from here up to the end
@@ -16,7 +16,7 @@ pub record IsHead (a : Accepted) (list : List Entry) (ends : List ℕ) (here end
   pub first : Proof
   pub rest : Proofs
   pub is : ps ≡ first ⊳ rest
-  pub listed : IsListed a list here first
+  pub listed : IsDerivationListed a list here first
   pub within : here < length ends
   pub more : here < get_or ends here 0
   pub low : get_or ends here 0 ≤ end

@@ -4,12 +4,13 @@ use Rattle.std.proofs.lemmas.List.{length-append, length-drop, drop-drop, drop_a
 use Rattle.sx_term.specs.Tree.{Tree}
 use Rattle.sx_rules.specs.declared.entry.Entry.{Entry as EntryOf}
 use Rattle.sx_rules.specs.declared.entry.Entry.TheVariants.{Rule, Given}
-use Rattle.sx_rules.specs.Derivations.{Proof, Proofs, by, given, no_more, ◌⊳◌, nodes_of, nodes_of_all}
+use Rattle.sx_rules.specs.Derivations.{Proof, Proofs, by, given, no_more, ◌⊳◌, nodes_of}
+use Rattle.sx_rules.specs.Derivations.{nodes_of_all}
 use Rattle.sx_rules.specs.Orders.{Entry, of_given, of_rule, order_of, order_of_all}
 use Rattle.sx_rules.specs.EntryView.{entry, entries}
 use Rattle.sx_rewrite.specs.Accepted.{Accepted}
 use Rattle.sx_rewrite.specs.LoweredSizes.{HasFitKids, HaveFitKids}
-use Rattle.sx_expand.specs.Standing.{StandsAt, StandEach, IsListed, AreListed}
+use Rattle.sx_expand.specs.Standing.{StandsAt, StandEach, IsDerivationListed, AreListed}
 
 -- a derivation has as many entries as nodes
 mutual
@@ -51,10 +52,10 @@ first-stands list i p ps (rest, e) =
     let f : drop i list ≡ order_of p ++ (order_of_all ps ++ rest) = e ∙ append_assoc (order_of p) (order_of_all ps) rest in
     ((order_of_all ps ++ rest, f), (rest, drop-on list i (nodes_of p) (order_of p) (order_of_all ps ++ rest) f (order-length p)))
 
-pub listed-kids : (a : Accepted) (list : List Entry) (i r : ℕ) (binds : List Tree) (kids : Proofs) → IsListed a list i (by r binds kids) → AreListed a list (i + 1) kids
+pub listed-kids : (a : Accepted) (list : List Entry) (i r : ℕ) (binds : List Tree) (kids : Proofs) → IsDerivationListed a list i (by r binds kids) → AreListed a list (i + 1) kids
 listed-kids a list i r binds kids h = record { fit = h.fit.1; stand = kids-stand list i r binds kids h.stands }
 
-pub listed-first : (a : Accepted) (list : List Entry) (i : ℕ) (p : Proof) (ps : Proofs) → AreListed a list i (p ⊳ ps) → IsListed a list i p × AreListed a list (i + nodes_of p) ps
+pub listed-first : (a : Accepted) (list : List Entry) (i : ℕ) (p : Proof) (ps : Proofs) → AreListed a list i (p ⊳ ps) → IsDerivationListed a list i p × AreListed a list (i + nodes_of p) ps
 listed-first a list i p ps h =
     let s = first-stands list i p ps h.stand in
     (record { fit = h.fit.0; stands = s.0 }, record { fit = h.fit.1; stand = s.1 })
@@ -118,17 +119,17 @@ rest-is a (suc i) (by r binds kids ⊳ ps) h =
     subst (λ (x : List Entry). IsRest a (drop i x)) (joined-order kids ps) (rest-is a i (joined kids ps) (joined-fit a kids ps h.0.1 h.1))
 
 -- so at each place of it a derivation stands
-pub some-listed : (a : Accepted) (list : List Entry) (p : Proof) (i : ℕ) → HasFitKids a p → list ≡ order_of p → i < length list → (q : Proof) × IsListed a list i q
+pub some-listed : (a : Accepted) (list : List Entry) (p : Proof) (i : ℕ) → HasFitKids a p → list ≡ order_of p → i < length list → (q : Proof) × IsDerivationListed a list i q
 some-listed a list p i fit e l =
     let f : list ≡ order_of_all (p ⊳ no_more) = e ∙ sym (append-nil (order_of p)) in
     let r = subst (λ (x : List Entry). IsRest a (drop i x)) (sym f) (rest-is a i (p ⊳ no_more) (fit, tt)) in go r.row r.fit r.order
   where
-    go : (row : Proofs) → HaveFitKids a row → drop i list ≡ order_of_all row → (q : Proof) × IsListed a list i q
+    go : (row : Proofs) → HaveFitKids a row → drop i list ≡ order_of_all row → (q : Proof) × IsDerivationListed a list i q
     go no_more h d =
         let n = ap length d in
         let m = length-drop i list in absurd (omega (arith, n, m, l))
     go (q ⊳ qs) h d = (q, record { fit = h.0; stands = (order_of_all qs, d) })
 
 -- the whole stands at the first place
-pub whole-listed : (a : Accepted) (list : List Entry) (p : Proof) → HasFitKids a p → list ≡ order_of p → IsListed a list 0 p
+pub whole-listed : (a : Accepted) (list : List Entry) (p : Proof) → HasFitKids a p → list ≡ order_of p → IsDerivationListed a list 0 p
 whole-listed a list p fit e = record { fit = fit; stands = ([], e ∙ sym (append-nil (order_of p))) }

@@ -12,8 +12,8 @@ use Rattle.sx_rules.specs.Orders.{Entry}
 use Rattle.sx_plain.specs.Measures.{total}
 use Rattle.sx_term.specs.declared.term.Term.{Term}
 use Rattle.sx_rewrite.specs.Accepted.{Accepted}
-use Rattle.sx_rewrite.specs.LoweredSizes.{number_of}
-use Rattle.sx_expand.specs.Standing.{IsListed, AreListed, AreEndsFrom}
+use Rattle.sx_rewrite.specs.LoweredSizes.{proof_count}
+use Rattle.sx_expand.specs.Standing.{IsDerivationListed, AreListed, AreEndsFrom}
 use Rattle.sx_expand.specs.Steps.{AreSteps}
 use Rattle.sx_expand.proofs.Standing.{nodes-some, stands-within, listed-first}
 
@@ -26,7 +26,7 @@ pub nodes-total : (ps : Proofs) → total (nodes_each ps) ≡ nodes_of_all ps
 nodes-total no_more = refl
 nodes-total (p ⊳ ps) = ap (λ (n : ℕ). nodes_of p + n) (nodes-total ps)
 
-pub nodes-many : (ps : Proofs) → length (nodes_each ps) ≡ number_of ps
+pub nodes-many : (ps : Proofs) → length (nodes_each ps) ≡ proof_count ps
 nodes-many no_more = refl
 nodes-many (p ⊳ ps) = let h = nodes-many ps in omega (arith, h)
 
@@ -103,7 +103,7 @@ ends-none a list ends many = record {
       let n = nodes-some p in absurd (omega (arith, l, w, n));
 }
 
-pub ends-more : (a : Accepted) (list : List Entry) (left : ℕ) (ends : List ℕ) (end : ℕ) → left < length list → AreEndsFrom a list (left + 1) ends → ((p : Proof) → IsListed a list left p → end ≡ left + nodes_of p) → AreEndsFrom a list left (set ends left end)
+pub ends-more : (a : Accepted) (list : List Entry) (left : ℕ) (ends : List ℕ) (end : ℕ) → left < length list → AreEndsFrom a list (left + 1) ends → ((p : Proof) → IsDerivationListed a list left p → end ≡ left + nodes_of p) → AreEndsFrom a list left (set ends left end)
 ends-more a list left ends end l h here =
     let m = h.many in
     let within : left < length ends = omega (arith, l, m) in
@@ -112,10 +112,10 @@ ends-more a list left ends end l h here =
       each = λ i p le s. at i p le s within;
     }
   where
-    at : (i : ℕ) (p : Proof) → left ≤ i → IsListed a list i p → left < length ends → get_or (set ends left end) i 0 ≡ i + nodes_of p
+    at : (i : ℕ) (p : Proof) → left ≤ i → IsDerivationListed a list i p → left < length ends → get_or (set ends left end) i 0 ≡ i + nodes_of p
     at i p le s within = elim (cases_eq i left) [
       | inl same ↦
-          let f = here p (subst (λ (n : ℕ). IsListed a list n p) same s) in
+          let f = here p (subst (λ (n : ℕ). IsDerivationListed a list n p) same s) in
           ap (λ (n : ℕ). get_or (set ends left end) n 0) same ∙ get_or-set_same ends left end 0 within ∙ f ∙ ap (λ (n : ℕ). n + nodes_of p) (sym same)
       | inr other ↦ get_or-set_other ends left i end 0 other ∙ h.each i p (omega (arith, le, other)) s
     ]

@@ -7,14 +7,14 @@ use Rattle.sx_rules.specs.Discipline.{subjects_of}
 use Rattle.sx_rules.specs.Modes.{Modes}
 use Rattle.sx_rules.specs.Rules.{Judgement, Rule, Hypotheses}
 use Rattle.sx_arena.specs.Arena.{tree_at}
-use Rattle.sx_rewrite.specs.LoweredSizes.{number_of}
-use Rattle.sx_rewrite.specs.Puts.{IsSmall}
+use Rattle.sx_rewrite.specs.LoweredSizes.{proof_count}
+use Rattle.sx_rewrite.specs.Puts.{IsSmallTerm}
 
 -- the first of the subjects stands at the number and passes no limit, or there is none
 abbrev pub IsSubjectAt : List Tree → List Tree → Option ℕ → Type 0
 IsSubjectAt terms subjects None = subjects ≡ []
 IsSubjectAt terms subjects (Some i) =
-    (i < length terms) × IsSmall (tree_at terms i)
+    (i < length terms) × IsSmallTerm (tree_at terms i)
     × ((rest : List Tree) × (subjects ≡ tree_at terms i ∷ rest))
 
 -- so it is of the subject of what the kid derives, and it derives a judgement
@@ -29,6 +29,6 @@ pub record IsKidSubject (subjects : Modes) (rules : List Rule) (hyps : Hypothese
 pub record AreKidSubjects (subjects : Modes) (rules : List Rule) (hyps : Hypotheses)
     (need : ℕ → Bool) (terms : List Tree) (kids : Proofs) (numbers : List (Option ℕ)) :
     Type 0 where
-  pub many : number_of kids ≡ length numbers
+  pub many : proof_count kids ≡ length numbers
   pub each : (i : ℕ) (kid : Proof) → need i ≡ true → proof_at kids i ≡ Some kid →
       IsKidSubject subjects rules hyps terms kid (get_or numbers i None)

@@ -6,7 +6,7 @@ use Rattle.sx_rules.specs.Discipline.{subjects_of}
 use Rattle.sx_rules.specs.Modes.{Modes}
 use Rattle.sx_rules.specs.Rules.{Judgement, Hypotheses}
 use Rattle.sx_rewrite.specs.Accepted.{Accepted}
-use Rattle.sx_rewrite.specs.LoweredSizes.{number_of}
+use Rattle.sx_rewrite.specs.LoweredSizes.{proof_count}
 use Rattle.sx_rewrite.specs.Lowers.{Lowers}
 use Rattle.sx_rewrite.specs.Measured.{Measures}
 use Rattle.sx_rewrite.specs.Rewriting.{first_over}
@@ -23,6 +23,6 @@ pub record IsKidRead (a : Accepted) (subjects : Modes) (hyps : Hypotheses) (term
 -- so it is of each kid that is needed
 pub record AreKidsRead (a : Accepted) (subjects : Modes) (hyps : Hypotheses) (need : ℕ → Bool)
     (terms : List Tree) (kids : Proofs) (numbers : List (Option ℕ)) : Type 0 where
-  pub many : number_of kids ≡ length numbers
+  pub many : proof_count kids ≡ length numbers
   pub each : (i : ℕ) (p : Proof) → need i ≡ true → proof_at kids i ≡ Some p →
       IsKidRead a subjects hyps terms p (get_or numbers i None)

@@ -10,7 +10,7 @@ use Rattle.sx_rules.specs.Orders.{order_of}
 use Rattle.sx_rewrite.specs.declared.rewrite_error.RewriteError.{RewriteError}
 use Rattle.sx_rewrite.specs.Accepted.{Accepted, Known, Signature, IsAccepted, known_of}
 use Rattle.sx_rewrite.specs.Accepted.{extended_rules}
-use Rattle.sx_rewrite.specs.Lowering.{CanLower, AreLoweredTo, IsRefused}
+use Rattle.sx_rewrite.specs.Lowering.{CanLower, AreLoweredTo, IsLoweringRefused}
 use Rattle.sx_rewrite.specs.Lowers.{Lowers, HypothesesBelow}
 use Rattle.sx_rewrite.specs.Measured.{Measures}
 use Rattle.sx_rewrite.specs.Needed.{needed}
@@ -56,7 +56,7 @@ NodesAreMeasured =
     first_over ts ≡ None)
     × ((e : RewriteError) → IsNodeRefused a sig.subjects hyps
     (record { rule = r; known = known; binds = binds; kids = news; count = length numbers }) e →
-    IsRefused a sig.subjects hyps (by r binds kids) e)
+    IsLoweringRefused a sig.subjects hyps (by r binds kids) e)
 
 -- and the subject of what it is lowered to stands at the number
 abbrev pub NodesHaveSubjects : Type 0

@@ -6,7 +6,7 @@ use Rattle.sx_rules.specs.Orders.{Entry}
 use Rattle.sx_rewrite.specs.Accepted.{Accepted, Signature}
 use Rattle.sx_rewrite.specs.AcceptedView.{accepted, signature}
 use Rattle.sx_expand.specs.declared.listing.Listing.{Listing}
-use Rattle.sx_expand.specs.Standing.{IsListed, AreListed, ListedEach, AreEnds}
+use Rattle.sx_expand.specs.Standing.{IsDerivationListed, AreListed, ListedEach, AreEnds}
 
 -- the accepted set and the entries of a listing
 abbrev pub set_in : Listing → Accepted
@@ -25,7 +25,7 @@ HasEnds l = AreEnds (set_in l) (entries_in l) l.ends.now
 
 -- the derivation stands in it from the number on
 abbrev pub StandsIn : Listing → ℕ → Proof → Type 0
-StandsIn l i p = IsListed (set_in l) (entries_in l) i p
+StandsIn l i p = IsDerivationListed (set_in l) (entries_in l) i p
 
 -- so do the derivations, one after another
 abbrev pub StandInRow : Listing → ℕ → Proofs → Type 0

@@ -5,14 +5,14 @@ use Rattle.sx_plain.specs.declared.measure.Measure.{Measure}
 use Rattle.sx_plain.specs.Measures.{greatest}
 use Rattle.sx_plain.specs.PartMeasures.{depths_of}
 use Rattle.sx_arena.specs.Arena.{tree_at, AreBelow}
-use Rattle.sx_rewrite.specs.Puts.{IsMeasureOf, AreMeasuresOf, IsSmall, AreMadeOf}
+use Rattle.sx_rewrite.specs.Puts.{IsMeasureOf, AreMeasuresOf, IsSmallTerm, AreMadeOf}
 use Rattle.sx_expand.specs.declared.put_number.PutNumber.{PutNumber}
 
 -- the term is put: it is measured, and stands at the number where it passes no limit
 pub record IsPutAt (terms : List Tree) (t : Tree) (p : PutNumber) : Type 0 where
   pub within : p.number < length terms
   pub measured : IsMeasureOf t p.measure
-  pub made : IsSmall t → tree_at terms p.number ≡ t
+  pub made : IsSmallTerm t → tree_at terms p.number ≡ t
   pub low : p.measure.depth ≤ 1001000
 
 -- so it is of each of the terms

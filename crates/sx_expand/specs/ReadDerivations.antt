@@ -8,7 +8,7 @@ use Rattle.sx_arena.specs.Arena.{tree_at, AreBelow}
 use Rattle.sx_rewrite.specs.declared.rewrite_error.RewriteError.{RewriteError}
 use Rattle.sx_rewrite.specs.declared.rewrite_error.RewriteError.TheVariants.{Memory}
 use Rattle.sx_rewrite.specs.Accepted.{extended_rules}
-use Rattle.sx_rewrite.specs.Lowering.{BindsFit, IsRefused}
+use Rattle.sx_rewrite.specs.Lowering.{BindsFit, IsLoweringRefused}
 use Rattle.sx_rewrite.specs.Used.{lowered_height}
 use Rattle.sx_expand.specs.declared.read.Read.{Read}
 use Rattle.sx_expand.specs.declared.reading.Reading.{Reading}
@@ -19,7 +19,7 @@ use Rattle.sx_rules.specs.Limits.{most_levels}
 
 -- A derivation of the judgement, from the hypotheses, stands in the list from the number on. Its
 -- terms are good, and what it is lowered to is not too deep where it is needed.
-pub record CanRead (l : Reading) (at : ℕ) (is_needed : Bool) (j : Judgement) (p : Proof) :
+pub record CanReadDerivation (l : Reading) (at : ℕ) (is_needed : Bool) (j : Judgement) (p : Proof) :
     Type 0 where
   pub stands : StandsIn l.listing at p
   pub derives : Derives (extended_rules (set_by l)) (hyps_by l) j p
@@ -36,16 +36,17 @@ AreInputs l terms numbers j =
 -- where the derivation is not needed, out of memory alone
 abbrev pub IsReadRefused : Reading → Bool → Proof → RewriteError → Type 0
 IsReadRefused l is_needed p e =
-    (is_needed ≡ true → IsRefused (set_by l) (signature_by l).subjects (hyps_by l) p e)
+    (is_needed ≡ true → IsLoweringRefused (set_by l) (signature_by l).subjects (hyps_by l) p e)
     × (is_needed ≡ false → e ≡ Memory)
 
 -- the outputs of the judgement stand at the numbers, and where the derivation is needed it is read;
 -- or it is refused
-abbrev pub IsRead : Reading → List Tree → Bool → Judgement → Proof → Result Read RewriteError →
+abbrev pub IsDerivationRead : Reading → List Tree → Bool → Judgement → Proof →
+    Result Read RewriteError →
     Type 0
-IsRead l terms is_needed j p (Ok r) =
+IsDerivationRead l terms is_needed j p (Ok r) =
     AreBelow (length terms) r.outputs.items
     × (map (tree_at terms) r.outputs.items ≡ outputs_of (signature_by l).modes j)
     × (is_needed ≡ true →
     IsKidRead (set_by l) (signature_by l).subjects (hyps_by l) terms p r.subject)
-IsRead l terms is_needed j p (Err e) = IsReadRefused l is_needed p e
+IsDerivationRead l terms is_needed j p (Err e) = IsReadRefused l is_needed p e

@@ -18,7 +18,7 @@ use Rattle.sx_expand.specs.declared.reading.Reading.{Reading}
 use Rattle.sx_expand.specs.declared.work.Work.{Work}
 use Rattle.sx_expand.specs.Followed.{Follows, bindings_of}
 use Rattle.sx_expand.specs.KidsRead.{IsKidRead, AreKidsRead}
-use Rattle.sx_expand.specs.ReadDerivations.{CanRead, IsReadRefused}
+use Rattle.sx_expand.specs.ReadDerivations.{CanReadDerivation, IsReadRefused}
 use Rattle.sx_expand.specs.Readings.{set_by, signature_by, hyps_by}
 
 -- the rule of a node, what the node derives, its terms and its kids
@@ -35,7 +35,7 @@ proof_by n d = by n.number d.binds d.kids
 -- the node stands in the list and is by the rule
 pub record IsNodeIn (l : Reading) (n : Node) (d : NodeData) : Type 0 where
   pub found : slice_get (extended_rules (set_by l)) n.number ≡ Some d.rule
-  pub can : CanRead l n.at n.is_needed d.judgement (proof_by n d)
+  pub can : CanReadDerivation l n.at n.is_needed d.judgement (proof_by n d)
 
 -- of a node with these terms so much is bound with these premises left
 abbrev pub AreFollowed : Reading → Rule → List Tree → List Premise → Assignment → Type 0
@@ -63,7 +63,7 @@ pub record KidData : Type 0 where
 
 -- the kid derives the instance of its premise, which is the first that is left
 pub record IsKidIn (l : Reading) (k : Kid) (env : Assignment) (d : KidData) : Type 0 where
-  pub can : CanRead l k.at k.is_needed
+  pub can : CanReadDerivation l k.at k.is_needed
       (judgement_instance (bound_by d.binds) (judgement k.premise.now)) d.proof
   pub followed : AreFollowed l d.rule d.binds (holds (judgement k.premise.now) ∷ d.rest) env
 

@@ -11,11 +11,11 @@ abbrev pub terms_in : Reader → List Tree
 terms_in r = trees r.arena
 
 -- what is known of plain images is so by the table
-pub record IsReader (table : Table) (r : Reader) : Type 0 where
+pub record IsLoweringReader (table : Table) (r : Reader) : Type 0 where
   pub arena : IsArena r.arena
   pub images : AreImages table (terms_in r) r.images
 
 -- the one reader goes on from the other
-pub record GoesOn (table : Table) (old new : Reader) : Type 0 where
-  pub reader : IsReader table new
+pub record ReaderGoesOn (table : Table) (old new : Reader) : Type 0 where
+  pub reader : IsLoweringReader table new
   pub extends : Extends (terms_in old) (terms_in new)

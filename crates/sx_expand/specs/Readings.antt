@@ -14,7 +14,7 @@ use Rattle.sx_rewrite.specs.AcceptedView.{accepted, signature}
 use Rattle.sx_rewrite.specs.Copied.{copied}
 use Rattle.sx_rewrite.specs.LoweredSizes.{HasFitKids}
 use Rattle.sx_rewrite.specs.Lowers.{HypothesesBelow}
-use Rattle.sx_rewrite.specs.Puts.{IsSmall}
+use Rattle.sx_rewrite.specs.Puts.{IsSmallTerm}
 use Rattle.sx_rewrite.specs.Stored.{accepted_from, certificate_at, flat_body_at}
 use Rattle.sx_rewrite.specs.Used.{lowered_nodes, lowered_height}
 use Rattle.sx_expand.specs.declared.reading.Reading.{Reading}
@@ -59,7 +59,7 @@ hyps_by r = hypotheses r.given.now
 -- none of the terms passes a limit
 abbrev pub AllSmall : List Tree → Type 0
 AllSmall [] = Unit {0}
-AllSmall (t ∷ ts) = IsSmall t × AllSmall ts
+AllSmall (t ∷ ts) = IsSmallTerm t × AllSmall ts
 
 -- the judgement has a term for each place of its form, and none of them passes a limit
 pub record IsGiven (forms : List FormData) (j : Judgement) : Type 0 where
@@ -72,7 +72,7 @@ pub record AreGiven (set : AcceptedOf) (hyps : Hypotheses) : Type 0 where
   pub each : AllByRecursion (IsGiven (forms_in set.base)) hyps.judgements
 
 -- the ends are those of the entries, and the rules and the hypotheses are good
-pub record IsReading (r : Reading) : Type 0 where
+pub record IsListReading (r : Reading) : Type 0 where
   pub ends : HasEnds r.listing
   pub rules : AreRules r.listing.set.now r.rules.now
   pub given : AreGiven r.listing.set.now (hyps_by r)

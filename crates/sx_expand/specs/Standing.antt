@@ -15,7 +15,7 @@ abbrev pub StandEach : List Entry → ℕ → Proofs → Type 0
 StandEach list i ps = (rest : List Entry) × (drop i list ≡ order_of_all ps ++ rest)
 
 -- the derivation has the kids that the rules ask for, and stands in the list from the number on
-pub record IsListed (a : Accepted) (list : List Entry) (i : ℕ) (p : Proof) : Type 0 where
+pub record IsDerivationListed (a : Accepted) (list : List Entry) (i : ℕ) (p : Proof) : Type 0 where
   pub fit : HasFitKids a p
   pub stands : StandsAt list i p
 
@@ -27,13 +27,13 @@ pub record AreListed (a : Accepted) (list : List Entry) (i : ℕ) (ps : Proofs) 
 -- and of each by its own number
 abbrev pub ListedEach : Accepted → List Entry → List ℕ → Proofs → Type 0
 ListedEach a list [] no_more = Unit {0}
-ListedEach a list (i ∷ is) (p ⊳ ps) = IsListed a list i p × ListedEach a list is ps
+ListedEach a list (i ∷ is) (p ⊳ ps) = IsDerivationListed a list i p × ListedEach a list is ps
 ListedEach a list _ _ = ⊥
 
 -- from the first number on, where a derivation stands, the number of the entry after it
 pub record AreEndsFrom (a : Accepted) (list : List Entry) (first : ℕ) (ends : List ℕ) : Type 0 where
   pub many : length ends ≡ length list
-  pub each : (i : ℕ) (p : Proof) → first ≤ i → IsListed a list i p →
+  pub each : (i : ℕ) (p : Proof) → first ≤ i → IsDerivationListed a list i p →
       get_or ends i 0 ≡ i + nodes_of p
 
 -- so it is of all numbers

@@ -8,6 +8,6 @@ AreSteps ends i (n ∷ ns) =
     (i < length ends) × (get_or ends i 0 ≡ i + n) × AreSteps ends (i + n) ns
 
 -- none of the numbers is below the first
-abbrev pub AreFrom : ℕ → List ℕ → Type 0
-AreFrom first [] = Unit {0}
-AreFrom first (i ∷ is) = (first ≤ i) × AreFrom first is
+abbrev pub AreNotBelow : ℕ → List ℕ → Type 0
+AreNotBelow first [] = Unit {0}
+AreNotBelow first (i ∷ is) = (first ≤ i) × AreNotBelow first is

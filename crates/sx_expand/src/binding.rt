@@ -7,9 +7,9 @@ ghost use Rattle.sx_rules.specs.Instances.{instance};
 ghost use Rattle.sx_rules.specs.Modes.{inputs_of, outputs_of};
 ghost use Rattle.sx_arena.specs.Arena.{trees, tree_at, IsArena, AreBelow};
 ghost use Rattle.sx_arena.specs.Limits.{first_values};
-ghost use Rattle.sx_arena.specs.Matching.{Assignment, unbound, match_all, filled, IsBound};
+ghost use Rattle.sx_arena.specs.Matching.{Assignment, nothing_bound, match_all, filled, IsBound};
 ghost use Rattle.sx_arena.specs.Places.{selected, AreHeld};
-ghost use Rattle.sx_arena.specs.Views.{judgement_of, rule_of, modes_of};
+ghost use Rattle.sx_arena.specs.Views.{judgement_of, rule_of, set_modes};
 ghost use Rattle.sx_expand.specs.Followed.{IsWork, bindings_of};
 
 use crate::work::Work;
@@ -30,11 +30,11 @@ pub(crate) fn input_work(
     requires shallow { AreShallow (judgement_of rule.now.conclusion).places }
     requires below { AreBelow (length (trees arena.now)) inputs.now }
     requires matches { (more : Assignment)
-        × (match_all (inputs_of (modes_of rules.now) (judgement_of rule.now.conclusion))
-        (map (tree_at (trees arena.now)) inputs.now) unbound ≡ Some more) }
+        × (match_all (inputs_of (set_modes rules.now) (judgement_of rule.now.conclusion))
+        (map (tree_at (trees arena.now)) inputs.now) nothing_bound ≡ Some more) }
     ensures { IfOk result (λ w. IsWork (trees arena.now) w
-        × (match_all (inputs_of (modes_of rules.now) (judgement_of rule.now.conclusion))
-        (map (tree_at (trees arena.now)) inputs.now) unbound
+        × (match_all (inputs_of (set_modes rules.now) (judgement_of rule.now.conclusion))
+        (map (tree_at (trees arena.now)) inputs.now) nothing_bound
         ≡ Some (bindings_of (trees arena.now) w))) }
 {
     let mut binds = Binds::new(alloc);
@@ -59,11 +59,11 @@ pub(crate) fn take_outputs(
     requires shallow { AreShallow (judgement_of premise.now).places }
     requires below { AreBelow (length (trees arena.now)) outputs.now }
     requires matches { (more : Assignment)
-        × (match_all (outputs_of (modes_of rules.now) (judgement_of premise.now))
+        × (match_all (outputs_of (set_modes rules.now) (judgement_of premise.now))
         (map (tree_at (trees arena.now)) outputs.now)
         (bindings_of (trees arena.now) work.old) ≡ Some more) }
     ensures { OnOk result (IsWork (trees arena.now) work.new
-        × (match_all (outputs_of (modes_of rules.now) (judgement_of premise.now))
+        × (match_all (outputs_of (set_modes rules.now) (judgement_of premise.now))
         (map (tree_at (trees arena.now)) outputs.now)
         (bindings_of (trees arena.now) work.old)
         ≡ Some (bindings_of (trees arena.now) work.new))) }
@@ -93,7 +93,7 @@ pub(crate) fn places_under(
     requires work { IsWork (trees arena.old) work.now }
     requires shallow { AreShallow (judgement_of it.now).places }
     ensures { IfOk result (λ x. AreHeld arena.old arena.new x.items
-        (selected outputs (modes_of rules.now it.now.form)
+        (selected outputs (set_modes rules.now it.now.form)
         (map (instance (filled (bindings_of (trees arena.old) work.now)))
         (judgement_of it.now).places))) }
 {

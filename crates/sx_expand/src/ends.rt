@@ -10,7 +10,7 @@ ghost use Rattle.sx_rules.specs.Views.{premise};
 ghost use Rattle.sx_plain.specs.Measures.{total};
 ghost use Rattle.sx_rewrite.specs.AcceptedView.{accepted};
 ghost use Rattle.sx_rewrite.specs.LoweredSizes.{HasFitKids};
-ghost use Rattle.sx_expand.specs.Standing.{IsListed, AreEnds, AreEndsFrom};
+ghost use Rattle.sx_expand.specs.Standing.{IsDerivationListed, AreEnds, AreEndsFrom};
 ghost use Rattle.sx_expand.specs.Steps.{AreSteps};
 
 use std::alloc::Global;
@@ -39,8 +39,8 @@ pub(crate) fn ends_of(alloc: Global, set: &Accepted, list: &[Entry]) -> Result<V
 fn end_at(set: &Accepted, list: &[Entry], ends: &[usize], at: usize) -> usize
     requires ends { AreEndsFrom (accepted set.now) (entries list.now) (at + 1) ends.now }
     requires listed { (p : spec.Proof)
-        × IsListed (accepted set.now) (entries list.now) at p }
-    ensures { (p : spec.Proof) → IsListed (accepted set.now) (entries list.now) at p →
+        × IsDerivationListed (accepted set.now) (entries list.now) at p }
+    ensures { (p : spec.Proof) → IsDerivationListed (accepted set.now) (entries list.now) at p →
         result ≡ at + nodes_of p }
 {
     set.facts();

@@ -14,8 +14,8 @@ ghost use Rattle.sx_rewrite.specs.PlainRules.{plain_of};
 ghost use Rattle.sx_expand.specs.Expansions.{IsListedAnswer, IsListedFrom, IsExpanding};
 ghost use Rattle.sx_expand.specs.Expansions.{HasOneSubject};
 ghost use Rattle.sx_expand.specs.Listed.{HasEnds, set_in, signature_in, entries_in};
-ghost use Rattle.sx_expand.specs.Readers.{terms_in, IsReader};
-ghost use Rattle.sx_expand.specs.Readings.{IsReading, AreGiven, set_by, signature_by, hyps_by};
+ghost use Rattle.sx_expand.specs.Readers.{terms_in, IsLoweringReader};
+ghost use Rattle.sx_expand.specs.Readings.{IsListReading, AreGiven, set_by, signature_by, hyps_by};
 ghost use Rattle.sx_expand.specs.Roots.{IsRoot, IsRootLowered};
 
 use crate::ends::ends_of;
@@ -179,7 +179,7 @@ fn expand_reading(
     goal: &Goal,
     budget: u64,
 ) -> Result<Expanded, RewriteError>
-    requires reading { IsReading reading.now }
+    requires reading { IsListReading reading.now }
     requires shallow { AreShallow (goal_of goal.now).terms }
     requires one { HasOneSubject (forms_in reading.now.listing.set.now.base) goal.now.form }
     requires listed { (answer : Answer)
@@ -211,7 +211,7 @@ fn expand_reading(
 /// The judgement that the derivation of the goal is lowered to, where no term of the lowered
 /// derivation passes a limit. The first that does is refused.
 fn lowered_root(alloc: Global, reading: &Reading, goal: &Goal) -> Result<Judgement, RewriteError>
-    requires reading { IsReading reading.now }
+    requires reading { IsListReading reading.now }
     requires shallow { AreShallow (goal_of goal.now).terms }
     requires one { HasOneSubject (forms_in reading.now.listing.set.now.base) goal.now.form }
     requires root { (j : known.Judgement) × (p : spec.Proof)
@@ -248,8 +248,8 @@ fn read_root(
     form: u32,
     inputs: &[usize],
 ) -> Result<Judgement, RewriteError>
-    requires reading { IsReading reading.now }
-    requires reader { IsReader (set_by reading.now).table reader.old }
+    requires reading { IsListReading reading.now }
+    requires reader { IsLoweringReader (set_by reading.now).table reader.old }
     requires below { AreBelow (length (terms_in reader.old)) inputs.now }
     requires shallow { AreShallow (map (tree_at (terms_in reader.old)) inputs.now) }
     requires one { HasOneSubject (forms_in reading.now.listing.set.now.base) form }

@@ -3,11 +3,11 @@
 ghost use Rattle.std.specs.Prelude.{◌≡◌, List, [], OnOk, IfOk, length, map};
 ghost use Rattle.sx_arena.specs.Arena.{tree_at, AreBelow};
 ghost use Rattle.sx_expand.specs.Followed.{IsWork, bindings_of};
-ghost use Rattle.sx_expand.specs.ReadDerivations.{IsRead};
+ghost use Rattle.sx_expand.specs.ReadDerivations.{IsDerivationRead};
 ghost use Rattle.sx_expand.specs.ReadNodes.{NodeData, IsNodeIn, AreFollowed, IsNodeRead};
 ghost use Rattle.sx_expand.specs.ReadNodes.{IsSubjectRead, proof_by};
-ghost use Rattle.sx_expand.specs.Readers.{terms_in, IsReader, GoesOn};
-ghost use Rattle.sx_expand.specs.Readings.{IsReading, set_by};
+ghost use Rattle.sx_expand.specs.Readers.{terms_in, IsLoweringReader, ReaderGoesOn};
+ghost use Rattle.sx_expand.specs.Readings.{IsListReading, set_by};
 
 use crate::binding::bound_numbers;
 use crate::lower_node::lower_node;
@@ -32,15 +32,15 @@ pub(crate) fn finish_node(
     node: &Node,
     subjects: &[Option<usize>],
 ) -> Result<Read, RewriteError>
-    requires reading { IsReading reading.now }
-    requires reader { IsReader (set_by reading.now).table reader.old }
+    requires reading { IsListReading reading.now }
+    requires reader { IsLoweringReader (set_by reading.now).table reader.old }
     requires work { IsWork (terms_in reader.old) work.now }
     requires node { (d : NodeData) × IsNodeIn reading.now node.now d
         × IsNodeRead reading.now node.now (terms_in reader.old) work.now subjects.now d }
-    ensures on { OnOk result (GoesOn (set_by reading.now).table reader.old reader.new) }
+    ensures on { OnOk result (ReaderGoesOn (set_by reading.now).table reader.old reader.new) }
     ensures read { (d : NodeData) → IsNodeIn reading.now node.now d →
         IsNodeRead reading.now node.now (terms_in reader.old) work.now subjects.now d →
-        IsRead reading.now (terms_in reader.new) node.now.is_needed d.judgement
+        IsDerivationRead reading.now (terms_in reader.new) node.now.is_needed d.judgement
         (proof_by node.now d) result }
 {
     let outputs = node_outputs(alloc, reading, reader, work, node)?;
@@ -62,12 +62,12 @@ fn node_subject(
     node: &Node,
     subjects: &[Option<usize>],
 ) -> Result<Option<usize>, RewriteError>
-    requires reading { IsReading reading.now }
-    requires reader { IsReader (set_by reading.now).table reader.old }
+    requires reading { IsListReading reading.now }
+    requires reader { IsLoweringReader (set_by reading.now).table reader.old }
     requires work { IsWork (terms_in reader.old) work.now }
     requires node { (d : NodeData) × IsNodeIn reading.now node.now d
         × IsNodeRead reading.now node.now (terms_in reader.old) work.now subjects.now d }
-    ensures on { OnOk result (GoesOn (set_by reading.now).table reader.old reader.new) }
+    ensures on { OnOk result (ReaderGoesOn (set_by reading.now).table reader.old reader.new) }
     ensures read { (d : NodeData) → IsNodeIn reading.now node.now d →
         IsNodeRead reading.now node.now (terms_in reader.old) work.now subjects.now d →
         IsSubjectRead reading.now node.now (terms_in reader.new) d result }
@@ -89,7 +89,7 @@ fn node_terms(
     work: &Work,
     node: &Node,
 ) -> Result<Vec<usize>, NoMemory>
-    requires reading { IsReading reading.now }
+    requires reading { IsListReading reading.now }
     requires work { IsWork (terms_in reader.now) work.now }
     requires node { (d : NodeData) × IsNodeIn reading.now node.now d
         × AreFollowed reading.now d.rule d.binds []

@@ -9,8 +9,8 @@ ghost use Rattle.sx_rules.specs.Views.{judgement, subjects_in};
 ghost use Rattle.sx_arena.specs.Arena.{trees, tree_at, IsArena, AreBelow};
 ghost use Rattle.sx_arena.specs.Grown.{Extends};
 ghost use Rattle.sx_expand.specs.KidSubjects.{IsSubjectAt};
-ghost use Rattle.sx_expand.specs.Readers.{terms_in, IsReader, GoesOn};
-ghost use Rattle.sx_expand.specs.Readings.{IsReading, AllSmall, set_by, signature_by, hyps_by};
+ghost use Rattle.sx_expand.specs.Readers.{terms_in, IsLoweringReader, ReaderGoesOn};
+ghost use Rattle.sx_expand.specs.Readings.{IsListReading, AllSmall, set_by, signature_by, hyps_by};
 
 use crate::read::Read;
 use crate::reader::Reader;
@@ -29,11 +29,11 @@ pub(crate) fn read_given(
     number: u32,
     is_needed: bool,
 ) -> Result<Read, NoMemory>
-    requires reading { IsReading reading.now }
-    requires reader { IsReader (set_by reading.now).table reader.old }
+    requires reading { IsListReading reading.now }
+    requires reader { IsLoweringReader (set_by reading.now).table reader.old }
     requires given { (j : known.Judgement)
         × (slice_get (hyps_by reading.now).judgements number ≡ Some j) }
-    ensures on { OnOk result (GoesOn (set_by reading.now).table reader.old reader.new) }
+    ensures on { OnOk result (ReaderGoesOn (set_by reading.now).table reader.old reader.new) }
     ensures below { IfOk result (λ r. AreBelow (length (terms_in reader.new)) r.outputs.items) }
     ensures outputs { IfOk result (λ r. (j : known.Judgement) →
         slice_get (hyps_by reading.now).judgements number ≡ Some j →

@@ -9,7 +9,7 @@ ghost use Rattle.sx_plain.specs.Views.{table_of};
 ghost use Rattle.sx_arena.specs.Arena.{tree_at, AreBelow};
 ghost use Rattle.sx_rewrite.specs.PutImages.{image_for, images_for};
 ghost use Rattle.sx_expand.specs.Put.{IsPutAt, ArePutAt};
-ghost use Rattle.sx_expand.specs.Readers.{terms_in, IsReader, GoesOn};
+ghost use Rattle.sx_expand.specs.Readers.{terms_in, IsLoweringReader, ReaderGoesOn};
 ghost use Rattle.sx_term.specs.Limits.{most_depth};
 
 use crate::ends::number_at;
@@ -30,13 +30,13 @@ pub(crate) fn image_numbers(
     sorts: &[Sort],
     binds: &[usize],
 ) -> Result<PutNumbers, NoMemory>
-    requires reader { IsReader (table_of table.now) reader.old }
+    requires reader { IsLoweringReader (table_of table.now) reader.old }
     requires many { length binds.now ≡ length sorts.now }
     requires below { AreBelow (length (terms_in reader.old)) binds.now }
     requires shallow { AreShallow (map (tree_at (terms_in reader.old)) binds.now) }
     requires fit { FitTable (table_of table.now)
         (forest (map (tree_at (terms_in reader.old)) binds.now)) }
-    ensures { IfOk result (λ p. GoesOn (table_of table.now) reader.old reader.new
+    ensures { IfOk result (λ p. ReaderGoesOn (table_of table.now) reader.old reader.new
         × ArePutAt (terms_in reader.new) (images_for (table_of table.now) sorts.now
         (map (tree_at (terms_in reader.old)) binds.now)) p.numbers.items p.measures.items) }
 {
@@ -68,11 +68,11 @@ fn put_image(
     sort: Sort,
     term: usize,
 ) -> Result<PutNumber, NoMemory>
-    requires reader { IsReader (table_of table.now) reader.old }
+    requires reader { IsLoweringReader (table_of table.now) reader.old }
     requires within { term < length (terms_in reader.old) }
     requires shallow { depth_of (tree_at (terms_in reader.old) term) ≤ most_depth }
     requires fits { FitsTable (table_of table.now) (tree_at (terms_in reader.old) term) }
-    ensures { IfOk result (λ p. GoesOn (table_of table.now) reader.old reader.new
+    ensures { IfOk result (λ p. ReaderGoesOn (table_of table.now) reader.old reader.new
         × IsPutAt (terms_in reader.new)
         (image_for (table_of table.now) sort (tree_at (terms_in reader.old) term)) p) }
 {
@@ -94,11 +94,11 @@ fn image_number(
     reader: &mut Reader,
     term: usize,
 ) -> Result<PutNumber, NoMemory>
-    requires reader { IsReader (table_of table.now) reader.old }
+    requires reader { IsLoweringReader (table_of table.now) reader.old }
     requires within { term < length (terms_in reader.old) }
     requires shallow { depth_of (tree_at (terms_in reader.old) term) ≤ most_depth }
     requires fits { FitsTable (table_of table.now) (tree_at (terms_in reader.old) term) }
-    ensures { IfOk result (λ p. GoesOn (table_of table.now) reader.old reader.new
+    ensures { IfOk result (λ p. ReaderGoesOn (table_of table.now) reader.old reader.new
         × IsPutAt (terms_in reader.new)
         (image (table_of table.now) (tree_at (terms_in reader.old) term)) p) }
 {

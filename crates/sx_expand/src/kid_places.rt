@@ -4,7 +4,7 @@ ghost use Rattle.std.specs.Prelude.{◌≡◌, ◌+◌, IfOk};
 ghost use Rattle.sx_rules.specs.Derivations as spec;
 ghost use Rattle.sx_rules.specs.Derivations.{nodes_of_all};
 ghost use Rattle.sx_expand.specs.Listed.{HasEnds, StandInRow, StandInEach};
-ghost use Rattle.sx_expand.specs.Steps.{AreFrom};
+ghost use Rattle.sx_expand.specs.Steps.{AreNotBelow};
 
 use crate::ends::number_at;
 use crate::listing::Listing;
@@ -23,7 +23,7 @@ pub(crate) fn kid_places(
         × (first + nodes_of_all ps ≡ end) }
     ensures stand { IfOk result (λ x. (ps : spec.Proofs) → StandInRow listing.now first ps →
         first + nodes_of_all ps ≡ end → StandInEach listing.now x.items ps) }
-    ensures after { IfOk result (λ x. AreFrom first x.items) }
+    ensures after { IfOk result (λ x. AreNotBelow first x.items) }
 {
     let mut places = Vec::new(alloc);
     let mut at = first;

@@ -14,8 +14,8 @@ ghost use Rattle.sx_rewrite.specs.PutSubjects.{IsNodeOf};
 ghost use Rattle.sx_rewrite.specs.Stored.{certificate_at};
 ghost use Rattle.sx_expand.specs.KidSubjects.{AreKidSubjects};
 ghost use Rattle.sx_expand.specs.LoweredNodes.{IsNodeLowered};
-ghost use Rattle.sx_expand.specs.Readers.{terms_in, IsReader, GoesOn};
-ghost use Rattle.sx_expand.specs.Readings.{IsReading, set_by, signature_by};
+ghost use Rattle.sx_expand.specs.Readers.{terms_in, IsLoweringReader, ReaderGoesOn};
+ghost use Rattle.sx_expand.specs.Readings.{IsListReading, set_by, signature_by};
 
 use crate::node_limits::check_node;
 use crate::put_node::put_node;
@@ -38,8 +38,8 @@ pub(crate) fn lower_node(
     binds: &[usize],
     subjects: &[Option<usize>],
 ) -> Result<Option<usize>, RewriteError>
-    requires reading { IsReading reading.now }
-    requires reader { IsReader (set_by reading.now).table reader.old }
+    requires reading { IsListReading reading.now }
+    requires reader { IsLoweringReader (set_by reading.now).table reader.old }
     requires node { IsNodeOf (bare_rules_in reading.now.rules.now)
         (signature_by reading.now).subjects number (length binds.now) (length subjects.now) }
     requires below { AreBelow (length (terms_in reader.old)) binds.now }
@@ -50,7 +50,7 @@ pub(crate) fn lower_node(
         × AreKidSubjects (signature_by reading.now).subjects (set_by reading.now).base hyps
         (needed (certificate_at (set_by reading.now) number)) (terms_in reader.old) kids
         subjects.now }
-    ensures on { OnOk result (GoesOn (set_by reading.now).table reader.old reader.new) }
+    ensures on { OnOk result (ReaderGoesOn (set_by reading.now).table reader.old reader.new) }
     ensures lowered { (x : stored.Known) →
         slice_get (stored.known_of (set_by reading.now)) number ≡ Some x →
         (hyps : known.Hypotheses) (kids : spec.Proofs) →

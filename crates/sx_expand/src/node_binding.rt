@@ -11,8 +11,8 @@ ghost use Rattle.sx_arena.specs.Arena.{tree_at, AreBelow};
 ghost use Rattle.sx_expand.specs.Followed.{IsWork, bindings_of};
 ghost use Rattle.sx_expand.specs.ReadDerivations.{AreInputs};
 ghost use Rattle.sx_expand.specs.ReadNodes.{NodeData, IsNodeIn, AreFollowed, KidData, IsKidIn};
-ghost use Rattle.sx_expand.specs.Readers.{terms_in, IsReader, GoesOn};
-ghost use Rattle.sx_expand.specs.Readings.{IsReading, set_by, signature_by};
+ghost use Rattle.sx_expand.specs.Readers.{terms_in, IsLoweringReader, ReaderGoesOn};
+ghost use Rattle.sx_expand.specs.Readings.{IsListReading, set_by, signature_by};
 
 use crate::binding::{input_work, places_under, take_outputs};
 use crate::kid::Kid;
@@ -32,8 +32,8 @@ pub(crate) fn begin_node(
     node: &Node,
     inputs: &[usize],
 ) -> Result<Work, NoMemory>
-    requires reading { IsReading reading.now }
-    requires reader { IsReader (set_by reading.now).table reader.now }
+    requires reading { IsListReading reading.now }
+    requires reader { IsLoweringReader (set_by reading.now).table reader.now }
     requires below { AreBelow (length (terms_in reader.now)) inputs.now }
     requires node { (d : NodeData) × IsNodeIn reading.now node.now d
         × AreInputs reading.now (terms_in reader.now) inputs.now d.judgement }
@@ -57,11 +57,11 @@ pub(crate) fn kid_inputs(
     work: &Work,
     kid: &Kid,
 ) -> Result<Vec<usize>, NoMemory>
-    requires reading { IsReading reading.now }
-    requires reader { IsReader (set_by reading.now).table reader.old }
+    requires reading { IsListReading reading.now }
+    requires reader { IsLoweringReader (set_by reading.now).table reader.old }
     requires work { IsWork (terms_in reader.old) work.now }
     requires shallow { AreShallow (judgement kid.now.premise.now).places }
-    ensures on { OnOk result (GoesOn (set_by reading.now).table reader.old reader.new) }
+    ensures on { OnOk result (ReaderGoesOn (set_by reading.now).table reader.old reader.new) }
     ensures below { IfOk result (λ x. AreBelow (length (terms_in reader.new)) x.items) }
     ensures inputs { IfOk result (λ x. (d : KidData) →
         IsKidIn reading.now kid.now (bindings_of (terms_in reader.old) work.now) d →
@@ -86,8 +86,8 @@ pub(crate) fn follow_kid(
     kid: &Kid,
     outputs: &[usize],
 ) -> Result<(), NoMemory>
-    requires reading { IsReading reading.now }
-    requires reader { IsReader (set_by reading.now).table reader.now }
+    requires reading { IsListReading reading.now }
+    requires reader { IsLoweringReader (set_by reading.now).table reader.now }
     requires work { IsWork (terms_in reader.now) work.old }
     requires shallow { AreShallow (judgement kid.now.premise.now).places }
     requires below { AreBelow (length (terms_in reader.now)) outputs.now }
@@ -116,11 +116,11 @@ pub(crate) fn node_outputs(
     work: &Work,
     node: &Node,
 ) -> Result<Vec<usize>, NoMemory>
-    requires reading { IsReading reading.now }
-    requires reader { IsReader (set_by reading.now).table reader.old }
+    requires reading { IsListReading reading.now }
+    requires reader { IsLoweringReader (set_by reading.now).table reader.old }
     requires work { IsWork (terms_in reader.old) work.now }
     requires node { (d : NodeData) × IsNodeIn reading.now node.now d }
-    ensures on { OnOk result (GoesOn (set_by reading.now).table reader.old reader.new) }
+    ensures on { OnOk result (ReaderGoesOn (set_by reading.now).table reader.old reader.new) }
     ensures below { IfOk result (λ x. AreBelow (length (terms_in reader.new)) x.items) }
     ensures outputs { IfOk result (λ x. (d : NodeData) → IsNodeIn reading.now node.now d →
         AreFollowed reading.now d.rule d.binds [] (bindings_of (terms_in reader.old) work.now) →

@@ -12,11 +12,11 @@ ghost use Rattle.sx_rewrite.specs.Needed.{needed};
 ghost use Rattle.sx_rewrite.specs.Stored.{certificate_at};
 ghost use Rattle.sx_expand.specs.Followed.{IsWork, bindings_of};
 ghost use Rattle.sx_expand.specs.Listed.{StandsIn};
-ghost use Rattle.sx_expand.specs.ReadDerivations.{CanRead, AreInputs, IsRead};
+ghost use Rattle.sx_expand.specs.ReadDerivations.{CanReadDerivation, AreInputs, IsDerivationRead};
 ghost use Rattle.sx_expand.specs.ReadNodes.{NodeData, IsNodeIn, AreFollowed, AreRead, proof_by};
 ghost use Rattle.sx_expand.specs.ReadNodes.{KidData, IsKidIn, IsKidDone};
-ghost use Rattle.sx_expand.specs.Readers.{terms_in, IsReader, GoesOn};
-ghost use Rattle.sx_expand.specs.Readings.{IsReading, set_by, hyps_by};
+ghost use Rattle.sx_expand.specs.Readers.{terms_in, IsLoweringReader, ReaderGoesOn};
+ghost use Rattle.sx_expand.specs.Readings.{IsListReading, set_by, hyps_by};
 
 use crate::ends::{entry_at, number_at};
 use crate::finishing::finish_node;
@@ -45,16 +45,17 @@ pub(crate) fn read_node(
     inputs: &[usize],
     is_needed: bool,
 ) -> Result<Read, RewriteError>
-    requires reading { IsReading reading.now }
-    requires reader { IsReader (set_by reading.now).table reader.old }
+    requires reading { IsListReading reading.now }
+    requires reader { IsLoweringReader (set_by reading.now).table reader.old }
     requires below { AreBelow (length (terms_in reader.old)) inputs.now }
     requires derived { (j : known.Judgement) × (p : spec.Proof)
-        × CanRead reading.now at is_needed j p
+        × CanReadDerivation reading.now at is_needed j p
         × AreInputs reading.now (terms_in reader.old) inputs.now j }
-    ensures on { OnOk result (GoesOn (set_by reading.now).table reader.old reader.new) }
-    ensures read { (j : known.Judgement) (p : spec.Proof) → CanRead reading.now at is_needed j p →
+    ensures on { OnOk result (ReaderGoesOn (set_by reading.now).table reader.old reader.new) }
+    ensures read { (j : known.Judgement) (p : spec.Proof) → CanReadDerivation reading.now at
+        is_needed j p →
         AreInputs reading.now (terms_in reader.old) inputs.now j →
-        IsRead reading.now (terms_in reader.new) is_needed j p result }
+        IsDerivationRead reading.now (terms_in reader.new) is_needed j p result }
 {
     match entry_at(reading.listing.list, at) {
         Entry::Rule(number) => {
@@ -78,15 +79,15 @@ fn read_by_rule(
     node: &Node,
     inputs: &[usize],
 ) -> Result<Read, RewriteError>
-    requires reading { IsReading reading.now }
-    requires reader { IsReader (set_by reading.now).table reader.old }
+    requires reading { IsListReading reading.now }
+    requires reader { IsLoweringReader (set_by reading.now).table reader.old }
     requires below { AreBelow (length (terms_in reader.old)) inputs.now }
     requires node { (d : NodeData) × IsNodeIn reading.now node.now d
         × AreInputs reading.now (terms_in reader.old) inputs.now d.judgement }
-    ensures on { OnOk result (GoesOn (set_by reading.now).table reader.old reader.new) }
+    ensures on { OnOk result (ReaderGoesOn (set_by reading.now).table reader.old reader.new) }
     ensures read { (d : NodeData) → IsNodeIn reading.now node.now d →
         AreInputs reading.now (terms_in reader.old) inputs.now d.judgement →
-        IsRead reading.now (terms_in reader.new) node.now.is_needed d.judgement
+        IsDerivationRead reading.now (terms_in reader.new) node.now.is_needed d.judgement
         (proof_by node.now d) result }
 {
     let mut work = begin_node(alloc, reading, reader, node, inputs)?;
@@ -114,13 +115,13 @@ fn read_kids(
     work: &mut Work,
     node: &Node,
 ) -> Result<Vec<Option<usize>>, RewriteError>
-    requires reading { IsReading reading.now }
-    requires reader { IsReader (set_by reading.now).table reader.old }
+    requires reading { IsListReading reading.now }
+    requires reader { IsLoweringReader (set_by reading.now).table reader.old }
     requires work { IsWork (terms_in reader.old) work.old }
     requires node { (d : NodeData) × IsNodeIn reading.now node.now d
         × AreFollowed reading.now d.rule d.binds d.rule.premises
         (bindings_of (terms_in reader.old) work.old) }
-    ensures on { OnOk result (GoesOn (set_by reading.now).table reader.old reader.new) }
+    ensures on { OnOk result (ReaderGoesOn (set_by reading.now).table reader.old reader.new) }
     ensures work { OnOk result (IsWork (terms_in reader.new) work.new) }
     ensures read { (d : NodeData) → IsNodeIn reading.now node.now d →
         AreFollowed reading.now d.rule d.binds d.rule.premises
@@ -159,13 +160,13 @@ fn read_kid(
     work: &mut Work,
     kid: &Kid,
 ) -> Result<Option<usize>, RewriteError>
-    requires reading { IsReading reading.now }
-    requires reader { IsReader (set_by reading.now).table reader.old }
+    requires reading { IsListReading reading.now }
+    requires reader { IsLoweringReader (set_by reading.now).table reader.old }
     requires work { IsWork (terms_in reader.old) work.old }
     requires shallow { AreShallow (judgement kid.now.premise.now).places }
     requires kid { (d : KidData)
         × IsKidIn reading.now kid.now (bindings_of (terms_in reader.old) work.old) d }
-    ensures on { OnOk result (GoesOn (set_by reading.now).table reader.old reader.new) }
+    ensures on { OnOk result (ReaderGoesOn (set_by reading.now).table reader.old reader.new) }
     ensures work { OnOk result (IsWork (terms_in reader.new) work.new) }
     ensures read { (d : KidData) →
         IsKidIn reading.now kid.now (bindings_of (terms_in reader.old) work.old) d →
@@ -179,7 +180,7 @@ fn read_kid(
 
 /// Whether what the kid with the number is lowered to is needed.
 fn is_kid_needed(reading: &Reading, node: &Node, kid: usize) -> bool
-    requires { IsReading reading.now }
+    requires { IsListReading reading.now }
     ensures { result ≡ node.now.is_needed
         && needed (certificate_at (set_by reading.now) node.now.number) kid }
 {

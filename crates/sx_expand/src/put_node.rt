@@ -15,8 +15,8 @@ ghost use Rattle.sx_rewrite.specs.PutSubjects.{IsNodeOf, ArePutBelow};
 ghost use Rattle.sx_rewrite.specs.Stored.{certificate_at};
 ghost use Rattle.sx_expand.specs.KidSubjects.{AreKidSubjects};
 ghost use Rattle.sx_expand.specs.Put.{ArePutAt};
-ghost use Rattle.sx_expand.specs.Readers.{terms_in, IsReader, GoesOn};
-ghost use Rattle.sx_expand.specs.Readings.{IsReading, set_by, signature_by};
+ghost use Rattle.sx_expand.specs.Readers.{terms_in, IsLoweringReader, ReaderGoesOn};
+ghost use Rattle.sx_expand.specs.Readings.{IsListReading, set_by, signature_by};
 
 use crate::image_numbers::image_numbers;
 use crate::kid_subjects::put_subjects;
@@ -39,8 +39,8 @@ pub(crate) fn put_node(
     binds: &[usize],
     subjects: &[Option<usize>],
 ) -> Result<PutNumbers, NoMemory>
-    requires reading { IsReading reading.now }
-    requires reader { IsReader (set_by reading.now).table reader.old }
+    requires reading { IsListReading reading.now }
+    requires reader { IsLoweringReader (set_by reading.now).table reader.old }
     requires node { IsNodeOf (bare_rules_in reading.now.rules.now)
         (signature_by reading.now).subjects number (length binds.now) (length subjects.now) }
     requires below { AreBelow (length (terms_in reader.old)) binds.now }
@@ -51,7 +51,7 @@ pub(crate) fn put_node(
         × AreKidSubjects (signature_by reading.now).subjects (set_by reading.now).base hyps
         (needed (certificate_at (set_by reading.now) number)) (terms_in reader.old) kids
         subjects.now }
-    ensures on { OnOk result (GoesOn (set_by reading.now).table reader.old reader.new) }
+    ensures on { OnOk result (ReaderGoesOn (set_by reading.now).table reader.old reader.new) }
     ensures put { IfOk result (λ p. (x : known.Rule) →
         slice_get (bare_rules_in reading.now.rules.now) number ≡ Some x →
         (hyps : known.Hypotheses) (kids : spec.Proofs) →

@@ -8,8 +8,8 @@ ghost use Rattle.sx_rules.specs.Views.{places_at};
 ghost use Rattle.sx_plain.specs.Plain.{image};
 ghost use Rattle.sx_plain.specs.Views.{table_of};
 ghost use Rattle.sx_arena.specs.Arena.{tree_at, AreBelow};
-ghost use Rattle.sx_expand.specs.Readers.{terms_in, IsReader, GoesOn};
-ghost use Rattle.sx_expand.specs.Roots.{IsImagePlace, IsPlace, StandAt, roles_of};
+ghost use Rattle.sx_expand.specs.Readers.{terms_in, IsLoweringReader, ReaderGoesOn};
+ghost use Rattle.sx_expand.specs.Roots.{IsImagePlace, IsRootPlace, StandAt, roles_of};
 
 use crate::ends::number_at;
 use crate::read::Read;
@@ -31,7 +31,7 @@ pub(crate) fn root_judgement(
     inputs: &[usize],
     read: &Read,
 ) -> Result<Judgement, NoMemory>
-    requires reader { IsReader (table_of set.now.plain) reader.old }
+    requires reader { IsLoweringReader (table_of set.now.plain) reader.old }
     requires stand { (ks : List Tree) × StandAt (table_of set.now.plain) (terms_in reader.old)
         read.now.subject (roles_of (places_at (forms_in set.now.base) form)) inputs.now
         read.now.outputs.items ks }
@@ -61,10 +61,10 @@ fn root_numbers(
     inputs: &[usize],
     read: &Read,
 ) -> Result<Vec<usize>, NoMemory>
-    requires reader { IsReader (table_of table.now) reader.old }
+    requires reader { IsLoweringReader (table_of table.now) reader.old }
     requires stand { (ks : List Tree) × StandAt (table_of table.now) (terms_in reader.old)
         read.now.subject (roles_of places.now) inputs.now read.now.outputs.items ks }
-    ensures { IfOk result (λ x. GoesOn (table_of table.now) reader.old reader.new
+    ensures { IfOk result (λ x. ReaderGoesOn (table_of table.now) reader.old reader.new
         × AreBelow (length (terms_in reader.new)) x.items
         × ((ks : List Tree) → StandAt (table_of table.now) (terms_in reader.old)
         read.now.subject (roles_of places.now) inputs.now read.now.outputs.items ks →
@@ -102,12 +102,13 @@ fn place_number(
     term: usize,
     subject: Option<usize>,
 ) -> Result<usize, NoMemory>
-    requires reader { IsReader (table_of table.now) reader.old }
-    requires place { (k : Tree) × IsPlace (table_of table.now) (terms_in reader.old) subject role
+    requires reader { IsLoweringReader (table_of table.now) reader.old }
+    requires place { (k : Tree) × IsRootPlace (table_of table.now)
+        (terms_in reader.old) subject role
         term k }
-    ensures { IfOk result (λ n. GoesOn (table_of table.now) reader.old reader.new
+    ensures { IfOk result (λ n. ReaderGoesOn (table_of table.now) reader.old reader.new
         × (n < length (terms_in reader.new))
-        × ((k : Tree) → IsPlace (table_of table.now) (terms_in reader.old) subject role term k →
+        × ((k : Tree) → IsRootPlace (table_of table.now) (terms_in reader.old) subject role term k →
         tree_at (terms_in reader.new) n ≡ k)) }
 {
     match role {
@@ -127,9 +128,9 @@ fn small_image(
     reader: &mut Reader,
     term: usize,
 ) -> Result<usize, NoMemory>
-    requires reader { IsReader (table_of table.now) reader.old }
+    requires reader { IsLoweringReader (table_of table.now) reader.old }
     requires place { (k : Tree) × IsImagePlace (table_of table.now) (terms_in reader.old) term k }
-    ensures { IfOk result (λ n. GoesOn (table_of table.now) reader.old reader.new
+    ensures { IfOk result (λ n. ReaderGoesOn (table_of table.now) reader.old reader.new
         × (n < length (terms_in reader.new))
         × (tree_at (terms_in reader.new) n
         ≡ image (table_of table.now) (tree_at (terms_in reader.old) term))) }

@@ -8,7 +8,7 @@ ghost use Rattle.sx_arena.specs.Arena.{trees, IsArena, AreBelow};
 ghost use Rattle.sx_arena.specs.Grown.{Extends};
 ghost use Rattle.sx_rewrite.specs.Accepted as known;
 ghost use Rattle.sx_expand.specs.OwnSubjects.{own_judgement, IsSubjectMade};
-ghost use Rattle.sx_expand.specs.Readings.{IsReading, set_by, signature_by};
+ghost use Rattle.sx_expand.specs.Readings.{IsListReading, set_by, signature_by};
 
 use crate::reading::Reading;
 use std::alloc::Global;
@@ -27,7 +27,7 @@ pub(crate) fn subject_number(
     rule: &Rule,
     numbers: &[usize],
 ) -> Result<Option<usize>, NoMemory>
-    requires reading { IsReading reading.now }
+    requires reading { IsListReading reading.now }
     requires arena { IsArena arena.old }
     requires below { AreBelow (length (trees arena.old)) numbers.now }
     requires shallow { AreShallow (judgement rule.now.conclusion).places }

@@ -3,8 +3,8 @@
 ghost use Rattle.std.specs.Prelude.{◌≡◌, ◌+◌, ◌<◌, ◌≤◌, length};
 ghost use Rattle.sx_rules.specs.Derivations as spec;
 ghost use Rattle.sx_rules.specs.Derivations.{height_of, most_height, nodes_of_all};
-ghost use Rattle.sx_rewrite.specs.LoweredSizes.{IsLoweredSize, number_of};
-ghost use Rattle.sx_rewrite.specs.Sizes.{IsSmall};
+ghost use Rattle.sx_rewrite.specs.LoweredSizes.{IsLoweredSize, proof_count};
+ghost use Rattle.sx_rewrite.specs.Sizes.{IsSmallCertificate};
 ghost use Rattle.sx_rewrite.specs.Tallies.{IsTallyOf, IsSizedTally, IsBaseTally, IsWithKid};
 ghost use Rattle.sx_expand.specs.Listed.{HasEnds, StandsIn, StandInRow, set_in};
 ghost use Rattle.sx_rules.specs.Limits.{most_levels};
@@ -52,10 +52,10 @@ fn tally(listing: &Listing, at: usize) -> LoweredTally
 fn certificate_tally(listing: &Listing, size: &CertificateSize, first: usize) -> LoweredTally
     requires ends { HasEnds listing.now }
     requires stand { (ps : spec.Proofs) × StandInRow listing.now first ps
-        × (number_of ps ≡ length size.now.uses.items) × (most_height ps < most_levels) }
-    requires small { IsSmall size.now }
+        × (proof_count ps ≡ length size.now.uses.items) × (most_height ps < most_levels) }
+    requires small { IsSmallCertificate size.now }
     ensures { (ps : spec.Proofs) → StandInRow listing.now first ps →
-        number_of ps ≡ length size.now.uses.items →
+        proof_count ps ≡ length size.now.uses.items →
         IsSizedTally (set_in listing.now) size.now ps result }
 {
     let mut all = size.own_tally();

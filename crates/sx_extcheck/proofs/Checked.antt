@@ -18,7 +18,11 @@ use Rattle.sx_rewrite.specs.declared.ext_rule.ExtRule.{ExtRule as ExtRuleOf}
 use Rattle.sx_rewrite.specs.declared.flat.Flat.{Flat}
 use Rattle.sx_rewrite.specs.declared.lowered.Lowered.{Lowered}
 use Rattle.sx_rewrite.specs.declared.rewrite_error.RewriteError.{RewriteError}
-use Rattle.sx_rewrite.specs.declared.rewrite_error.RewriteError.TheVariants.{Memory as NoMemory, RewriteSpent as NodesSpent, RewriteDeep as Deep, TooDeep as DeepTerm, TooBig as BigTerm}
+use Rattle.sx_rewrite.specs.declared.rewrite_error.RewriteError.TheVariants.{Memory as NoMemory}
+use Rattle.sx_rewrite.specs.declared.rewrite_error.RewriteError.TheVariants.{RewriteSpent as NodesSpent}
+use Rattle.sx_rewrite.specs.declared.rewrite_error.RewriteError.TheVariants.{RewriteDeep as Deep}
+use Rattle.sx_rewrite.specs.declared.rewrite_error.RewriteError.TheVariants.{TooDeep as DeepTerm}
+use Rattle.sx_rewrite.specs.declared.rewrite_error.RewriteError.TheVariants.{TooBig as BigTerm}
 use Rattle.sx_rewrite.specs.ExtensionView.{ext_rule}
 use Rattle.sx_rewrite.specs.PlainRules.{plain_of, HasImage}
 use Rattle.sx_rewrite.specs.Puts.{Tells}
@@ -26,12 +30,15 @@ use Rattle.sx_rewrite.specs.RewrittenView.{rewritten, IsRewriting}
 use Rattle.sx_rewrite.specs.Stored.{checked_with}
 use Rattle.sx_extcheck.specs.declared.check_error.CheckError.{CheckError}
 use Rattle.sx_extcheck.specs.declared.check_error.CheckError.TheVariants.{Memory, Defect}
-use Rattle.sx_extcheck.specs.declared.rule_refusal.RuleRefusal.TheVariants.{Rejected, BudgetSpent, DepthSpent, TooDeep, TooBig, RewriteSpent, RewriteDeep}
+use Rattle.sx_extcheck.specs.declared.rule_refusal.RuleRefusal.TheVariants.{Rejected, BudgetSpent}
+use Rattle.sx_extcheck.specs.declared.rule_refusal.RuleRefusal.TheVariants.{DepthSpent, TooDeep}
+use Rattle.sx_extcheck.specs.declared.rule_refusal.RuleRefusal.TheVariants.{TooBig, RewriteSpent}
+use Rattle.sx_extcheck.specs.declared.rule_refusal.RuleRefusal.TheVariants.{RewriteDeep}
 use Rattle.sx_extcheck.specs.Checks.{Check, by_base, search_for, over_for, IsStoredFor}
 use Rattle.sx_extcheck.specs.CheckView.{IsRuleChecked}
 use Rattle.sx_extcheck.specs.FlatTerms.{listed_term}
-use Rattle.sx_extcheck.specs.Limits.{defect_of}
-use Rattle.sx_extcheck.specs.Searches.{ending_of, IsSearchedBy, AreCounted}
+use Rattle.sx_extcheck.specs.Limits.{limit_defect}
+use Rattle.sx_extcheck.specs.Searches.{ending_of, IsSearchedBy, AreSearchesCounted}
 
 -- the first of the subjects is shallow
 pub first-shallow : (bs : List Bool) (ts : List Tree) (t : Term) → AreShallow ts → (rest : List Tree) × (outputs bs ts ≡ tree t ∷ rest) → depth_of (tree t) ≤ 1000
@@ -47,7 +54,7 @@ image-shallow table (Some b) (Some t) h e =
     subst (λ (u : Tree). depth_of u ≤ 1000) (sym same) h.0.image_shallow
 
 -- a rule of which a measured term passes a limit
-pub over-checked : (c : Check) (e : ExtRuleOf) (r : RewriteError) → Tells (over_for c (ext_rule e)) r → IsRuleChecked c e (Err (defect_of r))
+pub over-checked : (c : Check) (e : ExtRuleOf) (r : RewriteError) → Tells (over_for c (ext_rule e)) r → IsRuleChecked c e (Err (limit_defect r))
 over-checked c e NoMemory h = tt
 over-checked c e (NodesSpent n) h = absurd h
 over-checked c e Deep h = absurd h
@@ -55,12 +62,12 @@ over-checked c e (DeepTerm n) h = inl h
 over-checked c e (BigTerm n) h = inl h
 
 -- the tries of a search are counted, whatever comes after it
-pub counted-any : (X : Type 0) (tries first last : ℕ) (r : Result X CheckError) → last ≡ first + tries → AreCounted tries first last r
+pub counted-any : (X : Type 0) (tries first last : ℕ) (r : Result X CheckError) → last ≡ first + tries → AreSearchesCounted tries first last r
 counted-any X tries first last (Ok x) h = h
 counted-any X tries first last (Err Memory) h = (omega (arith, h), omega (arith, h))
 counted-any X tries first last (Err (Defect d)) h = h
 
-pub counted-as : (X Y : Type 0) (tries first last : ℕ) (e : CheckError) → AreCounted {X = X} tries first last (Err e) → AreCounted {X = Y} tries first last (Err e)
+pub counted-as : (X Y : Type 0) (tries first last : ℕ) (e : CheckError) → AreSearchesCounted {X = X} tries first last (Err e) → AreSearchesCounted {X = Y} tries first last (Err e)
 counted-as X Y tries first last Memory h = h
 counted-as X Y tries first last (Defect d) h = h
 
@@ -94,7 +101,7 @@ module _ (c : Check) (e : ExtRuleOf) (within : over_for c (ext_rule e) ≡ None)
 
   -- one that is found by base and plain rules, and is not rewritten
   pub refused-checked : by_base c (ext_rule e) ≡ false → (p : Proof) → ((outs : List Tree) × (ending_of (search_for c (ext_rule e)) c.tries ≡ found (p, outs))) →
-      (r : RewriteError) → IsRewriting (plain_of c.set) c.sig.subjects (search_for c (ext_rule e)).hyps p c.nodes (Err r) → IsRuleChecked c e (Err (defect_of r))
+      (r : RewriteError) → IsRewriting (plain_of c.set) c.sig.subjects (search_for c (ext_rule e)).hyps p c.nodes (Err r) → IsRuleChecked c e (Err (limit_defect r))
   refused-checked b p (outs, ends) NoMemory h = tt
   refused-checked b p (outs, ends) (NodesSpent n) h = ((b, p, outs, (within, ends), h.1), h.0)
   refused-checked b p (outs, ends) Deep h = (b, p, outs, (within, ends), h)

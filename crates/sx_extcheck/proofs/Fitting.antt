@@ -17,15 +17,18 @@ use Rattle.sx_rewrite.specs.declared.ext_rule.ExtRule.{ExtRule as ExtRuleOf}
 use Rattle.sx_rewrite.specs.Accepted.{ExtRule, Checked, extended_rules, IsAccepted, AllDisciplined}
 use Rattle.sx_rewrite.specs.AcceptedView.{accepted, signature}
 use Rattle.sx_rewrite.specs.Accepting.{AreStored}
-use Rattle.sx_rewrite.specs.Extensions.{with_table, GoesOn, BodiesFit}
+use Rattle.sx_rewrite.specs.Extensions.{with_table, ShapesGoOn, BodiesFit}
 use Rattle.sx_rewrite.specs.ExtensionView.{ext_rule}
 use Rattle.sx_rewrite.specs.PlainRules.{plain_of, RuleHasImage}
 use Rattle.sx_rewrite.proofs.Sound.{rejected_is_unsound}
 use Rattle.sx_extcheck.specs.declared.accept_error.AcceptError.{AcceptError}
 use Rattle.sx_extcheck.specs.declared.accept_error.AcceptError.TheVariants.{Memory, Rule}
 use Rattle.sx_extcheck.specs.declared.budgets.Budgets.{Budgets}
-use Rattle.sx_extcheck.specs.declared.rule_refusal.RuleRefusal.TheVariants.{Rejected, BudgetSpent, DepthSpent, TooDeep, TooBig, RewriteSpent, RewriteDeep}
-use Rattle.sx_extcheck.specs.Accepts.{AreChecked, HasUnsound, RejectsUnsound}
+use Rattle.sx_extcheck.specs.declared.rule_refusal.RuleRefusal.TheVariants.{Rejected, BudgetSpent}
+use Rattle.sx_extcheck.specs.declared.rule_refusal.RuleRefusal.TheVariants.{DepthSpent, TooDeep}
+use Rattle.sx_extcheck.specs.declared.rule_refusal.RuleRefusal.TheVariants.{TooBig, RewriteSpent}
+use Rattle.sx_extcheck.specs.declared.rule_refusal.RuleRefusal.TheVariants.{RewriteDeep}
+use Rattle.sx_extcheck.specs.Accepts.{AreRulesChecked, HasUnsound, RejectsUnsound}
 use Rattle.sx_extcheck.specs.Checks.{Check, over_for, IsStoredFor}
 use Rattle.sx_extcheck.specs.CheckView.{check_with, CanCheck}
 use Rattle.sx_extcheck.specs.FlatTerms.{listed_term}
@@ -34,7 +37,7 @@ use Rattle.sx_extcheck.proofs.StoredRules.{checked-stored, checked-rejected}
 
 -- each rule of an extension that fits can be checked
 module _ (set : AcceptedOf) (plain : PlainTable) (all : List Shape) (ok : IsAccepted (signature set) (shapes_in set.base) (shapes_in set.rules) (accepted set))
-    (goes_on : GoesOn (shapes_in set.base) (shapes_in set.rules) all (table_of set.plain) (table_of plain)) (labels : plain.base ≡ length (shapes_in set.base)) where
+    (goes_on : ShapesGoOn (shapes_in set.base) (shapes_in set.rules) all (table_of set.plain) (table_of plain)) (labels : plain.base ≡ length (shapes_in set.base)) where
   pub can-all : (es : List ExtRuleOf) → RulesAreSorted all (signature set).forms (map (λ e. e.rule) (map ext_rule es)) → AllDisciplined (signature set).subjects (map (λ e. e.rule) (map ext_rule es)) →
       BodiesFit (signature set) all (length (shapes_in set.rules)) (table_of plain) (map ext_rule es) → RulesAreShallow (map (λ e. rule e.rule) es) →
       AllByRecursion (λ e. AreShallow (listed_term (option_map tree e.body))) es → AllByRecursion (λ e. length e.rule.premises.items < 2 ^ 32) es → AllByRecursion (CanCheck set plain) es
@@ -60,7 +63,7 @@ module _ (set : AcceptedOf) (plain : PlainTable) (budgets : Budgets) where
   abbrev c : Check
   c = check_with set plain budgets
 
-  pub checked-images : (es : List ExtRuleOf) (ss : List Checked) (count : ℕ) → AllByRecursion (CanCheck set plain) es → AreChecked c es count (Ok ss) →
+  pub checked-images : (es : List ExtRuleOf) (ss : List Checked) (count : ℕ) → AllByRecursion (CanCheck set plain) es → AreRulesChecked c es count (Ok ss) →
       AllByRecursion (λ e. RuleHasImage (table_of plain) (rule e.rule)) es
   checked-images [] ss count can h = tt
   checked-images (e ∷ es) [] count can h = absurd h
@@ -71,14 +74,14 @@ module _ (set : AcceptedOf) (plain : PlainTable) (budgets : Budgets) where
   )
 
   module _ (base_moded : AllModed (signature set).modes (bare_rules_in set.base)) (plain_moded : AllModed (signature set).modes (extended_rules (plain_of (with_table (accepted set) (table_of plain))))) where
-    pub all-stored : (es : List ExtRuleOf) (ss : List Checked) (count : ℕ) → AreChecked c es count (Ok ss) →
+    pub all-stored : (es : List ExtRuleOf) (ss : List Checked) (count : ℕ) → AreRulesChecked c es count (Ok ss) →
         AreStored (signature set) (length (shapes_in set.base)) (with_table (accepted set) (table_of plain)) (map ext_rule es) ss
     all-stored [] [] count h = tt
     all-stored [] (s ∷ ss) count h = absurd h
     all-stored (e ∷ es) [] count h = absurd h
     all-stored (e ∷ es) (s ∷ ss) count (st, rest, n, more) = (checked-stored c (ext_rule e) base_moded plain_moded s st, all-stored es ss rest more)
 
-    pub has-unsound : (es : List ExtRuleOf) (count : ℕ) (name : List ℕ) (b : Blame) → AreChecked c es count (Err (Rule name (Rejected b))) → HasUnsound c es name
+    pub has-unsound : (es : List ExtRuleOf) (count : ℕ) (name : List ℕ) (b : Blame) → AreRulesChecked c es count (Err (Rule name (Rejected b))) → HasUnsound c es name
     has-unsound [] count name b h = absurd h
     has-unsound (e ∷ es) count name b (inl (same, refused, n)) =
         inl (
@@ -88,7 +91,7 @@ module _ (set : AcceptedOf) (plain : PlainTable) (budgets : Budgets) where
         )
     has-unsound (e ∷ es) count name b (inr (s, st, rest, n, more)) = inr (has-unsound es rest name b more)
 
-    pub rejects-unsound : (es : List ExtRuleOf) (count : ℕ) (error : AcceptError) → AreChecked c es count (Err error) → RejectsUnsound c es error
+    pub rejects-unsound : (es : List ExtRuleOf) (count : ℕ) (error : AcceptError) → AreRulesChecked c es count (Err error) → RejectsUnsound c es error
     rejects-unsound es count Memory h = tt
     rejects-unsound es count (Rule name (Rejected b)) h = has-unsound es count name b h
     rejects-unsound es count (Rule name (BudgetSpent n)) h = tt
@@ -99,7 +102,7 @@ module _ (set : AcceptedOf) (plain : PlainTable) (budgets : Budgets) where
     rejects-unsound es count (Rule name RewriteDeep) h = tt
 
 -- all is stored where memory is lacking after the last rule
-pub all-then-memory : (c : Check) (es : List ExtRuleOf) (ss : List Checked) (count : ℕ) → AreChecked c es count (Ok ss) → AreChecked c es count (Err Memory)
+pub all-then-memory : (c : Check) (es : List ExtRuleOf) (ss : List Checked) (count : ℕ) → AreRulesChecked c es count (Ok ss) → AreRulesChecked c es count (Err Memory)
 all-then-memory c [] [] count h = h
 all-then-memory c [] (s ∷ ss) count h = absurd h
 all-then-memory c (e ∷ es) [] count h = absurd h

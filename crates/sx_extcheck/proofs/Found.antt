@@ -7,14 +7,17 @@ use Rattle.sx_rules.specs.EntryView.{entries}
 use Rattle.sx_rules.specs.First.{Answer}
 use Rattle.sx_derive.specs.Deriving.{answer_of, IsToldBy}
 use Rattle.sx_derive.specs.declared.derive_error.DeriveError.{DeriveError}
-use Rattle.sx_derive.specs.declared.derive_error.DeriveError.TheVariants.{Memory, Underivable, BudgetSpent, DepthSpent, TooDeep, TooBig}
+use Rattle.sx_derive.specs.declared.derive_error.DeriveError.TheVariants.{Memory, Underivable}
+use Rattle.sx_derive.specs.declared.derive_error.DeriveError.TheVariants.{BudgetSpent, DepthSpent}
+use Rattle.sx_derive.specs.declared.derive_error.DeriveError.TheVariants.{TooDeep, TooBig}
 use Rattle.sx_derive.specs.declared.derived.Derived.{Derived}
 use Rattle.sx_derive.specs.declared.listed.Listed.{Listed}
 use Rattle.sx_derive.specs.Listing.{SaysList}
 use Rattle.sx_derive.specs.Search.{Ending, EachGiven, found, are_wanted, found_when, walk}
 use Rattle.sx_derive.specs.Walk.{Event, try, give, stop, events}
 use Rattle.sx_derive.proofs.Bounded.{answers_are_bounded}
-use Rattle.sx_extcheck.specs.Searches.{Search, ending_of, IsShallowSearch, IsSearchedBy, FindsProof, FindsList, defect_of}
+use Rattle.sx_extcheck.specs.Searches.{Search, ending_of, IsShallowSearch, IsSearchedBy, FindsProof}
+use Rattle.sx_extcheck.specs.Searches.{FindsList, search_defect}
 
 -- what is found is given
 found-now : (P : Answer → Type 0) (wanted : Option (List Tree)) (budget : ℕ) (a : Answer) (es : List (Event Answer)) (b : Answer) (w : Bool) → P a → (walk wanted budget es ≡ found b → P b) →
@@ -52,7 +55,7 @@ found-listed s tries h l (a, e, lists) =
 
 -- a search without an answer
 pub ended-searched : {X Y : Type 0} (Says : X → Ending → Type 0) (Finds : Y → Type 0) (s : Search) (tries : ℕ) (e : DeriveError) →
-    IsToldBy Says s.modes s.subjects s.rules s.hyps s.goal tries (ending_of s tries) (Err e) → IsSearchedBy Finds s tries (Err (defect_of e))
+    IsToldBy Says s.modes s.subjects s.rules s.hyps s.goal tries (ending_of s tries) (Err e) → IsSearchedBy Finds s tries (Err (search_defect e))
 ended-searched Says Finds s tries Memory h = tt
 ended-searched Says Finds s tries (Underivable b) h = h
 ended-searched Says Finds s tries (BudgetSpent n) h = h

@@ -35,7 +35,7 @@ use Rattle.sx_extcheck.specs.declared.checking.Checking.{Checking}
 use Rattle.sx_extcheck.specs.declared.flat_goal.FlatGoal.{FlatGoal}
 use Rattle.sx_extcheck.specs.Checks.{by_base, search_for}
 use Rattle.sx_extcheck.specs.CheckView.{check_of, IsFlatRule, IsFoundRule, IsRuleChecked}
-use Rattle.sx_extcheck.specs.Limits.{defect_of}
+use Rattle.sx_extcheck.specs.Limits.{limit_defect}
 use Rattle.sx_extcheck.specs.Searches.{Search, search_of, ending_of, IsListSearched}
 use Rattle.sx_derive.specs.Search.{found}
 use Rattle.sx_extcheck.proofs.ByRules.{given-good, plain-search, plain-listed, plain-alike, lowered-shallow, lowered-limits, lowered-listed, lowered-subject}
@@ -95,7 +95,7 @@ module _ (k : Checking) (e : ExtRuleOf) (given : Hyps) (goal : FlatGoal) (list :
     full = subst (λ (s : Search). ending_of s tries ≡ found (p, outs)) (plain-search k e given goal f.flat forms_are rules_are f.plain) f.finds.ends
 
     -- it is refused
-    pub found-refused : (r : RewriteError) → IsExpanding (plain_of own) (signature k.set.now).subjects (hypotheses given) p k.budgets.nodes (Err r) → IsRuleChecked (check_of k) e (Err (defect_of r))
+    pub found-refused : (r : RewriteError) → IsExpanding (plain_of own) (signature k.set.now).subjects (hypotheses given) p k.budgets.nodes (Err r) → IsRuleChecked (check_of k) e (Err (limit_defect r))
     found-refused r h =
         refused-checked (check_of k) e f.flat.within f.plain p (outs, full) r
         (plain-alike k e given goal f.flat forms_are rules_are tries p outs f.finds.ends k.budgets.nodes (Err r) (same r h))

@@ -8,24 +8,25 @@ use Rattle.sx_rules.specs.Views.{rule}
 use Rattle.sx_rewrite.specs.declared.ext_rule.ExtRule.{ExtRule as ExtRuleOf}
 use Rattle.sx_rewrite.specs.declared.flat.Flat.{Flat}
 use Rattle.sx_rewrite.specs.ExtensionView.{ext_rule}
-use Rattle.sx_rewrite.specs.Shallow.{IsShallow}
+use Rattle.sx_rewrite.specs.Shallow.{IsShallowFlat}
 use Rattle.sx_rewrite.specs.Stored.{checked_with, checked_of}
 use Rattle.sx_extcheck.specs.declared.accept_error.AcceptError.{AcceptError}
 use Rattle.sx_extcheck.specs.declared.accept_error.AcceptError.TheVariants.{Memory, Rule}
 use Rattle.sx_extcheck.specs.declared.check_error.CheckError.{CheckError}
-use Rattle.sx_extcheck.specs.declared.check_error.CheckError.TheVariants.{Memory as NoMemory, Defect}
+use Rattle.sx_extcheck.specs.declared.check_error.CheckError.TheVariants.{Memory as NoMemory}
+use Rattle.sx_extcheck.specs.declared.check_error.CheckError.TheVariants.{Defect}
 use Rattle.sx_extcheck.specs.declared.rule_refusal.RuleRefusal.{RuleRefusal}
-use Rattle.sx_extcheck.specs.Accepts.{AreChecked, WereChecked, IsRefusal}
+use Rattle.sx_extcheck.specs.Accepts.{AreRulesChecked, WereChecked, IsAcceptRefusal}
 use Rattle.sx_extcheck.specs.Checks.{Check, tries_for, IsStoredFor, IsRefusedFor}
 use Rattle.sx_extcheck.specs.CheckView.{IsRuleChecked}
-use Rattle.sx_extcheck.specs.Searches.{AreCounted}
+use Rattle.sx_extcheck.specs.Searches.{AreSearchesCounted}
 
 -- the first of the rules are stored, with so many tries, and these are left
 abbrev pub AreFront : Check → List ExtRuleOf → List Flat → ℕ → List ExtRuleOf → Type 0
 AreFront c es [] count left = (left ≡ es) × (count ≡ 0)
 AreFront c [] (f ∷ fs) count left = ⊥
 AreFront c (e ∷ es) (f ∷ fs) count left =
-    IsStoredFor c (ext_rule e) (checked_with (rule e.rule) f) × IsShallow f × (rest : ℕ) × (count ≡ tries_for c (ext_rule e) + rest) × AreFront c es fs rest left
+    IsStoredFor c (ext_rule e) (checked_with (rule e.rule) f) × IsShallowFlat f × (rest : ℕ) × (count ≡ tries_for c (ext_rule e) + rest) × AreFront c es fs rest left
 
 list-parts : (x y : ExtRuleOf) (xs ys : List ExtRuleOf) → x ∷ xs ≡ y ∷ ys → (x ≡ y) × (xs ≡ ys)
 list-parts x y xs ys e = (ap head e, ap tail e)
@@ -41,7 +42,7 @@ list-parts x y xs ys e = (ap head e, ap tail e)
 module _ (c : Check) where
   -- one more
   pub front-more : (es : List ExtRuleOf) (fs : List Flat) (count : ℕ) (e : ExtRuleOf) (left : List ExtRuleOf) (f : Flat) → AreFront c es fs count (e ∷ left) →
-      IsStoredFor c (ext_rule e) (checked_with (rule e.rule) f) → IsShallow f → AreFront c es (fs ++ f ∷ []) (count + tries_for c (ext_rule e)) left
+      IsStoredFor c (ext_rule e) (checked_with (rule e.rule) f) → IsShallowFlat f → AreFront c es (fs ++ f ∷ []) (count + tries_for c (ext_rule e)) left
   front-more [] [] count e left f h s k = let q = h.0 in cc
   front-more (x ∷ es) [] count e left f h s k =
       let p = list-parts e x left es h.0 in
@@ -58,7 +59,7 @@ module _ (c : Check) where
 
   -- all are stored
   pub front-done : (es : List ExtRuleOf) (fs : List Flat) (count : ℕ) → AreFront c es fs count [] →
-      AreChecked c es count (Ok (checked_of (map (λ e. rule e.rule) es) fs)) × AllByRecursion IsShallow fs × (length fs ≡ length es)
+      AreRulesChecked c es count (Ok (checked_of (map (λ e. rule e.rule) es) fs)) × AllByRecursion IsShallowFlat fs × (length fs ≡ length es)
   front-done [] [] count h = (h.1, tt, refl)
   front-done (x ∷ es) [] count h = let q = h.0 in cc
   front-done [] (g ∷ fs) count h = absurd h
@@ -69,11 +70,11 @@ module _ (c : Check) where
 
   -- the end of those that are left is the end of all
   pub front-ended : (es : List ExtRuleOf) (fs : List Flat) (count last : ℕ) (left : List ExtRuleOf) (error : AcceptError) → AreFront c es fs count left →
-      AreChecked c left last (Err error) → AreChecked c es (count + last) (Err error)
+      AreRulesChecked c left last (Err error) → AreRulesChecked c es (count + last) (Err error)
   front-ended es [] count last left error h k =
       let n = h.1 in
       let same : last ≡ count + last = omega (arith, n) in
-      subst (λ (m : ℕ). AreChecked c es m (Err error)) same (subst (λ (xs : List ExtRuleOf). AreChecked c xs last (Err error)) h.0 k)
+      subst (λ (m : ℕ). AreRulesChecked c es m (Err error)) same (subst (λ (xs : List ExtRuleOf). AreRulesChecked c xs last (Err error)) h.0 k)
   front-ended [] (g ∷ fs) count last left error h k = absurd h
   front-ended (x ∷ es) (g ∷ fs) count last left Memory (st, sh, rest, n, more) k =
       inr (checked_with (rule x.rule) g, st, rest + last, omega (arith, n), front-ended es fs rest last left Memory more k)
@@ -101,7 +102,7 @@ module _ (c : Check) (es : List ExtRuleOf) (first : ℕ) where
           let m = so.1 in
           (so.0 + tries_for c (ext_rule e), omega (arith, m, n), front-more c es fs so.0 e (drop (i + 1) es) f here h.0 h.1)
 
-      ended : (error : AcceptError) (more now : ℕ) → now ≡ last + more → AreChecked c (e ∷ drop (i + 1) es) more (Err error) → WereChecked c es first now (Err error)
+      ended : (error : AcceptError) (more now : ℕ) → now ≡ last + more → AreRulesChecked c (e ∷ drop (i + 1) es) more (Err error) → WereChecked c es first now (Err error)
       ended error more now n h =
           let m = so.1 in
           (so.0 + more, omega (arith, m, n), front-ended c es fs so.0 more (e ∷ drop (i + 1) es) error here h)
@@ -109,7 +110,7 @@ module _ (c : Check) (es : List ExtRuleOf) (first : ℕ) where
       pub front-memory : (now : ℕ) → last ≤ now → now ≤ last + tries_for c (ext_rule e) → WereChecked c es first now (Err Memory)
       front-memory now a b = ended Memory (now - last) now (omega (arith, a)) (inl (omega (arith, a, b)))
 
-      pub front-refused : (r : CheckError) (a : AcceptError) (now : ℕ) → IsRuleChecked c e (Err r) → AreCounted {X = Flat} (tries_for c (ext_rule e)) last now (Err r) → IsRefusal e.rule.name r a →
+      pub front-refused : (r : CheckError) (a : AcceptError) (now : ℕ) → IsRuleChecked c e (Err r) → AreSearchesCounted {X = Flat} (tries_for c (ext_rule e)) last now (Err r) → IsAcceptRefusal e.rule.name r a →
           WereChecked c es first now (Err a)
       front-refused NoMemory Memory now h n s = front-memory now n.0 n.1
       front-refused NoMemory (Rule name d) now h n s = absurd s
@@ -123,7 +124,7 @@ module _ (c : Check) (es : List ExtRuleOf) (first : ℕ) where
         let k = front-done c es fs so.0 left in (
           so.0,
           so.1,
-          subst (λ (x : List Flat). AreChecked c es so.0 (Ok (checked_of (map (λ e. rule e.rule) es) x))) (sym same) k.0,
-          subst (λ (x : List Flat). AllByRecursion IsShallow x) (sym same) k.1,
+          subst (λ (x : List Flat). AreRulesChecked c es so.0 (Ok (checked_of (map (λ e. rule e.rule) es) x))) (sym same) k.0,
+          subst (λ (x : List Flat). AllByRecursion IsShallowFlat x) (sym same) k.1,
           subst (λ (x : List Flat). length x ≡ length es) (sym same) k.2,
         )

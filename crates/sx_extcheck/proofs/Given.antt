@@ -14,7 +14,7 @@ use Rattle.sx_arena.specs.Entered.{ArePairsShallow}
 use Rattle.sx_plain.specs.Plain.{Table, image}
 use Rattle.sx_rewrite.specs.Flat.{flat_places, flat_judgement, flat_pairs, flat_hypotheses}
 use Rattle.sx_rewrite.specs.PlainRules.{image_judgement, image_premise}
-use Rattle.sx_rewrite.specs.Puts.{IsSmall}
+use Rattle.sx_rewrite.specs.Puts.{IsSmallTerm}
 use Rattle.sx_extcheck.specs.FlatTerms.{premise_terms}
 use Rattle.sx_extcheck.specs.Hypotheses.{plain_given, both_given}
 use Rattle.sx_extcheck.proofs.Measurable.{small-split}
@@ -100,11 +100,11 @@ pub given-end : (table : Table) (ps : List PremiseOf) (i : ℕ) (g : Hypotheses)
 given-end table ps i g l so = sym (ap (λ (qs : List PremiseOf). both_given g (given_from table qs)) (drop_all i ps l) ∙ given-none g table) ∙ so
 
 -- small terms are shallow
-pub small-shallow : (ts : List Tree) → AllByRecursion IsSmall ts → AreShallow ts
+pub small-shallow : (ts : List Tree) → AllByRecursion IsSmallTerm ts → AreShallow ts
 small-shallow [] h = tt
 small-shallow (t ∷ ts) h = (h.0.0, small-shallow ts h.1)
 
-pub given-shallow : (table : Table) (ps : List Premise) → AllByRecursion IsSmall (premise_terms (map (image_premise table) ps)) →
+pub given-shallow : (table : Table) (ps : List Premise) → AllByRecursion IsSmallTerm (premise_terms (map (image_premise table) ps)) →
     ShallowJudgements (plain_given table ps).judgements × ArePairsShallow (plain_given table ps).pairs
 given-shallow table [] h = (tt, tt)
 given-shallow table (holds j ∷ ps) h =

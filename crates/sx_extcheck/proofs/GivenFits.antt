@@ -12,7 +12,8 @@ use Rattle.sx_rules.specs.Modes.{outputs}
 use Rattle.sx_rules.specs.Rules.{Premise, holds, apart, Hypotheses}
 use Rattle.sx_rules.specs.Sets.{shapes_in, forms_in}
 use Rattle.sx_rules.specs.Sorts.{PremisesAreSorted}
-use Rattle.sx_rules.specs.Views.{FormData, judgement, premise, places_at, sorts_of, subjects_in, is_sub}
+use Rattle.sx_rules.specs.Views.{FormData, judgement, premise, places_at, sorts_of, subjects_in}
+use Rattle.sx_rules.specs.Views.{is_sub}
 use Rattle.sx_plain.specs.Plain.{Table, image}
 use Rattle.sx_plain.specs.Views.{table_of}
 use Rattle.sx_rewrite.specs.declared.ext_rule.ExtRule.{ExtRule as ExtRuleOf}
@@ -20,7 +21,7 @@ use Rattle.sx_rewrite.specs.AcceptedView.{accepted, signature}
 use Rattle.sx_rewrite.specs.Extensions.{BodyFits}
 use Rattle.sx_rewrite.specs.ExtensionView.{ext_rule}
 use Rattle.sx_rewrite.specs.PlainRules.{image_premise}
-use Rattle.sx_rewrite.specs.Puts.{IsSmall}
+use Rattle.sx_rewrite.specs.Puts.{IsSmallTerm}
 use Rattle.sx_rewrite.proofs.Checks.{flat_premises_are_base}
 use Rattle.sx_expand.specs.Expansions.{HasOneSubject}
 use Rattle.sx_expand.specs.Readings.{AllSmall, IsGiven, AreGiven}
@@ -33,7 +34,7 @@ use Rattle.sx_extcheck.specs.Hypotheses.{plain_given}
 use Rattle.sx_extcheck.proofs.Given.{plain-is-flat}
 use Rattle.sx_extcheck.proofs.Measurable.{small-split, small-premises}
 
-all-small : (ts : List Tree) → AllByRecursion IsSmall ts → AllSmall ts
+all-small : (ts : List Tree) → AllByRecursion IsSmallTerm ts → AllSmall ts
 all-small [] h = tt
 all-small (t ∷ ts) h = (h.0, all-small ts h.1)
 
@@ -44,7 +45,7 @@ sorts-many shapes vars (t ∷ ts) [] h = absurd h
 sorts-many shapes vars (t ∷ ts) (s ∷ sorts) h = let e = sorts-many shapes vars ts sorts h.1 in omega (arith, e)
 
 -- the plain premises have a small term for each place of their forms
-premises-given : (forms : List FormData) (all : List Shape) (vars : List Sort) (table : Table) (ps : List Premise) → PremisesAreSorted all (sorts_of forms) vars ps → AllByRecursion IsSmall (premise_terms (map (image_premise table) ps)) →
+premises-given : (forms : List FormData) (all : List Shape) (vars : List Sort) (table : Table) (ps : List Premise) → PremisesAreSorted all (sorts_of forms) vars ps → AllByRecursion IsSmallTerm (premise_terms (map (image_premise table) ps)) →
     AllByRecursion (IsGiven forms) (plain_given table ps).judgements
 premises-given forms all vars table [] h s = tt
 premises-given forms all vars table (holds j ∷ ps) h s =

@@ -11,7 +11,7 @@ use Rattle.sx_rules.specs.Deep.{AreShallow}
 use Rattle.sx_plain.specs.Plain.{Table, image}
 use Rattle.sx_derive.proofs.Bounded.{shallow_outputs}
 use Rattle.sx_rewrite.specs.Flat.{flat_places}
-use Rattle.sx_rewrite.specs.Puts.{IsSmall}
+use Rattle.sx_rewrite.specs.Puts.{IsSmallTerm}
 use Rattle.sx_extcheck.specs.FlatTerms.{listed_term}
 use Rattle.sx_extcheck.proofs.Given.{small-shallow}
 
@@ -115,21 +115,21 @@ module _ (table : Table) (body : Option Tree) where
       no-outs (c ∷ outs) (b ∷ subs) = refl
 
 -- flat places of small terms are small, where a body stands in the place of each subject
-pub flat-small : (table : Table) (body : Option Tree) (subs : List Bool) (ts : List Tree) → AllByRecursion IsSmall (map (image table) ts) → AllByRecursion IsSmall (listed_term body) →
-    (body ≡ None → outputs subs ts ≡ []) → AllByRecursion IsSmall (flat_places table body subs ts)
+pub flat-small : (table : Table) (body : Option Tree) (subs : List Bool) (ts : List Tree) → AllByRecursion IsSmallTerm (map (image table) ts) → AllByRecursion IsSmallTerm (listed_term body) →
+    (body ≡ None → outputs subs ts ≡ []) → AllByRecursion IsSmallTerm (flat_places table body subs ts)
 flat-small table body [] ts h b n = h
 flat-small table body (s ∷ subs) [] h b n = tt
 flat-small table body (false ∷ subs) (t ∷ ts) h b n = (h.0, flat-small table body subs ts h.1 b n)
 flat-small table (Some u) (true ∷ subs) (t ∷ ts) h b n = (b.0, flat-small table (Some u) subs ts h.1 b (λ e. cc))
 flat-small table None (true ∷ subs) (t ∷ ts) h b n = let e = n refl in cc
 
-pub small-inputs : (bs : List Bool) (ts : List Tree) → AllByRecursion IsSmall ts → AreShallow (inputs bs ts)
+pub small-inputs : (bs : List Bool) (ts : List Tree) → AllByRecursion IsSmallTerm ts → AreShallow (inputs bs ts)
 small-inputs [] ts h = small-shallow ts h
 small-inputs (b ∷ bs) [] h = tt
 small-inputs (true ∷ bs) (t ∷ ts) h = small-inputs bs ts h.1
 small-inputs (false ∷ bs) (t ∷ ts) h = (h.0.0, small-inputs bs ts h.1)
 
-pub small-outputs : (bs : List Bool) (ts : List Tree) → AllByRecursion IsSmall ts → AreShallow (outputs bs ts)
+pub small-outputs : (bs : List Bool) (ts : List Tree) → AllByRecursion IsSmallTerm ts → AreShallow (outputs bs ts)
 small-outputs bs ts h = shallow_outputs bs ts (small-shallow ts h)
 
 -- one place more

@@ -16,10 +16,11 @@ use Rattle.sx_plain.proofs.Tables.{sorted-fits}
 use Rattle.sx_rewrite.specs.Accepted.{ExtRule, Accepted, Signature}
 use Rattle.sx_rewrite.specs.Extensions.{BodyFits, ComesAfter}
 use Rattle.sx_rewrite.specs.PlainRules.{image_premise, HasImage, PremiseHasImage, RuleHasImage}
-use Rattle.sx_rewrite.specs.Puts.{IsSmall}
+use Rattle.sx_rewrite.specs.Puts.{IsSmallTerm}
 use Rattle.sx_rewrite.specs.Rewriting.{first_over}
 use Rattle.sx_rewrite.proofs.BasedTerms.{small-here}
-use Rattle.sx_extcheck.specs.FlatTerms.{premise_terms, listed_term, flat_terms, CanMeasure, PremiseCanMeasure, RuleCanMeasure}
+use Rattle.sx_extcheck.specs.FlatTerms.{premise_terms, listed_term, flat_terms, CanMeasure}
+use Rattle.sx_extcheck.specs.FlatTerms.{PremiseCanMeasure, RuleCanMeasure}
 
 -- the terms of a rule can be measured
 module _ (base all : List Shape) (table : Table) (vars : List Sort) (d : Desugars base all table) where
@@ -51,27 +52,27 @@ rule-can sig base shapes all a table ext x s b =
     }
 
 -- where no term passes a limit
-pub all-small : (ts : List Tree) → first_over ts ≡ None → AllByRecursion IsSmall ts
+pub all-small : (ts : List Tree) → first_over ts ≡ None → AllByRecursion IsSmallTerm ts
 all-small [] e = tt
 all-small (t ∷ ts) e = let h = small-here t ts e in (h.0, all-small ts h.1)
 
-pub small-split : (ts us : List Tree) → AllByRecursion IsSmall (ts ++ us) → AllByRecursion IsSmall ts × AllByRecursion IsSmall us
+pub small-split : (ts us : List Tree) → AllByRecursion IsSmallTerm (ts ++ us) → AllByRecursion IsSmallTerm ts × AllByRecursion IsSmallTerm us
 small-split [] us h = (tt, h)
 small-split (t ∷ ts) us h = let k = small-split ts us h.1 in ((h.0, k.0), k.1)
 
 -- small images of terms that can be measured
 module _ (table : Table) where
   abbrev Images : List Tree → Type 0
-  Images ts = AllByRecursion IsSmall (map (image table) ts)
+  Images ts = AllByRecursion IsSmallTerm (map (image table) ts)
 
-  has-image : (t : Tree) → CanMeasure table t → IsSmall (image table t) → HasImage table t
+  has-image : (t : Tree) → CanMeasure table t → IsSmallTerm (image table t) → HasImage table t
   has-image t c s = record { shallow = c.0; fits = c.1; image_shallow = s.0; image_small = s.1 }
 
   pub list-images : (ts : List Tree) → AllByRecursion (CanMeasure table) ts → Images ts → AllByRecursion (HasImage table) ts
   list-images [] c s = tt
   list-images (t ∷ ts) c s = (has-image t c.0 s.0, list-images ts c.1 s.1)
 
-  pub premises-images : (ps : List Premise) → AllByRecursion (PremiseCanMeasure table) ps → AllByRecursion IsSmall (premise_terms (map (image_premise table) ps)) →
+  pub premises-images : (ps : List Premise) → AllByRecursion (PremiseCanMeasure table) ps → AllByRecursion IsSmallTerm (premise_terms (map (image_premise table) ps)) →
       AllByRecursion (PremiseHasImage table) ps
   premises-images [] c s = tt
   premises-images (holds j ∷ ps) c s =
@@ -79,7 +80,7 @@ module _ (table : Table) where
       (list-images j.places c.0 k.0, premises-images ps c.1 k.1)
   premises-images (apart t u ∷ ps) c s = ((has-image t c.0.0 s.0, has-image u c.0.1 s.1.0), premises-images ps c.1 s.1.1)
 
-  pub body-images : (body : Option Tree) → AllByRecursion (CanMeasure table) (listed_term body) → AllByRecursion IsSmall (listed_term (option_map (image table) body)) →
+  pub body-images : (body : Option Tree) → AllByRecursion (CanMeasure table) (listed_term body) → AllByRecursion IsSmallTerm (listed_term (option_map (image table) body)) →
       AllByRecursion (HasImage table) (listed_term body)
   body-images None c s = tt
   body-images (Some t) c s = (has-image t c.0 s.0, tt)
@@ -105,21 +106,21 @@ module _ (table : Table) (subjects : Modes) (ext : ExtRule) (within : first_over
   abbrev body_part : List Tree
   body_part = listed_term (option_map (image table) ext.body)
 
-  small : AllByRecursion IsSmall (flat_terms table subjects ext)
+  small : AllByRecursion IsSmallTerm (flat_terms table subjects ext)
   small = all-small (flat_terms table subjects ext) within
 
-  pub small-premises : AllByRecursion IsSmall premises_part
+  pub small-premises : AllByRecursion IsSmallTerm premises_part
   small-premises = (small-split premises_part (inputs marks images ++ (body_part ++ outputs marks images)) small).0
 
-  rest : AllByRecursion IsSmall (inputs marks images ++ (body_part ++ outputs marks images))
+  rest : AllByRecursion IsSmallTerm (inputs marks images ++ (body_part ++ outputs marks images))
   rest = (small-split premises_part (inputs marks images ++ (body_part ++ outputs marks images)) small).1
 
-  pub small-body : AllByRecursion IsSmall body_part
+  pub small-body : AllByRecursion IsSmallTerm body_part
   small-body = (small-split body_part (outputs marks images) (small-split (inputs marks images) (body_part ++ outputs marks images) rest).1).0
 
-  pub small-places : AllByRecursion IsSmall images
+  pub small-places : AllByRecursion IsSmallTerm images
   small-places =
-      joined IsSmall marks images (small-split (inputs marks images) (body_part ++ outputs marks images) rest).0
+      joined IsSmallTerm marks images (small-split (inputs marks images) (body_part ++ outputs marks images) rest).0
       (small-split body_part (outputs marks images) (small-split (inputs marks images) (body_part ++ outputs marks images) rest).1).1
 
   module _ (can : RuleCanMeasure table ext) where

@@ -16,7 +16,7 @@ use Rattle.sx_rewrite.proofs.Growing.{longer}
 use Rattle.sx_extcheck.specs.declared.accept_error.AcceptError.{AcceptError}
 use Rattle.sx_extcheck.specs.declared.accept_error.AcceptError.TheVariants.{Memory, Rule}
 use Rattle.sx_extcheck.specs.declared.refused.Refused.{Refused}
-use Rattle.sx_extcheck.specs.Accepts.{check_for, AreChecked, IsOutcome}
+use Rattle.sx_extcheck.specs.Accepts.{check_for, AreRulesChecked, IsOutcome}
 use Rattle.sx_extcheck.specs.Agree.{Agree, AreSameSets, OneOutcomeIsDue, told_of}
 use Rattle.sx_extcheck.specs.Checks.{Check, tries_for}
 use Rattle.sx_extcheck.proofs.Verdicts.{stored-once, refused-once, not-both}
@@ -26,7 +26,7 @@ module _ (c : Check) (base shapes : List Shape) (ok : IsAccepted c.sig base shap
   more-tries t m n rest more a b e = a ∙ ap (λ (k : ℕ). t + k) e ∙ sym b
 
   all-agree : (es : List ExtRuleOf) (m n : ℕ) (one other : Result (List Checked) AcceptError) →
-      AreChecked c es m one → AreChecked c es n other → Agree (λ ss ts. ss ≡ ts) m n one other
+      AreRulesChecked c es m one → AreRulesChecked c es n other → Agree (λ ss ts. ss ≡ ts) m n one other
   all-agree [] m n (Err Memory) other h i = tt
   all-agree (e ∷ es) m n (Err Memory) other h i = tt
   all-agree [] m n (Ok ss) (Err Memory) h i = tt
@@ -74,7 +74,7 @@ one_outcome_is_due old all ext budgets ok goes_on m n one other h i = go one oth
     longer_set : IsAccepted (signature old) (shapes_in old.base) all c.set
     longer_set = longer (signature old) (shapes_in old.base) (shapes_in old.rules) all (accepted old) (table_of ext.plain) ok goes_on
 
-    both : (one other : Result (List Checked) AcceptError) → AreChecked c ext.rules.items m one → AreChecked c ext.rules.items n other →
+    both : (one other : Result (List Checked) AcceptError) → AreRulesChecked c ext.rules.items m one → AreRulesChecked c ext.rules.items n other →
         Agree (λ ss ts. ss ≡ ts) m n one other
     both one other h i = all-agree c (shapes_in old.base) all longer_set ext.rules.items m n one other h i
 

@@ -20,7 +20,7 @@ use Rattle.sx_rewrite.specs.Extensions.{BodyFits}
 use Rattle.sx_rewrite.specs.ExtensionView.{ext_rule}
 use Rattle.sx_rewrite.specs.Flat.{flat_places}
 use Rattle.sx_rewrite.specs.PlainRules.{image_judgement, HasImage, PremiseHasImage}
-use Rattle.sx_rewrite.specs.Puts.{IsSmall}
+use Rattle.sx_rewrite.specs.Puts.{IsSmallTerm}
 use Rattle.sx_extcheck.specs.declared.checking.Checking.{Checking}
 use Rattle.sx_extcheck.specs.declared.flat_goal.FlatGoal.{FlatGoal}
 use Rattle.sx_extcheck.specs.Checks.{search_for, over_for}
@@ -71,7 +71,7 @@ module _ (k : Checking) (e : ExtRuleOf) (can : CanCheck k.set.now k.plain.now e)
     no-subject None f q = f
     no-subject (Some t) f q = cc
 
-    small-goal : AllByRecursion IsSmall (flat_places table (option_map (image table) (option_map tree e.body)) (subjects e.rule.conclusion.form) (judgement e.rule.conclusion).places)
+    small-goal : AllByRecursion IsSmallTerm (flat_places table (option_map (image table) (option_map tree e.body)) (subjects e.rule.conclusion.form) (judgement e.rule.conclusion).places)
     small-goal =
         flat-small table (option_map (image table) (option_map tree e.body)) (subjects e.rule.conclusion.form) (judgement e.rule.conclusion).places
         (small-places table subjects (ext_rule e) within) (small-body table subjects (ext_rule e) within) (no-subject (option_map tree e.body) can.after.body)

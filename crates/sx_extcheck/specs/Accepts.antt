@@ -13,10 +13,10 @@ use Rattle.sx_rewrite.specs.declared.extension_data.ExtensionData.{ExtensionData
 use Rattle.sx_rewrite.specs.declared.flat.Flat.{Flat}
 use Rattle.sx_rewrite.specs.Accepted.{Checked}
 use Rattle.sx_rewrite.specs.AcceptedView.{accepted, signature}
-use Rattle.sx_rewrite.specs.Adds.{IsAdded, IsAsBefore}
+use Rattle.sx_rewrite.specs.Adds.{IsExtensionAdded, IsAsBefore}
 use Rattle.sx_rewrite.specs.Extensions.{with_table}
 use Rattle.sx_rewrite.specs.ExtensionView.{ext_rule}
-use Rattle.sx_rewrite.specs.Shallow.{IsShallow}
+use Rattle.sx_rewrite.specs.Shallow.{IsShallowFlat}
 use Rattle.sx_rewrite.specs.Sound.{IsSoundBy, AreSoundBy}
 use Rattle.sx_rewrite.specs.Stored.{checked_of}
 use Rattle.sx_extcheck.specs.declared.accept_error.AcceptError.{AcceptError}
@@ -39,25 +39,25 @@ check_for set ext budgets = check_with set ext.plain budgets
 -- The rules are checked in order, with so many tries in all: each is stored, or each up to the
 -- first that is refused; where memory is lacking at a rule, each before it is stored, and some of
 -- its tries were made.
-abbrev pub AreChecked : Check → List ExtRuleOf → ℕ → Result (List Checked) AcceptError → Type 0
-AreChecked c [] count (Ok []) = count ≡ 0
-AreChecked c [] count (Ok (s ∷ ss)) = ⊥
-AreChecked c [] count (Err Memory) = count ≡ 0
-AreChecked c [] count (Err (Rule name defect)) = ⊥
-AreChecked c (e ∷ es) count (Ok []) = ⊥
-AreChecked c (e ∷ es) count (Ok (s ∷ ss)) =
+abbrev pub AreRulesChecked : Check → List ExtRuleOf → ℕ → Result (List Checked) AcceptError → Type 0
+AreRulesChecked c [] count (Ok []) = count ≡ 0
+AreRulesChecked c [] count (Ok (s ∷ ss)) = ⊥
+AreRulesChecked c [] count (Err Memory) = count ≡ 0
+AreRulesChecked c [] count (Err (Rule name defect)) = ⊥
+AreRulesChecked c (e ∷ es) count (Ok []) = ⊥
+AreRulesChecked c (e ∷ es) count (Ok (s ∷ ss)) =
     IsStoredFor c (ext_rule e) s
-    × (rest : ℕ) × (count ≡ tries_for c (ext_rule e) + rest) × AreChecked c es rest (Ok ss)
-AreChecked c (e ∷ es) count (Err Memory) =
+    × (rest : ℕ) × (count ≡ tries_for c (ext_rule e) + rest) × AreRulesChecked c es rest (Ok ss)
+AreRulesChecked c (e ∷ es) count (Err Memory) =
     (count ≤ tries_for c (ext_rule e))
     ⊎ ((s : Checked) × IsStoredFor c (ext_rule e) s
     × (rest : ℕ) × (count ≡ tries_for c (ext_rule e) + rest)
-    × AreChecked c es rest (Err Memory))
-AreChecked c (e ∷ es) count (Err (Rule name defect)) =
+    × AreRulesChecked c es rest (Err Memory))
+AreRulesChecked c (e ∷ es) count (Err (Rule name defect)) =
     ((name ≡ e.rule.name) × IsRefusedFor c (ext_rule e) defect × (count ≡ tries_for c (ext_rule e)))
     ⊎ ((s : Checked) × IsStoredFor c (ext_rule e) s
     × (rest : ℕ) × (count ≡ tries_for c (ext_rule e) + rest)
-    × AreChecked c es rest (Err (Rule name defect)))
+    × AreRulesChecked c es rest (Err (Rule name defect)))
 
 -- each rule is checked and stored, and the set has them after its rules; or a rule is refused or
 -- memory is lacking, and the set is as it was
@@ -65,16 +65,16 @@ abbrev pub IsOutcome : AcceptedOf → List Shape → ExtensionData → Check →
     Result AcceptedOf Refused → Type 0
 IsOutcome old all ext c count (Ok new) =
     (flats : List Flat)
-    × AreChecked c ext.rules.items count
+    × AreRulesChecked c ext.rules.items count
     (Ok (checked_of (map (λ e. rule e.rule) ext.rules.items) flats))
-    × IsAdded old all ext flats (Ok new)
+    × IsExtensionAdded old all ext flats (Ok new)
 IsOutcome old all ext c count (Err refused) =
-    AreChecked c ext.rules.items count (Err refused.error) × IsAsBefore old refused.set
+    AreRulesChecked c ext.rules.items count (Err refused.error) × IsAsBefore old refused.set
 
 -- with the tries that the counter rose by
-abbrev pub IsAnswered : AcceptedOf → List Shape → ExtensionData → Check → ℕ → ℕ →
+abbrev pub IsCheckAnswered : AcceptedOf → List Shape → ExtensionData → Check → ℕ → ℕ →
     Result AcceptedOf Refused → Type 0
-IsAnswered old all ext c first last result =
+IsCheckAnswered old all ext c first last result =
     (count : ℕ) × (last ≡ first + count) × IsOutcome old all ext c count result
 
 -- the rules of the extension, each with its body, are sound after the set with the extension's
@@ -104,13 +104,13 @@ RejectsUnsound c es (Rule name _) = Unit {0}
 abbrev pub WereChecked : Check → List ExtRuleOf → ℕ → ℕ → Result (Vec Flat) AcceptError → Type 0
 WereChecked c es first last (Ok flats) =
     (count : ℕ) × (last ≡ first + count)
-    × AreChecked c es count (Ok (checked_of (map (λ e. rule e.rule) es) flats.items))
-    × AllByRecursion IsShallow flats.items × (length flats.items ≡ length es)
+    × AreRulesChecked c es count (Ok (checked_of (map (λ e. rule e.rule) es) flats.items))
+    × AllByRecursion IsShallowFlat flats.items × (length flats.items ≡ length es)
 WereChecked c es first last (Err error) =
-    (count : ℕ) × (last ≡ first + count) × AreChecked c es count (Err error)
+    (count : ℕ) × (last ≡ first + count) × AreRulesChecked c es count (Err error)
 
 -- the error is the defect of the rule with this name, or out of memory
-abbrev pub IsRefusal : List ℕ → CheckError → AcceptError → Type 0
-IsRefusal name e Memory = Unit {0}
-IsRefusal name NoMemory (Rule n defect) = ⊥
-IsRefusal name (Defect d) (Rule n defect) = (n ≡ name) × (defect ≡ d)
+abbrev pub IsAcceptRefusal : List ℕ → CheckError → AcceptError → Type 0
+IsAcceptRefusal name e Memory = Unit {0}
+IsAcceptRefusal name NoMemory (Rule n defect) = ⊥
+IsAcceptRefusal name (Defect d) (Rule n defect) = (n ≡ name) × (defect ≡ d)

@@ -9,7 +9,7 @@ use Rattle.sx_rewrite.specs.declared.accepted.Accepted.{Accepted as AcceptedOf}
 use Rattle.sx_rewrite.specs.declared.extension_data.ExtensionData.{ExtensionData}
 use Rattle.sx_rewrite.specs.Accepted.{IsAccepted}
 use Rattle.sx_rewrite.specs.AcceptedView.{accepted, signature}
-use Rattle.sx_rewrite.specs.Extensions.{GoesOn}
+use Rattle.sx_rewrite.specs.Extensions.{ShapesGoOn}
 use Rattle.sx_extcheck.specs.declared.accept_error.AcceptError.{AcceptError}
 use Rattle.sx_extcheck.specs.declared.accept_error.AcceptError.TheVariants.{Memory, Rule}
 use Rattle.sx_extcheck.specs.declared.budgets.Budgets.{Budgets}
@@ -72,7 +72,7 @@ abbrev pub OneOutcomeIsDue : Type 0
 OneOutcomeIsDue =
     (old : AcceptedOf) (all : List Shape) (ext : ExtensionData) (budgets : Budgets) →
     IsAccepted (signature old) (shapes_in old.base) (shapes_in old.rules) (accepted old) →
-    GoesOn (shapes_in old.base) (shapes_in old.rules) all
+    ShapesGoOn (shapes_in old.base) (shapes_in old.rules) all
     (table_of old.plain) (table_of ext.plain) →
     (m n : ℕ) (one other : Result AcceptedOf Refused) →
     IsOutcome old all ext (check_for old ext budgets) m one →

@@ -17,7 +17,7 @@ use Rattle.sx_plain.specs.declared.table.PlainTable.{PlainTable}
 use Rattle.sx_rewrite.specs.AcceptedView.{accepted, signature}
 use Rattle.sx_rewrite.specs.Extensions.{with_table, ComesAfter}
 use Rattle.sx_rewrite.specs.ExtensionView.{ext_rule}
-use Rattle.sx_rewrite.specs.Shallow.{IsShallow}
+use Rattle.sx_rewrite.specs.Shallow.{IsShallowFlat}
 use Rattle.sx_rewrite.specs.Stored.{checked_with}
 use Rattle.sx_extcheck.specs.declared.budgets.Budgets.{Budgets}
 use Rattle.sx_extcheck.specs.declared.check_error.CheckError.{CheckError}
@@ -56,7 +56,7 @@ pub record CanCheck (set : AcceptedOf) (plain : PlainTable) (e : ExtRuleOf) : Ty
 -- what is stored of the rule is what its check finds, or it is refused, or memory is lacking
 abbrev pub IsRuleChecked : Check → ExtRuleOf → Result Flat CheckError → Type 0
 IsRuleChecked c e (Ok flat) =
-    IsStoredFor c (ext_rule e) (checked_with (rule e.rule) flat) × IsShallow flat
+    IsStoredFor c (ext_rule e) (checked_with (rule e.rule) flat) × IsShallowFlat flat
 IsRuleChecked c e (Err Memory) = Unit {0}
 IsRuleChecked c e (Err (Defect defect)) = IsRefusedFor c (ext_rule e) defect
 

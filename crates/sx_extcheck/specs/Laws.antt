@@ -10,7 +10,7 @@ use Rattle.sx_rewrite.specs.declared.extension_data.ExtensionData.{ExtensionData
 use Rattle.sx_rewrite.specs.Accepted.{ExtRule, Checked, extended_rules, IsAccepted}
 use Rattle.sx_rewrite.specs.AcceptedView.{accepted, signature}
 use Rattle.sx_rewrite.specs.Accepting.{IsStored}
-use Rattle.sx_rewrite.specs.Extensions.{Fits}
+use Rattle.sx_rewrite.specs.Extensions.{FitsRules}
 use Rattle.sx_rewrite.specs.ExtensionView.{ext_rule}
 use Rattle.sx_rewrite.specs.PlainRules.{plain_of}
 use Rattle.sx_rewrite.specs.Sound.{IsSoundBy}
@@ -40,7 +40,7 @@ abbrev pub AddedRulesAreSound : Type 0
 AddedRulesAreSound =
     (old : AcceptedOf) (all : List Shape) (ext : ExtensionData) (budgets : Budgets) →
     IsAccepted (signature old) (shapes_in old.base) (shapes_in old.rules) (accepted old) →
-    Fits (signature old) (shapes_in old.base) (shapes_in old.rules) all
+    FitsRules (signature old) (shapes_in old.base) (shapes_in old.rules) all
     (table_of old.plain) (table_of ext.plain) (map ext_rule ext.rules.items) →
     (count : ℕ) (new : AcceptedOf) →
     IsOutcome old all ext (check_for old ext budgets) count (Ok new) → AddsSound old ext new

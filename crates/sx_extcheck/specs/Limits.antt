@@ -17,9 +17,9 @@ use Rattle.sx_extcheck.specs.declared.rule_refusal.RuleRefusal.TheVariants.{
 }
 
 -- the error of a measure or of rewriting, as out of memory or as a defect
-abbrev pub defect_of : RewriteError → CheckError
-defect_of NoMemory = Memory
-defect_of (NodesSpent n) = Defect (RewriteSpent n)
-defect_of Deep = Defect RewriteDeep
-defect_of (DeepTerm n) = Defect (TooDeep n)
-defect_of (BigTerm n) = Defect (TooBig n)
+abbrev pub limit_defect : RewriteError → CheckError
+limit_defect NoMemory = Memory
+limit_defect (NodesSpent n) = Defect (RewriteSpent n)
+limit_defect Deep = Defect RewriteDeep
+limit_defect (DeepTerm n) = Defect (TooDeep n)
+limit_defect (BigTerm n) = Defect (TooBig n)

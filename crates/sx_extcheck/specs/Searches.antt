@@ -108,8 +108,8 @@ FindsProof s tries p =
     × (height_of (proof p.value) ≤ most_levels) × HasShallowBinds (proof p.value)
 
 -- so where the derivation is answered
-abbrev pub IsSearched : Search → ℕ → Result (Box ProofOf) CheckError → Type 0
-IsSearched s tries result = IsSearchedBy (FindsProof s tries) s tries result
+abbrev pub IsCheckSearched : Search → ℕ → Result (Box ProofOf) CheckError → Type 0
+IsCheckSearched s tries result = IsSearchedBy (FindsProof s tries) s tries result
 
 -- the list is that of the answer that the walk finds, which is within the limits of derivations
 pub record FindsList (s : Search) (tries : ℕ) (list : List Entry) (answer : Answer) : Type 0 where
@@ -128,15 +128,15 @@ abbrev pub IsListSearched : Search → ℕ → Result (Vec EntryOf) CheckError �
 IsListSearched s tries result = IsSearchedBy (FindsSome s tries) s tries result
 
 -- the counter rose by these tries; without memory some of them were made
-abbrev pub AreCounted : {X : Type 0} → ℕ → ℕ → ℕ → Result X CheckError → Type 0
-AreCounted tries first last (Err Memory) = (first ≤ last) × (last ≤ first + tries)
-AreCounted tries first last _ = last ≡ first + tries
+abbrev pub AreSearchesCounted : {X : Type 0} → ℕ → ℕ → ℕ → Result X CheckError → Type 0
+AreSearchesCounted tries first last (Err Memory) = (first ≤ last) × (last ≤ first + tries)
+AreSearchesCounted tries first last _ = last ≡ first + tries
 
 -- the error of a search, as out of memory or as a defect
-abbrev pub defect_of : DeriveError → CheckError
-defect_of NoMemory = Memory
-defect_of (Underivable b) = Defect (Rejected b)
-defect_of (TriesSpent n) = Defect (BudgetSpent n)
-defect_of (DepthDone n) = Defect (DepthSpent n)
-defect_of (DeepTerm n) = Defect (TooDeep n)
-defect_of (BigTerm n) = Defect (TooBig n)
+abbrev pub search_defect : DeriveError → CheckError
+search_defect NoMemory = Memory
+search_defect (Underivable b) = Defect (Rejected b)
+search_defect (TriesSpent n) = Defect (BudgetSpent n)
+search_defect (DepthDone n) = Defect (DepthSpent n)
+search_defect (DeepTerm n) = Defect (TooDeep n)
+search_defect (BigTerm n) = Defect (TooBig n)

@@ -10,15 +10,10 @@ ghost use Rattle.sx_rules.specs.Sets.{shapes_in, forms_in, rules_in};
 ghost use Rattle.sx_rules.specs.Views.{rule};
 ghost use Rattle.sx_plain.specs.Views.{table_of};
 ghost use Rattle.sx_rewrite.specs.AcceptedView.{signature};
-ghost use Rattle.sx_rewrite.specs.Extensions.{Fits};
+ghost use Rattle.sx_rewrite.specs.Extensions.{FitsRules};
 ghost use Rattle.sx_rewrite.specs.ExtensionView.{ext_rule, named_rules};
-ghost use Rattle.sx_extcheck.specs.Accepts.{
-  check_for,
-  WereChecked,
-  IsRefusal,
-  IsAnswered,
-  RejectsUnsound,
-};
+ghost use Rattle.sx_extcheck.specs.Accepts.{check_for, WereChecked, IsAcceptRefusal};
+ghost use Rattle.sx_extcheck.specs.Accepts.{IsCheckAnswered, RejectsUnsound};
 ghost use Rattle.sx_extcheck.specs.CheckView.{CanCheck};
 ghost use Rattle.sx_extcheck.specs.FlatTerms.{listed_term};
 
@@ -59,10 +54,10 @@ pub fn accept<L: Ledger>(
         (λ e. AreShallow (listed_term (option_map tree e.body))) ext.rules.items }
     requires few { AllByRecursion (λ e. length e.rule.premises.items < 2 ^ 32) ext.rules.items }
     requires labels { ext.plain.base ≡ so_far.plain.base }
-    requires fits { Fits (signature so_far) (shapes_in so_far.base) (shapes_in so_far.rules)
+    requires fits { FitsRules (signature so_far) (shapes_in so_far.base) (shapes_in so_far.rules)
         (shapes all.now) (table_of so_far.plain) (table_of ext.plain)
         (map ext_rule ext.rules.items) }
-    ensures answer { IsAnswered so_far (shapes all.now) ext (check_for so_far ext budgets)
+    ensures answer { IsCheckAnswered so_far (shapes all.now) ext (check_for so_far ext budgets)
         steps.old steps.new result }
     ensures unsound { IfErr result
         (λ refused. RejectsUnsound (check_for so_far ext budgets) ext.rules.items refused.error) }
@@ -118,7 +113,7 @@ fn check_rules<L: Ledger>(
 
 /// Why the rule with this name is refused, or out of memory.
 fn refusal(alloc: Global, name: &Text, e: CheckError) -> AcceptError
-    ensures { IsRefusal name.now e result }
+    ensures { IsAcceptRefusal name.now e result }
 {
     match e {
         CheckError::Memory => AcceptError::Memory,

@@ -1,15 +1,8 @@
 //! The first derivation of a flat goal.
 
 ghost use Rattle.std.specs.Prelude.{◌≡◌, ◌^◌, ◌<◌, length};
-ghost use Rattle.sx_extcheck.specs.Searches.{
-  search_of,
-  tries_in,
-  IsShallowSearch,
-  IsSearched,
-  IsListSearched,
-  AreCounted,
-  defect_of,
-};
+ghost use Rattle.sx_extcheck.specs.Searches.{search_of, tries_in, IsShallowSearch, IsCheckSearched};
+ghost use Rattle.sx_extcheck.specs.Searches.{IsListSearched, AreSearchesCounted, search_defect};
 
 use crate::check_error::CheckError;
 use crate::flat_goal::FlatGoal;
@@ -32,8 +25,8 @@ pub(crate) fn find<L: Ledger>(
 ) -> Result<Box<Proof>, CheckError>
     requires few { length given.now.holds.items < 2 ^ 32 }
     requires shallow { IsShallowSearch (search_of rules.now given.now goal.now) }
-    ensures answer { IsSearched (search_of rules.now given.now goal.now) tries result }
-    ensures steps { AreCounted (tries_in (search_of rules.now given.now goal.now) tries)
+    ensures answer { IsCheckSearched (search_of rules.now given.now goal.now) tries result }
+    ensures steps { AreSearchesCounted (tries_in (search_of rules.now given.now goal.now) tries)
         steps.old steps.new result }
 {
     match derive(
@@ -65,7 +58,7 @@ pub(crate) fn find_list<L: Ledger>(
     requires few { length given.now.holds.items < 2 ^ 32 }
     requires shallow { IsShallowSearch (search_of rules.now given.now goal.now) }
     ensures answer { IsListSearched (search_of rules.now given.now goal.now) tries result }
-    ensures steps { AreCounted (tries_in (search_of rules.now given.now goal.now) tries)
+    ensures steps { AreSearchesCounted (tries_in (search_of rules.now given.now goal.now) tries)
         steps.old steps.new result }
 {
     let wanted = Some(&goal.wanted);
@@ -80,7 +73,7 @@ pub(crate) fn find_list<L: Ledger>(
 
 /// Out of memory, or the defect of a rule whose search ends so.
 fn walk_defect(e: DeriveError) -> CheckError
-    ensures { result ≡ defect_of e }
+    ensures { result ≡ search_defect e }
 {
     match e {
         DeriveError::Memory => CheckError::Memory,

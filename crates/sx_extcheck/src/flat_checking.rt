@@ -7,7 +7,7 @@ ghost use Rattle.sx_rewrite.specs.declared.ext_rule.ExtRule.{ExtRule as ExtRuleO
 ghost use Rattle.sx_rewrite.specs.ExtensionView.{ext_rule};
 ghost use Rattle.sx_extcheck.specs.Checks.{by_base, search_for};
 ghost use Rattle.sx_extcheck.specs.CheckView.{check_of, IsFlatRule, IsFoundRule, IsRuleChecked};
-ghost use Rattle.sx_extcheck.specs.Searches.{tries_in, AreCounted};
+ghost use Rattle.sx_extcheck.specs.Searches.{tries_in, AreSearchesCounted};
 
 use crate::base_syntax::has_base_syntax;
 use crate::check_error::CheckError;
@@ -32,7 +32,7 @@ pub(crate) fn check_flat<L: Ledger>(
 ) -> Result<Flat, CheckError>
     requires { IsFlatRule checking.now ext.now given.now goal.now }
     ensures answer { IsRuleChecked (check_of checking.now) ext.now result }
-    ensures steps { AreCounted
+    ensures steps { AreSearchesCounted
         (tries_in (search_for (check_of checking.now) (ext_rule ext.now))
         checking.now.budgets.tries)
         steps.old steps.new result }
@@ -55,7 +55,7 @@ fn check_by_base<L: Ledger>(
     requires flat { IsFlatRule checking.now ext.now given.now goal.now }
     requires base { by_base (check_of checking.now) (ext_rule ext.now) ≡ true }
     ensures answer { IsRuleChecked (check_of checking.now) ext.now result }
-    ensures steps { AreCounted
+    ensures steps { AreSearchesCounted
         (tries_in (search_for (check_of checking.now) (ext_rule ext.now))
         checking.now.budgets.tries)
         steps.old steps.new result }
@@ -86,7 +86,7 @@ fn check_by_plain<L: Ledger>(
     requires flat { IsFlatRule checking.now ext.now given.now goal.now }
     requires plain { by_base (check_of checking.now) (ext_rule ext.now) ≡ false }
     ensures answer { IsRuleChecked (check_of checking.now) ext.now result }
-    ensures steps { AreCounted
+    ensures steps { AreSearchesCounted
         (tries_in (search_for (check_of checking.now) (ext_rule ext.now))
         checking.now.budgets.tries)
         steps.old steps.new result }

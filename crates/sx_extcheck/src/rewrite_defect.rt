@@ -1,7 +1,7 @@
 //! Limits that a rule passes.
 
 ghost use Rattle.std.specs.Prelude.{◌≡◌};
-ghost use Rattle.sx_extcheck.specs.Limits.{defect_of};
+ghost use Rattle.sx_extcheck.specs.Limits.{limit_defect};
 
 use crate::check_error::CheckError;
 use crate::rule_refusal::RuleRefusal;
@@ -9,7 +9,7 @@ use sx_rewrite::RewriteError;
 
 /// Out of memory, or the defect of a rule that passes this limit.
 pub(crate) fn rewrite_defect(e: RewriteError) -> CheckError
-    ensures { result ≡ defect_of e }
+    ensures { result ≡ limit_defect e }
 {
     match e {
         RewriteError::Memory => CheckError::Memory,

@@ -2,7 +2,7 @@
 
 ghost use Rattle.sx_extcheck.specs.Checks.{tries_for};
 ghost use Rattle.sx_extcheck.specs.CheckView.{check_of, CanCheck, IsRuleChecked};
-ghost use Rattle.sx_extcheck.specs.Searches.{AreCounted};
+ghost use Rattle.sx_extcheck.specs.Searches.{AreSearchesCounted};
 ghost use Rattle.sx_rewrite.specs.ExtensionView.{ext_rule};
 
 use crate::check_error::CheckError;
@@ -27,7 +27,7 @@ pub(crate) fn check_rule<L: Ledger>(
 ) -> Result<Flat, CheckError>
     requires { CanCheck checking.now.set.now checking.now.plain.now ext.now }
     ensures answer { IsRuleChecked (check_of checking.now) ext.now result }
-    ensures steps { AreCounted (tries_for (check_of checking.now) (ext_rule ext.now))
+    ensures steps { AreSearchesCounted (tries_for (check_of checking.now) (ext_rule ext.now))
         steps.old steps.new result }
 {
     let base = checking.set.base_rules();

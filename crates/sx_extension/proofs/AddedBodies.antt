@@ -13,13 +13,14 @@ use Rattle.sx_term.specs.Instances.{Stands, StandsInKids}
 use Rattle.sx_term.specs.Untyped.{IsUntypedSort}
 use Rattle.sx_plain.specs.declared.plain_error.PlainError.{PlainError}
 use Rattle.sx_plain.specs.declared.plain_error.PlainError.TheVariants as plain
-use Rattle.sx_plain.specs.Adds.{with_entry, IsAdded}
+use Rattle.sx_plain.specs.Adds.{with_entry, IsBodyAdded}
 use Rattle.sx_plain.specs.Plain.{Body, Table, image}
 use Rattle.sx_plain.specs.Tables.{Begins, HasBodies, Desugars}
 use Rattle.sx_plain.proofs.Tables.{begins-at}
 use Rattle.sx_plain.proofs.Grown.{bodies_stay_sorted}
 use Rattle.sx_extension.specs.PlainBodies.{BodyData, body_data, IsBodyOf}
-use Rattle.sx_extension.specs.PlainTables.{Adds, AddsAll, IsFirstRefused, HasAll, IsReason, IsRefusal, IsNotAdded}
+use Rattle.sx_extension.specs.PlainTables.{AddsBody, AddsAll, IsFirstRefused, HasAll, IsReason}
+use Rattle.sx_extension.specs.PlainTables.{IsTableRefusal, IsNotAdded}
 use Rattle.sx_extension.specs.declared.table_error.TableError.{TableError}
 use Rattle.sx_extension.specs.declared.table_error.TableError.TheVariants.{Memory, Plain, NoPlain}
 use Rattle.sx_extension.specs.declared.plain_body.PlainBody.{PlainBody}
@@ -49,11 +50,11 @@ begins_on base before all b a = (b.0 ++ a.0, a.1 ∙ ap (λ (ss : List Shape). s
 
 -- after a body is added each body of the table is of its constructor
 pub after_add : (base all : List Shape) (first n : ℕ) (old new : Table) (b : BodyData) (t : Tree) → IsBodyOf all first b → n ≡ length base → Begins base all → HasBodies base all old → t ≡ b.term →
-    (r : Result (Unit {0}) PlainError) → IsAdded n old new b.label b.parts t r → IfOk r (λ _. HasBodies base all new)
+    (r : Result (Unit {0}) PlainError) → IsBodyAdded n old new b.label b.parts t r → IfOk r (λ _. HasBodies base all new)
 after_add base all first n old new b t is m begins known same (Ok x) h =
-    let by_term = subst (λ (u : Tree). IsAdded n old new b.label b.parts u (Ok tt)) same h in
-    let by_parts = subst (λ (k : ℕ). IsAdded n old new b.label k b.term (Ok tt)) is.many by_term in
-    let by_base = subst (λ (k : ℕ). IsAdded k old new b.label (length is.shape.kids) b.term (Ok tt)) m by_parts in
+    let by_term = subst (λ (u : Tree). IsBodyAdded n old new b.label b.parts u (Ok tt)) same h in
+    let by_parts = subst (λ (k : ℕ). IsBodyAdded n old new b.label k b.term (Ok tt)) is.many by_term in
+    let by_base = subst (λ (k : ℕ). IsBodyAdded k old new b.label (length is.shape.kids) b.term (Ok tt)) m by_parts in
     bodies_stay_sorted base all old new b.label is.shape b.term begins known is.is is.plain is.sorted by_base
 after_add base all first n old new b t is m begins known same (Err e) h = tt
 
@@ -74,22 +75,22 @@ module _ (n : ℕ) (start : Table) (xs : List PlainBody) where
   RefusesOn old i = (m : ℕ) (e : PlainError) → IsFirstRefused n old (map body_data (drop i xs)) m e → IsFirstRefused n start (map body_data xs) (i + m) e
 
   module _ (old middle : Table) (i : ℕ) (x : PlainBody) (h : i < length xs) (e : x ≡ get_or xs i x) where
-    pub adds_on : Adds n old (body_data x) middle → AddsOn old i → AddsOn middle (i + 1)
+    pub adds_on : AddsBody n old (body_data x) middle → AddsOn old i → AddsOn middle (i + 1)
     adds_on a k new r = k new (subst (λ (bs : List BodyData). AddsAll n old bs new) (sym (map_drop body_data xs i x h e)) (middle, a, r))
 
-    pub refuses_on : Adds n old (body_data x) middle → RefusesOn old i → RefusesOn middle (i + 1)
+    pub refuses_on : AddsBody n old (body_data x) middle → RefusesOn old i → RefusesOn middle (i + 1)
     refuses_on a k m d r =
         let q : i + suc m ≡ (i + 1) + m = omega arith in
         subst (λ (j : ℕ). IsFirstRefused n start (map body_data xs) j d) q
         (k (suc m) d (subst (λ (bs : List BodyData). IsFirstRefused n old bs (suc m) d) (sym (map_drop body_data xs i x h e)) (middle, a, r)))
 
-    pub refused_here : (d : PlainError) → IsAdded n old middle (body_data x).label (body_data x).parts (body_data x).term (Err d) → RefusesOn old i → IsReason d → IsFirstRefused n start (map body_data xs) i d
+    pub refused_here : (d : PlainError) → IsBodyAdded n old middle (body_data x).label (body_data x).parts (body_data x).term (Err d) → RefusesOn old i → IsReason d → IsFirstRefused n start (map body_data xs) i d
     refused_here d a k reason =
         let q : i + 0 ≡ i = omega arith in
         subst (λ (j : ℕ). IsFirstRefused n start (map body_data xs) j d) q
         (k 0 d (subst (λ (bs : List BodyData). IsFirstRefused n old bs 0 d) (sym (map_drop body_data xs i x h e)) (same_refusal d a reason)))
       where
-        same_refusal : (d : PlainError) → IsAdded n old middle (body_data x).label (body_data x).parts (body_data x).term (Err d) → IsReason d → IsAdded n old old (body_data x).label (body_data x).parts (body_data x).term (Err d)
+        same_refusal : (d : PlainError) → IsBodyAdded n old middle (body_data x).label (body_data x).parts (body_data x).term (Err d) → IsReason d → IsBodyAdded n old old (body_data x).label (body_data x).parts (body_data x).term (Err d)
         same_refusal plain.Memory a r = absurd r
         same_refusal (plain.Twice l) a r = a
         same_refusal (plain.UsesLater l) a r = a
@@ -97,8 +98,8 @@ module _ (n : ℕ) (start : Table) (xs : List PlainBody) where
         same_refusal (plain.TooDeep v) a r = a
         same_refusal (plain.TooBig v) a r = a
 
-  pub not_added : (old middle : Table) (i : ℕ) (x : PlainBody) → i < length xs → x ≡ get_or xs i x → (d : PlainError) → IsAdded n old middle (body_data x).label (body_data x).parts (body_data x).term (Err d) → RefusesOn old i →
-      (r : TableError) → IsRefusal i d r → IsNotAdded n start (map body_data xs) r
+  pub not_added : (old middle : Table) (i : ℕ) (x : PlainBody) → i < length xs → x ≡ get_or xs i x → (d : PlainError) → IsBodyAdded n old middle (body_data x).label (body_data x).parts (body_data x).term (Err d) → RefusesOn old i →
+      (r : TableError) → IsTableRefusal i d r → IsNotAdded n start (map body_data xs) r
   not_added old middle i x h e d a k Memory is = tt
   not_added old middle i x h e d a k (NoPlain label) is = absurd is
   not_added old middle i x h e d a k (Plain m y) is =

@@ -11,14 +11,14 @@ use Rattle.sx_rules.specs.Views.{FormData, NamedRule}
 use Rattle.sx_outline.specs.declared.rule_lines.RuleLines.{RuleLines}
 use Rattle.sx_outline.specs.Stages.{Numbered, RuleData, rule_data}
 use Rattle.sx_language.specs.RuleLine.{Reader, subject_sort}
-use Rattle.sx_language.specs.RuleTexts.{IsBody, AreRules}
+use Rattle.sx_language.specs.RuleTexts.{IsRuleBody, AreRules}
 use Rattle.sx_extension.specs.declared.body_defect.BodyDefect.{BodyDefect}
 use Rattle.sx_extension.specs.declared.extension_error.ExtensionError.{ExtensionError}
 use Rattle.sx_extension.specs.BodyRefusals.{IsBodyRefusal, HaveBadBody}
 use Rattle.sx_extension.proofs.NamesCopied.{read_at}
 use Rattle.sx_extension.specs.Bodies.{IsReadBody, AreReadBodies, IsFirstDefect}
 
-body_read : (r : Reader) (line : Option Numbered) (subject : Option Sort) (old new : List Text) (body : Option Tree) → IsBody r line subject old new body → IsReadBody subject line body
+body_read : (r : Reader) (line : Option Numbered) (subject : Option Sort) (old new : List Text) (body : Option Tree) → IsRuleBody r line subject old new body → IsReadBody subject line body
 body_read r None None old new body h = h.1
 body_read r None (Some sort) old new body h = h.1
 body_read r (Some l) None old new body h = h.1

@@ -26,9 +26,9 @@ use Rattle.sx_extension.specs.Grounds.{Ground, IsBefore}
 use Rattle.sx_extension.specs.declared.plain_body.PlainBody.{PlainBody}
 use Rattle.sx_extension.specs.PlainBodies.{body_data, IsBodyOf}
 use Rattle.sx_extension.specs.Readings.{with_own, tables, ArePlainsRead}
-use Rattle.sx_extension.specs.Stages.{IsPrepared, IsSetRefusal, IsNoTable, reader_of}
+use Rattle.sx_extension.specs.Stages.{IsPreparedExtension, IsSetRefusal, IsNoTable, reader_of}
 use Rattle.sx_extension.specs.Checks.{IsNotationRefusal, HaveRuleSet, HaveNoRuleSet, AreUnchecked}
-use Rattle.sx_extension.specs.ReadTexts.{texts_of, AreTextsOf}
+use Rattle.sx_extension.specs.ReadTexts.{read_texts, AreTextsOf}
 use Rattle.sx_extension.specs.TableRefusals.{HaveParts}
 use Rattle.sx_extension.proofs.Defining.{many_shapes}
 use Rattle.sx_extension.proofs.Grounding.{same_sorts}
@@ -39,7 +39,7 @@ pub shapes_go_on : (p : Parts) (own : List Line) → shapes_of (extended p own) 
 shapes_go_on p own =
     ap (map (shape_of p.sorts)) (map-append (numbered_line (names p)) p.productions own) ∙ map-append (shape_of p.sorts) (map (numbered_line (names p)) p.productions) (map (numbered_line (names p)) own)
 
-module _ (g : Ground) (before : IsBefore g) (bytes : Text) (x : Prepared) (h : IsPrepared g bytes x) (all : List Shape) (is : all ≡ shapes_of x.grammar.parts) where
+module _ (g : Ground) (before : IsBefore g) (bytes : Text) (x : Prepared) (h : IsPreparedExtension g bytes x) (all : List Shape) (is : all ≡ shapes_of x.grammar.parts) where
   parts_are : x.grammar.parts ≡ with_own g h.from.productions
   parts_are = h.readable.grammars.parts
 
@@ -53,20 +53,20 @@ module _ (g : Ground) (before : IsBefore g) (bytes : Text) (x : Prepared) (h : I
   few = omega (arith, many_shapes x.grammar.parts all is, h.can.few)
 
   module _ (t : ReadTexts) (read : AreTextsOf g x t) where
-    pub parts : HaveParts (map plain_data x.plains.items) (texts_of t).plains
-    parts = parts_read x.grammar.parts (tables (reader_of g x)) (map plain_data x.plains.items) (texts_of t).plains read.plains
+    pub parts : HaveParts (map plain_data x.plains.items) (read_texts t).plains
+    parts = parts_read x.grammar.parts (tables (reader_of g x)) (map plain_data x.plains.items) (read_texts t).plains read.plains
 
     pub shallow : (rs : List Rule) → rs ≡ t.rules.rules.items → RulesAreShallow (map rule rs)
     shallow rs same =
         subst (λ (ys : List Rule). RulesAreShallow (map rule ys)) (sym same)
         (subst RulesAreShallow (bare t.rules.rules.items)
-        (rules_shallow (reader_of g x) (map rule_data x.rules.items) (texts_of t).names (texts_of t).rules (texts_of t).bodies read.rules).0)
+        (rules_shallow (reader_of g x) (map rule_data x.rules.items) (read_texts t).names (read_texts t).rules (read_texts t).bodies read.rules).0)
       where
         bare : (xs : List Rule) → map (λ q. q.rule) (map named xs) ≡ map rule xs
         bare [] = refl
         bare (y ∷ ys) = ap (λ z. rule y ∷ z) (bare ys)
 
-    pub bodies : AllByRecursion (IsBodyOf all (length g.shapes)) (texts_of t).plains
+    pub bodies : AllByRecursion (IsBodyOf all (length g.shapes)) (read_texts t).plains
     bodies =
         let p = with_own g h.from.productions in
         let made = h.readable.grammars in
@@ -74,24 +74,24 @@ module _ (g : Ground) (before : IsBefore g) (bytes : Text) (x : Prepared) (h : I
         let r = tables (reader_of g x) in
         let are : AreStems p h.from.vars r.stems = subst (λ (y : Parts). AreStems y h.from.vars r.stems) parts_are h.readable.stems in
         let fit = h.named in
-        let lines = subst (λ (ls : List PlainData). ArePlainsRead x.grammar.parts r ls (texts_of t).plains) h.plains read.plains in
-        let here = subst (λ (y : Parts). ArePlainsRead y r h.from.plains (texts_of t).plains) parts_are lines in
-        let found = plain_bodies p made.lines made.is_grammar made.is_rule_grammar d g.grammar.parts.productions (same_sorts g before h.from.productions) refl r made.read_by are h.from.plains (texts_of t).plains fit here in
+        let lines = subst (λ (ls : List PlainData). ArePlainsRead x.grammar.parts r ls (read_texts t).plains) h.plains read.plains in
+        let here = subst (λ (y : Parts). ArePlainsRead y r h.from.plains (read_texts t).plains) parts_are lines in
+        let found = plain_bodies p made.lines made.is_grammar made.is_rule_grammar d g.grammar.parts.productions (same_sorts g before h.from.productions) refl r made.read_by are h.from.plains (read_texts t).plains fit here in
         let shapes : shapes_of p ≡ all = ap shapes_of (sym parts_are) ∙ sym is in
         let many : length g.grammar.parts.productions ≡ length g.shapes = sym (many_shapes g.grammar.parts g.shapes before.shapes) in
-        subst (λ (ss : List Shape). AllByRecursion (IsBodyOf ss (length g.shapes)) (texts_of t).plains) shapes
-        (subst (λ (n : ℕ). AllByRecursion (IsBodyOf (shapes_of p) n) (texts_of t).plains) many found)
+        subst (λ (ss : List Shape). AllByRecursion (IsBodyOf ss (length g.shapes)) (read_texts t).plains) shapes
+        (subst (λ (n : ℕ). AllByRecursion (IsBodyOf (shapes_of p) n) (read_texts t).plains) many found)
 
 -- ---- what is answered
 
 module _ (g : Ground) (before : IsBefore g) (x : Prepared) (t : ReadTexts) (all : List Shape) (is : all ≡ shapes_of x.grammar.parts) where
-  pub has_set : IsRuleSet all g.rule_forms (g.rules ++ (texts_of t).rules) → HaveRuleSet g x t
+  pub has_set : IsRuleSet all g.rule_forms (g.rules ++ (read_texts t).rules) → HaveRuleSet g x t
   has_set h =
-      subst (λ (fs : List FormData). IsRuleSet (shapes_of x.grammar.parts) fs (g.rules ++ (texts_of t).rules)) before.rule_forms
-      (subst (λ (ss : List Shape). IsRuleSet ss g.rule_forms (g.rules ++ (texts_of t).rules)) is h)
+      subst (λ (fs : List FormData). IsRuleSet (shapes_of x.grammar.parts) fs (g.rules ++ (read_texts t).rules)) before.rule_forms
+      (subst (λ (ss : List Shape). IsRuleSet ss g.rule_forms (g.rules ++ (read_texts t).rules)) is h)
 
   abbrev Refuses : List Shape → List FormData → List RuleLines → NotationError → Type 0
-  Refuses ss fs ls e = IsSetRefusal ss fs (g.rules ++ (texts_of t).rules) (map (λ l. l.name) ls) (texts_of t).names e
+  Refuses ss fs ls e = IsSetRefusal ss fs (g.rules ++ (read_texts t).rules) (map (λ l. l.name) ls) (read_texts t).names e
 
   told : (e : NotationError) (y : ExtensionError) → Refuses (shapes_of x.grammar.parts) g.forms x.rules.items e → IsNotationRefusal e y → HaveNoRuleSet g x t y
   told notation.Memory y h same = subst (HaveNoRuleSet g x t) (sym same) tt

@@ -11,7 +11,8 @@ use Rattle.sx_grammar.specs.Parts.{Parts, names, numbered, numbered_line}
 use Rattle.sx_grammar.specs.Told.{shape_of, shapes_of}
 use Rattle.sx_plain.specs.declared.plain_error.PlainError.{PlainError}
 use Rattle.sx_plain.specs.declared.plain_error.PlainError.TheVariants as plain
-use Rattle.sx_plain.specs.Adds.{uncovered, or_else, first_uncovered, first_uncovered_of, IsAdded}
+use Rattle.sx_plain.specs.Adds.{uncovered, or_else, first_uncovered, first_uncovered_of}
+use Rattle.sx_plain.specs.Adds.{IsBodyAdded}
 use Rattle.sx_plain.specs.Plain.{Body, Table}
 use Rattle.sx_outline.specs.Stages.{PlainData}
 use Rattle.sx_extension.specs.declared.table_error.TableError.{TableError}
@@ -55,7 +56,7 @@ module _ (shapes : List Shape) (vars : List Sort) (base : ℕ) (table : Table) (
         by (Some n) u k first rest = first (u ∙ k)
 
 module _ (all : List Shape) (first base : ℕ) (p : Parts) (many : length all ≡ length p.productions) where
-  named_one : (old : Table) (l : PlainData) (b : BodyData) (e : PlainError) → IsBodyOf all first b → b.parts ≡ length l.names → IsAdded base old old b.label b.parts b.term (Err e) → CanName p l e
+  named_one : (old : Table) (l : PlainData) (b : BodyData) (e : PlainError) → IsBodyOf all first b → b.parts ≡ length l.names → IsBodyAdded base old old b.label b.parts b.term (Err e) → CanName p l e
   named_one old l b plain.Memory is parts h = tt
   named_one old l b (plain.Twice n) is parts h = tt
   named_one old l b (plain.UsesLater n) is parts h = subst (λ (k : ℕ). n < k) many (label_below all is.shape.kids base old n b.term is.shape.sort is.sorted h.1)

@@ -26,7 +26,7 @@ use Rattle.sx_rewrite.specs.Stored.{signature_of}
 use Rattle.sx_notation.specs.Language.{FormFits}
 use Rattle.sx_notation.specs.RuleParts.{rule_parts}
 use Rattle.sx_notation.specs.RuleLaws.{form_of, HaveSortsOf}
-use Rattle.sx_language.specs.RuleLine.{Reader, CanRead}
+use Rattle.sx_language.specs.RuleLine.{Reader, CanReadRules}
 use Rattle.sx_language.specs.RuleTexts.{IsRule, AreRules}
 use Rattle.sx_language.specs.States.{AreStems}
 use Rattle.sx_language.proofs.SortedReads.{bodies_are_sorted}
@@ -87,7 +87,7 @@ no_own shapes first (Some sort) (Some line) t h o = h o
 
 module _ (p : Parts) (fs : List FormLine) (is : IsGrammar p)
     (rule_is : IsGrammar (rule_parts p fs)) (vars : List VarLine) (r : Reader)
-    (by : r.parts ≡ rule_parts p fs) (are : AreStems p vars r.stems) (can : CanRead r)
+    (by : r.parts ≡ rule_parts p fs) (are : AreStems p vars r.stems) (can : CanReadRules r)
     (forms_are : r.forms ≡ map (form_of p) fs) (known : HaveSortsOf p fs)
     (fit : AllByRecursion FormFits r.forms)
     (base : List Shape) (first : ℕ) (low : length base ≤ first) (table : Table)

@@ -22,7 +22,7 @@ use Rattle.sx_directives.specs.declared.spelled.FormSymbol.TheVariants.{Lit, Pla
 use Rattle.sx_directives.specs.declared.rows.FormLine.{FormLine}
 use Rattle.sx_notation.specs.Language.{sort_when, sorts_with, FormFits}
 use Rattle.sx_notation.specs.RuleParts.{rule_parts}
-use Rattle.sx_notation.specs.RuleLaws.{sort_of, places_of, form_of, IsSortOf, HasSortOf}
+use Rattle.sx_notation.specs.RuleLaws.{spelled_sort, places_of, form_of, IsSpelledSort, HasSortOf}
 use Rattle.sx_notation.specs.RuleLaws.{HaveSortsOf}
 use Rattle.sx_language.specs.RuleLine.{subject_sort}
 use Rattle.sx_extension.proofs.OwnShapes.{IsBelow, sort_below}
@@ -104,8 +104,8 @@ module _ (p : Parts) (fs : List FormLine) (is : IsGrammar p)
   abbrev Low : PlaceOf → Type 0
   Low place = IsBelow (length p.sorts) place.sort
 
-  spelled_below : (spelled : SpelledSort) → IsSortOf p spelled →
-      IsBelow (length p.sorts) (sort_of p spelled)
+  spelled_below : (spelled : SpelledSort) → IsSpelledSort p spelled →
+      IsBelow (length p.sorts) (spelled_sort p spelled)
   spelled_below (Lex kind) has = tt
   spelled_below (Named name least) has =
       let n = number_of (names p) name in

@@ -17,13 +17,13 @@ use Rattle.sx_outline.specs.ExtensionOutlined.{ExtensionOutlineData}
 use Rattle.sx_outline.specs.Sized.{HasShortLines}
 use Rattle.sx_outline.specs.Stages.{rule_data}
 use Rattle.sx_rewrite.specs.declared.ext_rule.ExtRule.{ExtRule}
-use Rattle.sx_rewrite.specs.Extensions.{BodiesFit, Fits}
+use Rattle.sx_rewrite.specs.Extensions.{BodiesFit, FitsRules}
 use Rattle.sx_rewrite.specs.ExtensionView.{ext_rule, named_rules}
 use Rattle.sx_rewrite.specs.Stored.{signature_of}
 use Rattle.sx_notation.specs.Language.{FormFits}
 use Rattle.sx_notation.specs.RuleLaws.{form_of, HaveSortsOf}
 use Rattle.sx_notation.specs.RuleParts.{rule_parts}
-use Rattle.sx_language.specs.RuleLine.{Reader, CanRead}
+use Rattle.sx_language.specs.RuleLine.{Reader, CanReadRules}
 use Rattle.sx_language.specs.RuleTexts.{AreRules}
 use Rattle.sx_language.specs.States.{AreStems}
 use Rattle.sx_extension.specs.declared.prepared.Prepared.{Prepared}
@@ -32,8 +32,8 @@ use Rattle.sx_extension.specs.Bodies.{AreBodied}
 use Rattle.sx_extension.specs.Fitting.{FitsAfter}
 use Rattle.sx_extension.specs.Grounds.{Ground, IsBefore}
 use Rattle.sx_extension.specs.Readings.{with_own}
-use Rattle.sx_extension.specs.Stages.{HasFewProductions, IsPrepared}
-use Rattle.sx_extension.specs.States.{States}
+use Rattle.sx_extension.specs.Stages.{HasFewProductions, IsPreparedExtension}
+use Rattle.sx_extension.specs.States.{IsExtensionIn}
 use Rattle.sx_extension.proofs.Checking.{shapes_go_on}
 use Rattle.sx_extension.proofs.Defining.{many_shapes}
 use Rattle.sx_extension.proofs.FitBodies.{bodies_fit}
@@ -49,7 +49,7 @@ short_lines [] h = tt
 short_lines (l ∷ ls) h = (h.0, short_lines ls h.1)
 
 module _ (g : Ground) (before : IsBefore g) (bytes : Text) (x : ReadExtension)
-    (s : States g bytes x) where
+    (s : IsExtensionIn g bytes x) where
   abbrev own : List Line
   own = s.outline.productions
 
@@ -93,7 +93,7 @@ module _ (g : Ground) (before : IsBefore g) (bytes : Text) (x : ReadExtension)
   read_by : r.parts ≡ rule_parts p s.read.readable.grammars.lines
   read_by = s.read.readable.read_by ∙ s.read.readable.grammars.read_by
 
-  can : CanRead r
+  can : CanReadRules r
   can =
       let made = s.read.readable.grammars in
       reads g before own made.lines made.has_forms made.is_grammar s.outline.vars r stems read_by
@@ -143,7 +143,7 @@ module _ (g : Ground) (before : IsBefore g) (bytes : Text) (x : ReadExtension)
         es s.outline.rules s.texts.names rules_are bodied)
 
     fits : ((label : ℕ) → label < length g.shapes → g.table label ≡ table label) →
-        Fits (signature_of g.forms) (shapes_of g.language) g.shapes (shapes_of p) g.table table
+        FitsRules (signature_of g.forms) (shapes_of g.language) g.shapes (shapes_of p) g.table table
         (map ext_rule es)
     fits keeps =
         let all = own_disciplined (shapes_of p) g.forms g.rules es rule_set in
@@ -175,7 +175,7 @@ module _ (g : Ground) (before : IsBefore g) (bytes : Text) (x : ReadExtension)
             named_rules x.extension)) (sym made.parts) rule_set;
         usable = usable r s.outline.rules s.texts.names x.extension rules_are short;
         labels = s.table.0;
-        fits = subst (λ (y : Parts). Fits (signature_of g.forms) (shapes_of g.language) g.shapes
+        fits = subst (λ (y : Parts). FitsRules (signature_of g.forms) (shapes_of g.language) g.shapes
             (shapes_of y) g.table table (map ext_rule es)) (sym made.parts) (fits here keeps);
         lexemes = has_lexemes g.language p kept made.lines r read_by x.extension g.table
             s.outline.rules s.texts.names rules_are p s.outline.plains s.texts.plains
@@ -191,7 +191,7 @@ module _ (g : Ground) (before : IsBefore g) (bytes : Text) (x : ReadExtension)
       }
 
   -- so it does where its outline is that of what was prepared
-  pub prepared_fits : (y : Prepared) (h : IsPrepared g bytes y) → s.outline ≡ h.from →
+  pub prepared_fits : (y : Prepared) (h : IsPreparedExtension g bytes y) → s.outline ≡ h.from →
       Desugars (shapes_of g.language) (shapes_of x.grammar.parts) table →
       ((label : ℕ) → label < length g.shapes → g.table label ≡ table label) → FitsAfter g x
   prepared_fits y h same desugars keeps =

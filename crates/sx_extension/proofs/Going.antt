@@ -16,7 +16,7 @@ use Rattle.sx_directives.specs.declared.rows.FormLine.{FormLine}
 use Rattle.sx_directives.specs.declared.spelled.SpelledSort.TheVariants.{Lex, Named}
 use Rattle.sx_directives.specs.declared.spelled.FormSymbol.{FormSymbol}
 use Rattle.sx_directives.specs.declared.spelled.FormSymbol.TheVariants.{Lit, Place}
-use Rattle.sx_outline.specs.Declarations.{form}
+use Rattle.sx_outline.specs.Declarations.{declared_form}
 use Rattle.sx_outline.specs.Outlined.{outline}
 use Rattle.sx_outline.specs.Sized.{IsSized}
 use Rattle.sx_outline.proofs.FitLaws.{sized_answer}
@@ -24,12 +24,12 @@ use Rattle.sx_notation.specs.declared.language.Language.{Language}
 use Rattle.sx_notation.specs.RuleParts.{judgement_sort, symbol_for, form_line, apart_lines}
 use Rattle.sx_notation.specs.RuleParts.{rule_parts}
 use Rattle.sx_notation.specs.Language.{IsLanguage}
-use Rattle.sx_language.specs.States.{AreStems, States as StatesLanguage}
+use Rattle.sx_language.specs.States.{AreStems, IsLanguageIn as StatesLanguage}
 use Rattle.sx_extension.specs.declared.extension.ReadExtension.{ReadExtension}
 use Rattle.sx_extension.specs.Fitting.{FitsAfter}
 use Rattle.sx_extension.specs.Grounds.{Ground, HasRoomFor, IsBefore}
 use Rattle.sx_extension.specs.Readings.{AreGrammars}
-use Rattle.sx_extension.specs.States.{States}
+use Rattle.sx_extension.specs.States.{IsExtensionIn}
 use Rattle.sx_extension.specs.Laws.{SameExtension, first_ground, next_ground, LanguagesBegin}
 use Rattle.sx_extension.specs.Laws.{ExtensionsGoOn}
 
@@ -49,7 +49,7 @@ abbrev bracket_texts : Parts → List Text
 bracket_texts p = flat_map (λ s. bracket_literals s.brackets) p.sorts
 
 few_in_forms : (fs : List FormLine) → length (texts_in (map form_line fs)) ≤ length
-    (flat_map (λ f. f.symbols) (map form fs))
+    (flat_map (λ f. f.symbols) (map declared_form fs))
 few_in_forms [] = omega arith
 few_in_forms (f ∷ fs) = omega (
   arith,
@@ -57,7 +57,7 @@ few_in_forms (f ∷ fs) = omega (
   few_in_forms fs,
   length-append (flat_map symbol_literals (map symbol_for f.symbols.items))
       (texts_in (map form_line fs)),
-  length-append f.symbols.items (flat_map (λ g. g.symbols) (map form fs)),
+  length-append f.symbols.items (flat_map (λ g. g.symbols) (map declared_form fs)),
 )
 
 module _ (p : Parts) (fs : List FormLine) where
@@ -82,7 +82,7 @@ module _ (p : Parts) (fs : List FormLine) where
       apart_lines
 
   literals_few : length (literals (rule_parts p fs)) ≤ length (literals p) +
-      (length (flat_map (λ f. f.symbols) (map form fs)) + 3)
+      (length (flat_map (λ f. f.symbols) (map declared_form fs)) + 3)
   literals_few =
       let q = rule_parts p fs in
       let brackets : length (bracket_texts q) ≡ length (bracket_texts p) + 0 =
@@ -100,7 +100,7 @@ module _ (p : Parts) (fs : List FormLine) where
       let base : length (literals p) ≡ length (bracket_texts p) + length (texts_in p.productions) =
       length-append (bracket_texts p) (texts_in p.productions) in
       let forms : length (texts_in (map form_line fs)) ≤ length
-      (flat_map (λ f. f.symbols) (map form fs)) = few_in_forms fs in
+      (flat_map (λ f. f.symbols) (map declared_form fs)) = few_in_forms fs in
       omega (arith, brackets, lines, all, base, forms)
 
 -- ---- the first extension of a language
@@ -138,7 +138,7 @@ module _ (name bytes : Text) (l : Language) (s : StatesLanguage name bytes l) wh
           low,
           few,
           sized.many,
-          length-map fs form,
+          length-map fs declared_form,
           productions_many
               its_parts fs,
           ap (λ (y : Parts). length y.productions) rule_parts_are,
@@ -148,7 +148,7 @@ module _ (name bytes : Text) (l : Language) (s : StatesLanguage name bytes l) wh
           low,
           few,
           sized.many,
-          length-map fs form,
+          length-map fs declared_form,
           literals_few its_parts
               fs,
           ap (λ (y : Parts). length (literals y)) rule_parts_are,
@@ -194,7 +194,7 @@ module _ (g : Ground) (x : ReadExtension) (fits : FitsAfter g x) where
     literals = omega (arith, low, fits.literals, room.literals);
   }
 
-  module _ (bytes : Text) (is : IsBefore g) (s : States g bytes x) where
+  module _ (bytes : Text) (is : IsBefore g) (s : IsExtensionIn g bytes x) where
     abbrev made : AreGrammars g s.outline.productions x.grammar x.rule_grammar
     made = s.read.readable.grammars
 

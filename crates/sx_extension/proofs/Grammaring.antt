@@ -5,8 +5,8 @@ use Rattle.std.proofs.lemmas.List.{length-map}
 use Rattle.sx_grammar.specs.declared.grammar_error.GrammarError.{GrammarError}
 use Rattle.sx_grammar.specs.declared.grammar_error.GrammarError.TheVariants as grammar
 use Rattle.sx_grammar.specs.Parts.{Line, Parts}
-use Rattle.sx_grammar.specs.Tables.{GrammarData, IsWithinLimits, IsMade}
-use Rattle.sx_grammar.specs.Made.{IsRefused as IsNotMade}
+use Rattle.sx_grammar.specs.Tables.{GrammarData, IsWithinLimits, IsGrammarMade}
+use Rattle.sx_grammar.specs.Made.{IsGrammarRefused as IsNotMade}
 use Rattle.sx_grammar.specs.Extended.{IsExtended}
 use Rattle.sx_directives.specs.declared.rows.FormLine.{FormLine}
 use Rattle.sx_notation.specs.declared.notation_error.NotationError.{NotationError}
@@ -51,10 +51,10 @@ module _ (g : Ground) (own : List Line) where
     )
 
     abbrev Answers : Result GrammarData GrammarError → Type 0
-    Answers result = (lines : List FormLine) (p : Parts) → g.by_rules ≡ rule_parts p lines → length lines ≡ forms → IsMade (rule_parts made.parts lines) result
+    Answers result = (lines : List FormLine) (p : Parts) → g.by_rules ≡ rule_parts p lines → length lines ≡ forms → IsGrammarMade (rule_parts made.parts lines) result
 
-    answered : (result : Result GrammarData GrammarError) → Answers result → IsMade (rule_parts (with_own g own) before.lines) result
-    answered result h = subst (λ (y : Parts). IsMade (rule_parts y before.lines) result) parts_are (h before.lines g.grammar.parts before.forms.read_by as_many)
+    answered : (result : Result GrammarData GrammarError) → Answers result → IsGrammarMade (rule_parts (with_own g own) before.lines) result
+    answered result h = subst (λ (y : Parts). IsGrammarMade (rule_parts y before.lines) result) parts_are (h before.lines g.grammar.parts before.forms.read_by as_many)
 
     pub grammars_are : (rule : GrammarData) → Answers (Ok rule) → AreGrammars g own made rule
     grammars_are rule h =

@@ -9,7 +9,7 @@ use Rattle.sx_term.specs.declared.sort.Sort.TheVariants as TheSort
 use Rattle.sx_grammar.specs.Grammar.{Text}
 use Rattle.sx_grammar.specs.Parts.{Line, Parts, names, number_of, numbered_line, symbol_sorts}
 use Rattle.sx_grammar.specs.Made.{IsGrammar}
-use Rattle.sx_grammar.specs.Told.{is_typed, sort_with, IsSortOf}
+use Rattle.sx_grammar.specs.Told.{is_typed, sort_with, IsSortOfLabel}
 use Rattle.sx_grammar.proofs.Finding.{at_contains, is_head, in_flat_map, mapped_at, named_at}
 use Rattle.sx_earley.specs.Completed.{IsSort}
 use Rattle.sx_earley.specs.Tokens.{Stems}
@@ -23,7 +23,7 @@ use Rattle.sx_notation.specs.RuleParts.{judgement_sort, rule_parts}
 use Rattle.sx_notation.specs.RuleLaws.{places_of, form_of, HasSortOf, HaveSortsOf}
 use Rattle.sx_notation.specs.Language.{FormFits}
 use Rattle.sx_notation.proofs.Growing.{got_before}
-use Rattle.sx_language.specs.RuleLine.{Reader, CanRead}
+use Rattle.sx_language.specs.RuleLine.{Reader, CanReadRules}
 use Rattle.sx_language.specs.States.{IsNameOfSort, IsSortNamed, AreStems}
 use Rattle.sx_language.proofs.Judgements.{can_read}
 use Rattle.sx_language.proofs.FitForms.{subjects_read}
@@ -86,7 +86,7 @@ all_append P (x ∷ xs) ys h k = (h.0, all_append P xs ys h.1 k)
 -- ---- the sorts of productions
 
 -- the sort of a production of a grammar is one of the grammar of rules
-pub sort_read : (p : Parts) (fs : List FormLine) → IsGrammar p → (number : ℕ) (s : Sort) → IsSortOf p number s → IsSort (rule_parts p fs) s
+pub sort_read : (p : Parts) (fs : List FormLine) → IsGrammar p → (number : ℕ) (s : Sort) → IsSortOfLabel p number s → IsSort (rule_parts p fs) s
 sort_read p fs is number s h =
     let line = mapped_at (numbered_line (names p)) p.productions number h.0 h.1 in
     let has = at_contains p.productions number line.0 line.1 in
@@ -115,7 +115,7 @@ module _ (g : Ground) (before : IsBefore g) (own : List Line) where
 
   -- lines of rules are read by the grammar of rules, whatever form lines it is told by
   pub reads : (lines : List FormLine) → HasForms g lines → IsGrammar (with_own g own) → (vs : List VarLine) (r : Reader) → AreStems (with_own g own) vs r.stems →
-      r.parts ≡ rule_parts (with_own g own) lines → r.forms ≡ g.forms → CanRead r
+      r.parts ≡ rule_parts (with_own g own) lines → r.forms ≡ g.forms → CanReadRules r
   reads lines has is vs r stems parts forms =
       let p = with_own g own in
       let stated : r.forms ≡ map (form_of p) lines = forms ∙ has.forms ∙ forms_kept g.language p (sym same_sorts) lines in

@@ -6,14 +6,14 @@ use Rattle.sx_term.specs.Cutting.{AreDistinct as AreOnce}
 use Rattle.sx_term.specs.Vars.{IsAdded}
 use Rattle.sx_grammar.specs.Grammar.{Text}
 use Rattle.sx_grammar.proofs.Finding.{at_contains}
-use Rattle.sx_outline.specs.Fitting.{AreDistinct}
+use Rattle.sx_lines.specs.Distinct.{AreTextsDistinct}
 use Rattle.sx_notation.proofs.Copied.{copied_more}
 
 some_head : {X : Type 0} (x y : X) → Some x ≡ Some y → x ≡ y
 some_head x y e = cc
 
 -- texts of which none stands twice stand at one place each
-pub once : (ns : List Text) → AreDistinct ns → AreOnce ns
+pub once : (ns : List Text) → AreTextsDistinct ns → AreOnce ns
 once [] h i j t e k = absurd (none-some t e)
 once (n ∷ ns) h zero zero t e k = refl
 once (n ∷ ns) h zero (suc j) t e k = absurd (h.0 (subst (λ (x : Text). Contains ns x) (sym (some_head n t e)) (at_contains ns j t k)))

@@ -14,9 +14,9 @@ use Rattle.sx_grammar.specs.Parts.{Parts, numbered}
 use Rattle.sx_grammar.specs.Print.{term_of}
 use Rattle.sx_grammar.specs.Reading.{Reading}
 use Rattle.sx_grammar.specs.ReadOne.{IsAnswer, only}
-use Rattle.sx_earley.specs.Completed.{number_of}
+use Rattle.sx_earley.specs.Completed.{sort_number}
 use Rattle.sx_earley.specs.Tokens.{Stems, plain_tokens}
-use Rattle.sx_earley.specs.Unknown.{HasStem, IsUnknown}
+use Rattle.sx_earley.specs.Unknown.{HasStem, IsUnknownStem}
 use Rattle.sx_outline.proofs.WeightLaws.{all_in}
 use Rattle.sx_notation.specs.declared.notation_error.NotationError.{NotationError}
 use Rattle.sx_notation.specs.declared.notation_error.NotationError.TheVariants.{Memory, NotUtf8}
@@ -44,14 +44,14 @@ module _ (p : Parts) (stems : Stems) (line : Text) (names : List Text) where
       has : Contains ts h.1
       has = subst (λ (us : List Token). Contains us h.1) (one_cut p line h.0 ts h.2 k.0.0) h.3
 
-      by : IsUnknown stems h.1 ⊎ IsUnnamed names h.1 → ⊥
+      by : IsUnknownStem stems h.1 ⊎ IsUnnamed names h.1 → ⊥
       by (inl unknown) = false≢true (sym (ap is_some unknown.1) ∙ all_in (HasStem stems) ts h.1
           k.0.1 has unknown.0)
       by (inr unnamed) = unnamed.1 (all_in (IsNamed names) ts h.1 k.1 has unnamed.0)
 
 module _ (p : Parts) (stems : Stems) (sort : Sort) (line : Text) (names : List Text) where
   abbrev Answers : List Token → Reading → Type 0
-  Answers ts r = IsAnswer (numbered p) (plain_tokens stems ts) (number_of sort) (only r)
+  Answers ts r = IsAnswer (numbered p) (plain_tokens stems ts) (sort_number sort) (only r)
 
   pub among_one : (t u : Tree) → IsReadAmong p stems sort line names t →
       IsReadAmong p stems sort line names u → t ≡ u

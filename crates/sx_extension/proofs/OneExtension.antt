@@ -29,9 +29,10 @@ use Rattle.sx_extension.specs.declared.extension.ReadExtension.{ReadExtension}
 use Rattle.sx_extension.specs.Grounds.{Ground}
 use Rattle.sx_extension.specs.Readings.{HasOutline, HasNoOutline, with_own}
 use Rattle.sx_extension.specs.Readings.{IsReadable, Texts}
-use Rattle.sx_extension.specs.States.{HasRuleSet, HasTable, States, HasBadText, HasNoGrammars}
+use Rattle.sx_extension.specs.States.{HasRuleSet, HasTable, IsExtensionIn, HasBadText}
+use Rattle.sx_extension.specs.States.{HasNoGrammars}
 use Rattle.sx_extension.specs.States.{HasTexts, HasNoRuleSet, HasNoTable, HasBodyDefect}
-use Rattle.sx_extension.specs.States.{IsBadNotation, IsRefused}
+use Rattle.sx_extension.specs.States.{IsBadNotation, IsExtensionTextRefused}
 use Rattle.sx_extension.specs.Alike.{TextsHaveThree, ExtensionHasThree, ShowOtherReadings}
 use Rattle.sx_extension.specs.Laws.{SameExtension, OneExtension}
 use Rattle.sx_extension.proofs.OneDefect.{table_refusal_one, table_or_refusal, bad_body_one}
@@ -211,7 +212,7 @@ module _ (g : Ground) (bytes : Text) where
   by_notation (notation.Rules x unbound) h = by_rules x unbound h
 
   -- memory is lacking, or the refusal is due
-  memory_or_due : (e : ExtensionError) → IsRefused g bytes e → (e ≡ Memory) ⊎ IsDue e
+  memory_or_due : (e : ExtensionError) → IsExtensionTextRefused g bytes e → (e ≡ Memory) ⊎ IsDue e
   memory_or_due Memory h = inl refl
   memory_or_due (Notation x) h = inr (by_notation x h)
   memory_or_due (Plain label x) h = inr (by_table (Plain label x) (λ e. cc) h)
@@ -220,7 +221,7 @@ module _ (g : Ground) (bytes : Text) where
   memory_or_due (BodySort rule) h = inr (by_bodies (BodySort rule) (λ e. cc) h)
   memory_or_due (BodyExtended rule) h = inr (by_bodies (BodyExtended rule) (λ e. cc) h)
 
-  due : (e : ExtensionError) → e ≢ Memory → IsRefused g bytes e → IsDue e
+  due : (e : ExtensionError) → e ≢ Memory → IsExtensionTextRefused g bytes e → IsDue e
   due e n h = by (memory_or_due e h)
     where
       by : (e ≡ Memory) ⊎ IsDue e → IsDue e
@@ -329,10 +330,10 @@ module _ (g : Ground) (bytes : Text) where
   -- ---- extensions
 
   -- the outline and the texts of an extension
-  texts_of : (x : ReadExtension) (s : States g bytes x) → HasTexts g bytes s.outline s.texts
+  texts_of : (x : ReadExtension) (s : IsExtensionIn g bytes x) → HasTexts g bytes s.outline s.texts
   texts_of x s = record { grammar = x.grammar; by_rules = x.rule_grammar; read = s.read }
 
-  none_due : (x : ReadExtension) → States g bytes x → (e : ExtensionError) → IsDue e → ⊥
+  none_due : (x : ReadExtension) → IsExtensionIn g bytes x → (e : ExtensionError) → IsDue e → ⊥
   none_due x s =
       let read = texts_of x s in
       step_none ByLines IsOutlined AfterLines not_lines (outlined_by s.outline s.texts read)
@@ -356,12 +357,12 @@ module _ (g : Ground) (bytes : Text) where
           s.outline.rules s.texts.rules s.texts.bodies e s.bodied
           (bad_body_there g bytes e h.1 s.outline s.texts (texts_of x s))
 
-  memory_alone : (x : ReadExtension) (e : ExtensionError) → States g bytes x →
+  memory_alone : (x : ReadExtension) (e : ExtensionError) → IsExtensionIn g bytes x →
       (e ≡ Memory) ⊎ IsDue e → e ≡ Memory
   memory_alone x e s (inl h) = h
   memory_alone x e s (inr h) = absurd (none_due x s e h)
 
-  found : (x y : ReadExtension) → States g bytes x → States g bytes y → SameExtension x y
+  found : (x y : ReadExtension) → IsExtensionIn g bytes x → IsExtensionIn g bytes y → SameExtension x y
   found x y s t = record {
     grammar = readable_grammar g bytes s.outline t.outline x.grammar x.rule_grammar y.grammar
         y.rule_grammar s.read.reader t.read.reader s.read.readable t.read.readable;

@@ -6,7 +6,7 @@ use Rattle.sx_term.specs.declared.sort.Sort.{Sort}
 use Rattle.sx_grammar.specs.Grammar.{Text, Production}
 use Rattle.sx_grammar.specs.Parts.{Parts}
 use Rattle.sx_grammar.specs.Made.{IsGrammar}
-use Rattle.sx_grammar.specs.Told.{sort_with, IsSortOf}
+use Rattle.sx_grammar.specs.Told.{sort_with, IsSortOfLabel}
 use Rattle.sx_grammar.proofs.Finding.{is_head, past_head}
 use Rattle.sx_outline.specs.Stages.{PlainData}
 use Rattle.sx_notation.specs.declared.notation_error.NotationError.{NotationError}
@@ -28,13 +28,13 @@ module _ (p : Parts) (is : IsGrammar p) (r : ReaderData) where
       IsProduction p label m q → n ≡ m
   number_one label n m s q h k = is.0.0.0.1 n m label h.0 k.0
 
-  sort_at : (n : ℕ) (s q : Sort) → IsSortOf p n s → IsSortOf p n q → s ≡ q
+  sort_at : (n : ℕ) (s q : Sort) → IsSortOfLabel p n s → IsSortOfLabel p n q → s ≡ q
   sort_at n s q h k = h.2 ∙ ap (λ (x : Production). sort_with p.sorts x.sort)
       (same_some h.0 k.0 (sym h.1 ∙ k.1)) ∙ sym k.2
 
   sort_one : (label : Text) (n m : ℕ) (s q : Sort) → IsProduction p label n s →
       IsProduction p label m q → s ≡ q
-  sort_one label n m s q h k = sort_at m s q (subst (λ (x : ℕ). IsSortOf p x s)
+  sort_one label n m s q h k = sort_at m s q (subst (λ (x : ℕ). IsSortOfLabel p x s)
       (number_one label n m s q h k) h.1) k.1
 
   plain_one : (l : PlainData) (b c : BodyData) → IsPlainRead p r l b → IsPlainRead p r l c → b ≡ c

@@ -8,7 +8,7 @@ use Rattle.sx_grammar.specs.Tables.{GrammarData}
 use Rattle.sx_grammar.specs.Told.{shapes_of}
 use Rattle.sx_rules.specs.declared.error.RuleError.{RuleError}
 use Rattle.sx_rules.specs.declared.error.RuleError.TheVariants as rules
-use Rattle.sx_rules.specs.Good.{IsRefused as IsNoRuleSet}
+use Rattle.sx_rules.specs.Good.{IsRuleSetRefused as IsNoRuleSet}
 use Rattle.sx_outline.specs.ExtensionOutlined.{ExtensionOutlineData}
 use Rattle.sx_notation.specs.declared.notation_error.NotationError.{NotationError}
 use Rattle.sx_language.specs.RuleLine.{Reader}

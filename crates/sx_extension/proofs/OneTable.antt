@@ -9,7 +9,7 @@ use Rattle.sx_plain.specs.declared.plain_error.PlainError.{PlainError}
 use Rattle.sx_plain.specs.declared.plain_error.PlainError.TheVariants as plain
 use Rattle.sx_plain.specs.declared.table.PlainTable.{PlainTable}
 use Rattle.sx_plain.specs.Plain.{Body, Table, image}
-use Rattle.sx_plain.specs.Adds.{first_uncovered, IsFirstDropped, UsesAll, IsAdded}
+use Rattle.sx_plain.specs.Adds.{first_uncovered, IsFirstDropped, UsesAll, IsBodyAdded}
 use Rattle.sx_plain.specs.Views.{table_of}
 use Rattle.sx_language.proofs.Stepwise.{AreAlike, Step, step_alike, step_none}
 use Rattle.sx_extension.specs.declared.table_error.TableError.{TableError}
@@ -56,7 +56,7 @@ module _ (base : ℕ) (old : Table) (label arity : ℕ) (body : Tree) where
   abbrev IsDue : PlainError → Type 0
   IsDue = Step ByTwice (old label ≡ None) AfterTwice
 
-  due : (e : PlainError) → IsReason e → IsAdded base old old label arity body (Err e) → IsDue e
+  due : (e : PlainError) → IsReason e → IsBodyAdded base old old label arity body (Err e) → IsDue e
   due plain.Memory n h = absurd n
   due (plain.Twice l) n h = inl (ap plain.Twice h.0, h.1)
   due (plain.UsesLater l) n h = inr (h.0, inl (l, refl, h.1))
@@ -112,14 +112,14 @@ module _ (base : ℕ) (old : Table) (label arity : ℕ) (body : Tree) where
       (λ e d h k. h.0 ∙ sym k.0) use_one
 
   refused_one : (e d : PlainError) → IsReason e → IsReason d →
-      IsAdded base old old label arity body (Err e) →
-      IsAdded base old old label arity body (Err d) → e ≡ d
+      IsBodyAdded base old old label arity body (Err e) →
+      IsBodyAdded base old old label arity body (Err d) → e ≡ d
   refused_one e d n m h k = due_one e d (due e n h) (due d m k)
 
   -- a body that is added is not refused
   added_or_refused : (new : Table) (e : PlainError) → IsReason e →
-      IsAdded base old new label arity body (Ok tt) →
-      IsAdded base old old label arity body (Err e) → ⊥
+      IsBodyAdded base old new label arity body (Ok tt) →
+      IsBodyAdded base old old label arity body (Err e) → ⊥
   added_or_refused new e n h k =
       step_none ByTwice (old label ≡ None) AfterTwice not_twice h.0
       (step_none ByUse (first_uncovered base old body ≡ None) AfterUse not_use h.1
@@ -127,8 +127,8 @@ module _ (base : ℕ) (old : Table) (label arity : ℕ) (body : Tree) where
       (step_none ByDepth (depth_of (image old body) ≤ 1000) BySize not_depth h.3
       (λ x b. not_size x b h.4)))) e (due e n k)
 
-  added_one : (m n : Table) → IsAdded base old m label arity body (Ok tt) →
-      IsAdded base old n label arity body (Ok tt) → m ≡ n
+  added_one : (m n : Table) → IsBodyAdded base old m label arity body (Ok tt) →
+      IsBodyAdded base old n label arity body (Ok tt) → m ≡ n
   added_one m n h k = λ i other. (h.5 other ∙ sym (k.5 other)) i
 
 -- ---- all bodies

@@ -22,7 +22,8 @@ use Rattle.sx_outline.specs.declared.rule_lines.RuleLines.{RuleLines}
 use Rattle.sx_outline.specs.Fitting.{ArePartNames}
 use Rattle.sx_outline.specs.Sized.{HasShortLines}
 use Rattle.sx_outline.specs.Stages.{Numbered, PlainData, rule_data}
-use Rattle.sx_outline.specs.ExtensionOutlined.{ExtensionOutlineData, extension_outline, extension_declares, IsExtensionOutlined}
+use Rattle.sx_outline.specs.ExtensionOutlined.{ExtensionOutlineData, extension_outline}
+use Rattle.sx_outline.specs.ExtensionOutlined.{extension_declares, IsExtensionOutlined}
 use Rattle.sx_outline.specs.ExtensionSized.{IsExtensionSized, IsExtensionFit}
 use Rattle.sx_notation.specs.declared.notation_error.NotationError.{NotationError}
 use Rattle.sx_notation.specs.ReadText.{ReaderData}
@@ -30,7 +31,8 @@ use Rattle.sx_notation.specs.RuleParts.{rule_parts}
 use Rattle.sx_language.specs.States.{IsNameOfSort, AreStems}
 use Rattle.sx_extension.specs.Grounds.{Ground, IsBefore}
 use Rattle.sx_extension.specs.Readings.{with_own}
-use Rattle.sx_extension.specs.Stages.{HasRoom, HasFewProductions, IsUsable, IsOutlineRefusal, IsUnoutlined, CanReadPlain}
+use Rattle.sx_extension.specs.Stages.{HasRoom, HasFewProductions, IsUsableExtension}
+use Rattle.sx_extension.specs.Stages.{IsOutlineRefusal, IsUnoutlined, CanReadPlain}
 use Rattle.sx_extension.proofs.Rooms.{has_fewer, room, rule_room}
 use Rattle.sx_extension.proofs.Grounding.{stems_named, all_append, sort_read}
 
@@ -70,7 +72,7 @@ module _ (g : Ground) (before : IsBefore g) (within : IsWithinLimits g.grammar.p
       }
 
   pub usable : (bytes : Text) (vars : List VarLine) (o : ExtensionOutline) → length bytes ≤ 262144 → AreStems g.language vars g.stems → IsExtensionOutlined g.language.sorts vars bytes (Ok o) →
-      IsExtensionSized (length bytes) (length vars) (extension_outline o) → IsExtensionFit g.language.sorts vars (extension_outline o) → IsUsable g bytes o
+      IsExtensionSized (length bytes) (length vars) (extension_outline o) → IsExtensionFit g.language.sorts vars (extension_outline o) → IsUsableExtension g bytes o
   usable bytes vars o low stems outlined sized fit = record {
     before = vars;
     stems = stems;

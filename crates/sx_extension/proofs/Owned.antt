@@ -11,7 +11,7 @@ use Rattle.sx_term.specs.Term.{tree}
 use Rattle.sx_term.specs.Sorts.{Shape}
 use Rattle.sx_term.specs.Shapes.{shape}
 use Rattle.sx_term.proofs.Kids.{trees, tree-at_node, trees-drop, trees-drop_all}
-use Rattle.sx_extension.specs.OwnSyntax.{IsOwn, HasOwn, HaveOwn}
+use Rattle.sx_extension.specs.OwnSyntax.{IsOwnLabel, HasOwn, HaveOwn}
 use Rattle.sx_extension.proofs.Lacking.{as_many}
 
 never : {P : Type 0} → (P → ⊥) → IsTrue false ↔ P
@@ -22,16 +22,16 @@ always p = (λ t. p, λ q. refl)
 
 -- a constructor of a row
 module _ (cons : List Con) (first label : ℕ) where
-  pub before_own : label < first → IsTrue false ↔ IsOwn (map shape cons) first label
+  pub before_own : label < first → IsTrue false ↔ IsOwnLabel (map shape cons) first label
   before_own l = never (λ o. let m = o.0 in absurd (omega (arith, l, m)))
 
-  pub past_own : length cons ≤ label → IsTrue false ↔ IsOwn (map shape cons) first label
+  pub past_own : length cons ≤ label → IsTrue false ↔ IsOwnLabel (map shape cons) first label
   past_own l = never (λ o.
       let m = slice_get_within (map shape cons) label o.1.0 o.1.1 in
       let n = as_many cons in
       absurd (omega (arith, l, m, n)))
 
-  pub own_at : (c : Con) (b : Bool) → first ≤ label → label < length cons → c ≡ get_or cons label c → (IsTrue b ↔ ((k : ℕ) × (c.sort ≡ Typed k))) → IsTrue b ↔ IsOwn (map shape cons) first label
+  pub own_at : (c : Con) (b : Bool) → first ≤ label → label < length cons → c ≡ get_or cons label c → (IsTrue b ↔ ((k : ℕ) × (c.sort ≡ Typed k))) → IsTrue b ↔ IsOwnLabel (map shape cons) first label
   own_at c b low h e same =
       let at : slice_get (map shape cons) label ≡ Some (shape c) = slice_get-map shape cons label ∙ ap (option_map shape) (slice_get_read cons (length cons) label c refl h e) in (
         λ t. (low, (shape c, at, same.0 t)),
@@ -46,7 +46,7 @@ module _ (shapes : List Shape) (first : ℕ) (t : Term) (label : ℕ) (kids : Ve
   of_node : HasOwn shapes first (tree t) → HasOwn shapes first (node label (trees kids.items))
   of_node h = subst (λ (x : Tree). HasOwn shapes first x) (tree-at_node t label kids e) h
 
-  pub own_label : (b : Bool) → b ≡ true → (IsTrue b ↔ IsOwn shapes first label) → IsTrue true ↔ HasOwn shapes first (tree t)
+  pub own_label : (b : Bool) → b ≡ true → (IsTrue b ↔ IsOwnLabel shapes first label) → IsTrue true ↔ HasOwn shapes first (tree t)
   own_label b y same = always (at_node (inl (same.0 y)))
 
   module _ (ts : List Term) (s : ts ≡ kids.items) where
@@ -66,7 +66,7 @@ module _ (shapes : List Shape) (first : ℕ) (t : Term) (label : ℕ) (kids : Ve
       ],
     )
 
-    pub none_own : (b : Bool) (i : ℕ) → b ≡ false → (IsTrue b ↔ IsOwn shapes first label) → length ts ≤ i → (HaveOwn shapes first (trees (drop i ts)) ↔ HaveOwn shapes first (trees ts)) →
+    pub none_own : (b : Bool) (i : ℕ) → b ≡ false → (IsTrue b ↔ IsOwnLabel shapes first label) → length ts ≤ i → (HaveOwn shapes first (trees (drop i ts)) ↔ HaveOwn shapes first (trees ts)) →
         IsTrue false ↔ HasOwn shapes first (tree t)
     none_own b i n same l so = never (λ h. elim (of_node h) [
       | inl o ↦ (let y : b ≡ true = same.1 o in let e : true ≡ false = sym y ∙ n in cc)

@@ -16,11 +16,12 @@ use Rattle.sx_grammar.specs.declared.symbol.Symbol as declared
 use Rattle.sx_grammar.specs.declared.symbol.Symbol.TheVariants as names_of
 use Rattle.sx_grammar.specs.declared.sort_line.SortLine.{SortLine}
 use Rattle.sx_grammar.specs.Grammar.{Text, Production}
-use Rattle.sx_grammar.specs.Parts.{Line, Parts, names, labels, number_of, numbered, numbered_symbol, numbered_line, symbol_sorts, sorts_named}
+use Rattle.sx_grammar.specs.Parts.{Line, Parts, names, labels, number_of, numbered, numbered_symbol}
+use Rattle.sx_grammar.specs.Parts.{numbered_line, symbol_sorts, sorts_named}
 use Rattle.sx_grammar.specs.Made.{IsGrammar}
 use Rattle.sx_grammar.specs.Told.{is_typed, sort_with, kid_sorts, shape_of, shapes_of}
 use Rattle.sx_grammar.proofs.Finding.{at_contains, is_head, past_head, in_flat_map}
-use Rattle.sx_earley.specs.Tokens.{Stems, sort_of, kept, without_digits}
+use Rattle.sx_earley.specs.Tokens.{Stems, stem_sort, kept, without_digits}
 use Rattle.sx_directives.specs.Spelling.{lex_text}
 use Rattle.sx_directives.specs.declared.rows.FormLine.{FormLine}
 use Rattle.sx_directives.specs.declared.rows.VarLine.{VarLine}
@@ -28,7 +29,7 @@ use Rattle.sx_outline.specs.Declarations.{Declared}
 use Rattle.sx_outline.specs.Variables.{kept_byte, stem_of}
 use Rattle.sx_outline.specs.Fitting.{kids_of, IsVariableOf, NamesFit, IsPlain, ArePartNames}
 use Rattle.sx_outline.specs.Stages.{PlainData}
-use Rattle.sx_notation.specs.ReadText.{ReaderData, IsRead}
+use Rattle.sx_notation.specs.ReadText.{ReaderData, IsReadLine}
 use Rattle.sx_notation.specs.RuleParts.{rule_parts}
 use Rattle.sx_notation.proofs.AmongNames.{among_is_read}
 use Rattle.sx_notation.proofs.ReadLexemes.{reads_are_shallow}
@@ -54,14 +55,14 @@ same_stem [] = refl
 same_stem (c ∷ cs) = ap (kept c) (same_stem cs) ∙ same_kept c (stem_of cs)
 
 -- the sort of the first stem that is this one
-found_sort : (p : Parts) (vs : List VarLine) (ss : Stems) (stem : Text) (v : VarLine) → AreStems p vs ss → find (λ w. bytes_eq w.stem stem) vs ≡ Some v → (s : Sort) × (sort_of ss stem ≡ Some s) × IsSortNamed p v.sort s
+found_sort : (p : Parts) (vs : List VarLine) (ss : Stems) (stem : Text) (v : VarLine) → AreStems p vs ss → find (λ w. bytes_eq w.stem stem) vs ≡ Some v → (s : Sort) × (stem_sort ss stem ≡ Some s) × IsSortNamed p v.sort s
 found_sort p [] ss stem v are e = absurd (none-some v e)
 found_sort p (w ∷ vs) [] stem v are e = absurd are
 found_sort p (w ∷ vs) (x ∷ ss) stem v are e =
-    subst (λ (n : Text). (s : Sort) × ((if bytes_eq n stem then Some x.1 else sort_of ss stem) ≡ Some s) × IsSortNamed p v.sort s) (sym are.0) (by (bytes_eq w.stem stem) (found_sort p vs ss stem v are.2) e)
+    subst (λ (n : Text). (s : Sort) × ((if bytes_eq n stem then Some x.1 else stem_sort ss stem) ≡ Some s) × IsSortNamed p v.sort s) (sym are.0) (by (bytes_eq w.stem stem) (found_sort p vs ss stem v are.2) e)
   where
-    by : (b : Bool) → (find (λ y. bytes_eq y.stem stem) vs ≡ Some v → (s : Sort) × (sort_of ss stem ≡ Some s) × IsSortNamed p v.sort s) → (if b then Some w else find (λ y. bytes_eq y.stem stem) vs) ≡ Some v →
-        (s : Sort) × ((if b then Some x.1 else sort_of ss stem) ≡ Some s) × IsSortNamed p v.sort s
+    by : (b : Bool) → (find (λ y. bytes_eq y.stem stem) vs ≡ Some v → (s : Sort) × (stem_sort ss stem ≡ Some s) × IsSortNamed p v.sort s) → (if b then Some w else find (λ y. bytes_eq y.stem stem) vs) ≡ Some v →
+        (s : Sort) × ((if b then Some x.1 else stem_sort ss stem) ≡ Some s) × IsSortNamed p v.sort s
     by true rest k = let q : w ≡ v = cc in (x.1, refl, subst (λ (y : VarLine). IsSortNamed p y.sort x.1) q are.1)
     by false rest k = rest k
 
@@ -88,12 +89,12 @@ one_kind k l e = told_apart k l (ap first_byte e)
 
 module _ (p : Parts) (is : IsGrammar p) (d : Declared) (stems : Stems) (are : AreStems p d.vars stems) where
   abbrev f : Text → Option Sort
-  f name = sort_of stems (without_digits name)
+  f name = stem_sort stems (without_digits name)
 
   var_sort : (name sort : Text) → IsVariableOf d name sort → (s : Sort) × (f name ≡ Some s) × IsSortNamed p sort s
   var_sort name sort h =
       let x = found_sort p d.vars stems (stem_of name) h.0 are h.1 in
-      (x.0, ap (sort_of stems) (same_stem name) ∙ x.1, subst (λ (n : Text). IsSortNamed p n x.0) h.2 x.2)
+      (x.0, ap (stem_sort stems) (same_stem name) ∙ x.1, subst (λ (n : Text). IsSortNamed p n x.0) h.2 x.2)
 
   kind_sort : (name : Text) (kind : LexKind) → IsVariableOf d name (lex_text kind) → f name ≡ Some (TheSort.Lex kind)
   kind_sort name kind h = let x = var_sort name (lex_text kind) h in x.1 ∙ by x.0 x.2
@@ -176,7 +177,7 @@ module _ (p : Parts) (fs : List FormLine) (is : IsGrammar p) (rule_is : IsGramma
       let named = in_flat_map (λ x. x.sort ∷ flat_map symbol_sorts x.symbols) p.productions fit.line fit.line.sort has (is_head fit.line.sort (flat_map symbol_sorts fit.line.symbols)) in
       let low : IsBelow (length p.sorts) shape.sort = sort_below p fs is rule_is (number_of (names p) fit.line.sort) (number_below p fs is rule_is fit.line.sort named) in
       let among = among_is_read r.parts r.stems read.sort l.body.text l.names b.term read.read in
-      let text : IsRead (rule_parts p fs) r.stems read.sort l.body.text l.names l.names b.term = subst (λ (y : Parts). IsRead y r.stems read.sort l.body.text l.names l.names b.term) by among in
+      let text : IsReadLine (rule_parts p fs) r.stems read.sort l.body.text l.names l.names b.term = subst (λ (y : Parts). IsReadLine y r.stems read.sort l.body.text l.names l.names b.term) by among in
       let sorted : HasSort (shapes_of (rule_parts p fs)) shape.kids b.term read.sort =
       reads_are_sorted p fs d.vars r.stems read.sort l.body.text l.names l.names b.term shape.kids are (sort_read p fs is b.label read.sort read.made_by.1) text stems_sorted in
       record {
@@ -184,7 +185,7 @@ module _ (p : Parts) (fs : List FormLine) (is : IsGrammar p) (rule_is : IsGramma
         shape = shape;
         is = slice_get-map (shape_of p.sorts) (numbered p).productions b.label ∙ ap (option_map (shape_of p.sorts)) row;
         plain = plain_sort fit.line.sort fit.plain;
-        many = read.many ∙ sym (length-map l.names (λ name. sort_of r.stems (without_digits name))) ∙ ap length stems_sorted ∙ length-map shape.kids (λ (s : Sort). Some s);
+        many = read.many ∙ sym (length-map l.names (λ name. stem_sort r.stems (without_digits name))) ∙ ap length stems_sorted ∙ length-map shape.kids (λ (s : Sort). Some s);
         sorted = sorted_by_base p fs is rule_is shape.kids b.term shape.sort low (subst (λ (s : Sort). HasSort (shapes_of (rule_parts p fs)) shape.kids b.term s) sort_is sorted);
         shallow = reads_are_shallow r.parts r.stems read.sort l.body.text l.names l.names b.term among;
       }

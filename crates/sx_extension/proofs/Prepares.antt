@@ -12,13 +12,17 @@ use Rattle.sx_outline.specs.Stages.{PlainData, plain_data, rule_data}
 use Rattle.sx_outline.specs.ExtensionOutlined.{extension_outline}
 use Rattle.sx_outline.specs.Sized.{HasShortLines}
 use Rattle.sx_notation.specs.declared.notation_error.NotationError.{NotationError}
-use Rattle.sx_notation.specs.declared.notation_error.NotationError.TheVariants.{Memory, NotUtf8, Notation, Token, Grammar, Read, Rules}
+use Rattle.sx_notation.specs.declared.notation_error.NotationError.TheVariants.{Memory, NotUtf8}
+use Rattle.sx_notation.specs.declared.notation_error.NotationError.TheVariants.{Notation, Token}
+use Rattle.sx_notation.specs.declared.notation_error.NotationError.TheVariants.{Grammar, Read}
+use Rattle.sx_notation.specs.declared.notation_error.NotationError.TheVariants.{Rules}
 use Rattle.sx_notation.specs.RuleParts.{rule_parts}
 use Rattle.sx_language.specs.States.{IsNameOfSort, AreStems}
 use Rattle.sx_extension.specs.declared.prepared.Prepared.{Prepared}
 use Rattle.sx_extension.specs.Grounds.{Ground, IsBefore}
 use Rattle.sx_extension.specs.Readings.{HasOutline, with_own, AreGrammars, tables}
-use Rattle.sx_extension.specs.Stages.{IsUsable, IsUnoutlined, IsUngrammatical, IsUnprepared, IsPrepared, CanReadPlain, reader_of}
+use Rattle.sx_extension.specs.Stages.{IsUsableExtension, IsUnoutlined, IsUngrammatical}
+use Rattle.sx_extension.specs.Stages.{IsUnprepared, IsPreparedExtension, CanReadPlain, reader_of}
 use Rattle.sx_extension.proofs.Grounding.{names_kept, same_sorts, reads}
 use Rattle.sx_extension.proofs.Outlining.{pairs_read}
 
@@ -39,11 +43,11 @@ module _ (g : Ground) (bytes : Text) where
   no_outline (Read line e) h = h
   no_outline (Rules e v) h = h
 
-  outlined : (o : ExtensionOutline) → IsUsable g bytes o → HasOutline g bytes (extension_outline o)
+  outlined : (o : ExtensionOutline) → IsUsableExtension g bytes o → HasOutline g bytes (extension_outline o)
   outlined o h = record { before = h.before; stems = h.stems; outlined = h.outlined }
 
   -- a text without grammars is not prepared
-  pub no_grammars : (o : ExtensionOutline) → IsUsable g bytes o → (e : NotationError) → IsUngrammatical g (extension_outline o).productions e → IsUnprepared g bytes e
+  pub no_grammars : (o : ExtensionOutline) → IsUsableExtension g bytes o → (e : NotationError) → IsUngrammatical g (extension_outline o).productions e → IsUnprepared g bytes e
   no_grammars o h Memory k = tt
   no_grammars o h (NotUtf8 place) k = absurd k
   no_grammars o h (Notation line kind) k = absurd k
@@ -52,9 +56,9 @@ module _ (g : Ground) (bytes : Text) where
   no_grammars o h (Read line e) k = absurd k
   no_grammars o h (Rules e v) k = absurd k
 
-  module _ (before : IsBefore g) (o : ExtensionOutline) (h : IsUsable g bytes o) (grammar rule : GrammarData) (made : AreGrammars g (extension_outline o).productions grammar rule) where
+  module _ (before : IsBefore g) (o : ExtensionOutline) (h : IsUsableExtension g bytes o) (grammar rule : GrammarData) (made : AreGrammars g (extension_outline o).productions grammar rule) where
     pub prepared : (x : Prepared) → x.grammar ≡ grammar → x.rule_grammar ≡ rule → AreStems grammar.parts o.vars.items x.metas.stems.items → x.name ≡ o.header.name → x.plains.items ≡ o.plains.items →
-        x.rules.items ≡ o.rules.items → IsPrepared g bytes x
+        x.rules.items ≡ o.rules.items → IsPreparedExtension g bytes x
     prepared x base by stems name plains rules =
         let out = extension_outline o in
         let own = out.productions in

@@ -6,7 +6,7 @@ use Rattle.sx_grammar.specs.Parts.{Parts}
 use Rattle.sx_grammar.specs.Told.{shapes_of}
 use Rattle.sx_rules.specs.declared.error.RuleError.{RuleError}
 use Rattle.sx_rules.specs.declared.error.RuleError.TheVariants as rules
-use Rattle.sx_rules.specs.Good.{IsRuleSet, IsRefused as IsNoSet}
+use Rattle.sx_rules.specs.Good.{IsRuleSet, IsRuleSetRefused as IsNoSet}
 use Rattle.sx_plain.specs.declared.table.PlainTable.{PlainTable}
 use Rattle.sx_outline.specs.declared.rule_lines.RuleLines.{RuleLines}
 use Rattle.sx_outline.specs.Stages.{PlainData, RuleData, plain_data, rule_data}
@@ -18,7 +18,7 @@ use Rattle.sx_notation.specs.declared.notation_error.NotationError.TheVariants.{
 use Rattle.sx_notation.specs.declared.notation_error.NotationError.TheVariants.{Rules}
 use Rattle.sx_language.specs.Prepared.{IsReason}
 use Rattle.sx_language.specs.RuleLine.{Reader}
-use Rattle.sx_language.specs.RuleTexts.{AreRules, IsFirstBad, OrMemory}
+use Rattle.sx_language.specs.RuleTexts.{AreRules, IsFirstBadRule, OrMemory}
 use Rattle.sx_language.specs.States.{name_unbound}
 use Rattle.sx_language.proofs.Stating.{IsLineError, rules_kind}
 use Rattle.sx_language.proofs.UsableRules.{rule_names}
@@ -38,11 +38,12 @@ use Rattle.sx_extension.specs.Grounds.{Ground}
 use Rattle.sx_extension.specs.PlainBodies.{BodyData}
 use Rattle.sx_extension.specs.PlainTables.{IsTableMade}
 use Rattle.sx_extension.specs.Readings.{Texts, with_own, tables, ArePlainsRead, IsFirstBadPlain}
-use Rattle.sx_extension.specs.ReadTexts.{texts_of, AreTextsOf, AreBadTextsOf}
-use Rattle.sx_extension.specs.Stages.{reader_of, IsUnprepared, IsPrepared, IsSetRefusal, IsNoTable}
+use Rattle.sx_extension.specs.ReadTexts.{read_texts, AreTextsOf, AreBadTextsOf}
+use Rattle.sx_extension.specs.Stages.{reader_of, IsUnprepared, IsPreparedExtension, IsSetRefusal}
+use Rattle.sx_extension.specs.Stages.{IsNoTable}
 use Rattle.sx_extension.specs.States.{IsReadAs, HasTexts, HasRuleSet, HasTable, HasBodies}
 use Rattle.sx_extension.specs.States.{HasBadText, IsNoRules, HasNoRuleSet, HasNoTable}
-use Rattle.sx_extension.specs.States.{HasBodyDefect, IsBadNotation, IsRefused}
+use Rattle.sx_extension.specs.States.{HasBodyDefect, IsBadNotation, IsExtensionTextRefused}
 use Rattle.sx_extension.specs.TableRefusals.{IsTableRefusal}
 use Rattle.sx_extension.proofs.LineErrors.{plains_kind}
 
@@ -120,19 +121,19 @@ no_rules g o x (rules.NotModed t v) r m = m
 abbrev IsBad : Reader → NotationError → Parts → List PlainData → List RuleData → Type 0
 IsBad r e p ls rs =
     IsFirstBadPlain p (tables r) ls e ⊎ ((bs : List BodyData) × ArePlainsRead p (tables r) ls bs ×
-    IsFirstBad r rs e)
+    IsFirstBadRule r rs e)
 
 module _ (g : Ground) (bytes : Text) where
   -- a refusal of notation is one of the extension
   told : (e : NotationError) (y : ExtensionError) → OrMemory (IsBadNotation g bytes) e →
-      IsNotationRefusal e y → IsRefused g bytes y
-  told Memory y h same = subst (IsRefused g bytes) (sym same) tt
-  told (NotUtf8 place) y h same = subst (IsRefused g bytes) (sym same) h
-  told (Notation line kind) y h same = subst (IsRefused g bytes) (sym same) h
-  told (Token line e) y h same = subst (IsRefused g bytes) (sym same) h
-  told (Grammar e) y h same = subst (IsRefused g bytes) (sym same) h
-  told (Read line e) y h same = subst (IsRefused g bytes) (sym same) h
-  told (Rules e v) y h same = subst (IsRefused g bytes) (sym same) h
+      IsNotationRefusal e y → IsExtensionTextRefused g bytes y
+  told Memory y h same = subst (IsExtensionTextRefused g bytes) (sym same) tt
+  told (NotUtf8 place) y h same = subst (IsExtensionTextRefused g bytes) (sym same) h
+  told (Notation line kind) y h same = subst (IsExtensionTextRefused g bytes) (sym same) h
+  told (Token line e) y h same = subst (IsExtensionTextRefused g bytes) (sym same) h
+  told (Grammar e) y h same = subst (IsExtensionTextRefused g bytes) (sym same) h
+  told (Read line e) y h same = subst (IsExtensionTextRefused g bytes) (sym same) h
+  told (Rules e v) y h same = subst (IsExtensionTextRefused g bytes) (sym same) h
 
   no_lines : (e : NotationError) → IsUnprepared g bytes e → OrMemory (IsBadNotation g bytes) e
   no_lines Memory h = tt
@@ -145,10 +146,10 @@ module _ (g : Ground) (bytes : Text) where
 
   -- a text that is not prepared is refused
   pub unprepared : (e : NotationError) (y : ExtensionError) → IsUnprepared g bytes e →
-      IsNotationRefusal e y → IsRefused g bytes y
+      IsNotationRefusal e y → IsExtensionTextRefused g bytes y
   unprepared e y h same = told e y (no_lines e h) same
 
-  module _ (x : Prepared) (h : IsPrepared g bytes x) where
+  module _ (x : Prepared) (h : IsPreparedExtension g bytes x) where
     parts_are : x.grammar.parts ≡ with_own g h.from.productions
     parts_are = h.readable.grammars.parts
 
@@ -186,14 +187,14 @@ module _ (g : Ground) (bytes : Text) where
 
     -- a text whose lines are not read is refused
     pub unread : (e : NotationError) (y : ExtensionError) → OrMemory (AreBadTextsOf g x) e →
-        IsNotationRefusal e y → IsRefused g bytes y
+        IsNotationRefusal e y → IsExtensionTextRefused g bytes y
     unread e y b same = told e y (bad_line e b) same
 
     module _ (t : ReadTexts) (read : AreTextsOf g x t) where
-      pub read_as : IsReadAs g bytes h.from x.grammar x.rule_grammar (texts_of t)
+      pub read_as : IsReadAs g bytes h.from x.grammar x.rule_grammar (read_texts t)
       read_as =
           let r = reader_of g x in
-          let ts = texts_of t in
+          let ts = read_texts t in
           record {
             reader = r;
             readable = h.readable;
@@ -207,32 +208,32 @@ module _ (g : Ground) (bytes : Text) where
             };
           }
 
-      has_texts : HasTexts g bytes h.from (texts_of t)
+      has_texts : HasTexts g bytes h.from (read_texts t)
       has_texts = record { grammar = x.grammar; by_rules = x.rule_grammar; read = read_as }
 
-      pub rule_set : HaveRuleSet g x t → HasRuleSet g h.from (texts_of t)
+      pub rule_set : HaveRuleSet g x t → HasRuleSet g h.from (read_texts t)
       rule_set s = subst (λ (p : Parts). IsRuleSet (shapes_of p) g.forms
-          (g.rules ++ (texts_of t).rules)) parts_are s
+          (g.rules ++ (read_texts t).rules)) parts_are s
 
       pub has_table : (plain : PlainTable) → HaveTable g x t plain →
-          HasTable g h.from (texts_of t) plain
+          HasTable g h.from (read_texts t) plain
       has_table plain s = subst (λ (p : Parts). IsTableMade g.base (shapes_of p) (length g.shapes)
-          g.table (texts_of t).plains (Ok plain)) parts_are s
+          g.table (read_texts t).plains (Ok plain)) parts_are s
 
-      pub bodied : HaveBodies g x t → HasBodies g h.from (texts_of t)
+      pub bodied : HaveBodies g x t → HasBodies g h.from (read_texts t)
       bodied s =
           subst (λ (ls : List RuleData). AreBodied g.forms
-          (shapes_of (with_own g h.from.productions)) (length g.shapes) ls (texts_of t).rules
-          (texts_of t).bodies) h.rules
+          (shapes_of (with_own g h.from.productions)) (length g.shapes) ls (read_texts t).rules
+          (read_texts t).bodies) h.rules
           (subst (λ (p : Parts). AreBodied g.forms (shapes_of p) (length g.shapes)
-          (map rule_data x.rules.items) (texts_of t).rules (texts_of t).bodies) parts_are s)
+          (map rule_data x.rules.items) (read_texts t).rules (read_texts t).bodies) parts_are s)
 
       no_set : (e : RuleError) (unbound : Option Text) → IsReason e →
-          IsNoSet (shapes_of x.grammar.parts) g.forms (g.rules ++ (texts_of t).rules) e →
-          unbound ≡ name_unbound (map (λ l. l.name) x.rules.items) (texts_of t).names e →
+          IsNoSet (shapes_of x.grammar.parts) g.forms (g.rules ++ (read_texts t).rules) e →
+          unbound ≡ name_unbound (map (λ l. l.name) x.rules.items) (read_texts t).names e →
           HasNoRuleSet g bytes e unbound
       no_set e unbound reason m called =
-          let ts = texts_of t in
+          let ts = read_texts t in
           let same : map (λ l. l.name) x.rules.items ≡ map (λ q. q.name) ts.rules =
           lines_named x.rules.items ∙ sym (rule_names (reader_of g x)
           (map rule_data x.rules.items) ts.names ts.rules ts.bodies read.rules) in
@@ -247,15 +248,15 @@ module _ (g : Ground) (bytes : Text) where
           }
 
       abbrev Refuses : NotationError → Type 0
-      Refuses e = IsSetRefusal (shapes_of x.grammar.parts) g.forms (g.rules ++ (texts_of t).rules)
-          (map (λ l. l.name) x.rules.items) (texts_of t).names e
+      Refuses e = IsSetRefusal (shapes_of x.grammar.parts) g.forms (g.rules ++ (read_texts t).rules)
+          (map (λ l. l.name) x.rules.items) (read_texts t).names e
 
       set_refused : (e : NotationError) → IsKnown e → Refuses e → IsBadNotation g bytes e
       set_refused e known (why, m, inl none) = absurd (subst IsKnown none known)
       set_refused e known (why, m, inr (reason, (unbound, is, called))) =
           subst (IsBadNotation g bytes) (sym is) (no_set why unbound reason m called)
 
-      no_rule_set : (e : ExtensionError) → HaveNoRuleSet g x t e → IsRefused g bytes e
+      no_rule_set : (e : ExtensionError) → HaveNoRuleSet g x t e → IsExtensionTextRefused g bytes e
       no_rule_set extension.Memory s = tt
       no_rule_set (extension.Notation Memory) s = absurd s
       no_rule_set (extension.Notation (NotUtf8 place)) s = set_refused (NotUtf8 place) tt s
@@ -271,22 +272,22 @@ module _ (g : Ground) (bytes : Text) where
       no_rule_set (extension.BodyExtended rule) s = absurd s
 
       no_table : (e : ExtensionError) → HaveRuleSet g x t →
-          IsNoTable g x.grammar.parts (map plain_data x.plains.items) (texts_of t).plains e →
+          IsNoTable g x.grammar.parts (map plain_data x.plains.items) (read_texts t).plains e →
           HasNoTable g bytes e
       no_table e s m = record {
         outline = h.from;
-        texts = texts_of t;
+        texts = read_texts t;
         read = has_texts;
         rule_set = rule_set s;
         refused = subst (λ (ls : List PlainData). IsNoTable g (with_own g h.from.productions) ls
-            (texts_of t).plains e) h.plains
+            (read_texts t).plains e) h.plains
             (subst (λ (p : Parts). IsNoTable g p (map plain_data x.plains.items)
-            (texts_of t).plains e) parts_are m);
+            (read_texts t).plains e) parts_are m);
       }
 
       table_refused : (e : ExtensionError) → HaveRuleSet g x t →
-          IsNoTable g x.grammar.parts (map plain_data x.plains.items) (texts_of t).plains e →
-          IsRefused g bytes e
+          IsNoTable g x.grammar.parts (map plain_data x.plains.items) (read_texts t).plains e →
+          IsExtensionTextRefused g bytes e
       table_refused extension.Memory s m = tt
       table_refused (extension.Notation e) s m = absurd
           (table_kind x.grammar.parts (map plain_data x.plains.items) m.0 (extension.Notation e)
@@ -304,28 +305,28 @@ module _ (g : Ground) (bytes : Text) where
           (extension.BodyExtended rule) m.2)
 
       -- texts that make no rule set or no plain table are refused
-      pub unchecked : (e : ExtensionError) → AreUnchecked g x t e → IsRefused g bytes e
+      pub unchecked : (e : ExtensionError) → AreUnchecked g x t e → IsExtensionTextRefused g bytes e
       unchecked e (inl s) = no_rule_set e s
       unchecked e (inr s) = table_refused e s.0 s.1
 
       module _ (plain : PlainTable) (set : HaveRuleSet g x t) (made : HaveTable g x t plain) where
         abbrev BadBody : ExtensionError → Type 0
         BadBody e = HaveBadBody g.forms (shapes_of x.grammar.parts) (length g.shapes)
-            (map rule_data x.rules.items) (texts_of t).rules (texts_of t).bodies e
+            (map rule_data x.rules.items) (read_texts t).rules (read_texts t).bodies e
 
         bad_body : (e : ExtensionError) → BadBody e → HasBodyDefect g bytes e
         bad_body e m = record {
           outline = h.from;
-          texts = texts_of t;
+          texts = read_texts t;
           read = has_texts;
           rule_set = rule_set set;
           table = plain;
           has_table = has_table plain made;
           refused = subst (λ (ls : List RuleData). HaveBadBody g.forms
-              (shapes_of (with_own g h.from.productions)) (length g.shapes) ls (texts_of t).rules
-              (texts_of t).bodies e) h.rules
+              (shapes_of (with_own g h.from.productions)) (length g.shapes) ls (read_texts t).rules
+              (read_texts t).bodies e) h.rules
               (subst (λ (p : Parts). HaveBadBody g.forms (shapes_of p) (length g.shapes)
-              (map rule_data x.rules.items) (texts_of t).rules (texts_of t).bodies e) parts_are
+              (map rule_data x.rules.items) (read_texts t).rules (read_texts t).bodies e) parts_are
               m);
         }
 
@@ -333,7 +334,7 @@ module _ (g : Ground) (bytes : Text) where
         no_kind e m = body_kind m.lines.name m.defect e m.refused
 
         -- an extension with a body that is not as it should be is refused
-        pub unbodied : (e : ExtensionError) → HaveBodyDefect g x t e → IsRefused g bytes e
+        pub unbodied : (e : ExtensionError) → HaveBodyDefect g x t e → IsExtensionTextRefused g bytes e
         unbodied extension.Memory m = tt
         unbodied (extension.Notation e) m = absurd (no_kind (extension.Notation e) m)
         unbodied (extension.Plain label e) m = absurd (no_kind (extension.Plain label e) m)

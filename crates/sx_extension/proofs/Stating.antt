@@ -18,12 +18,12 @@ use Rattle.sx_language.specs.RuleTexts.{AreRules}
 use Rattle.sx_extension.specs.declared.checked_texts.CheckedTexts.{CheckedTexts}
 use Rattle.sx_extension.specs.declared.extension.ReadExtension.{ReadExtension}
 use Rattle.sx_extension.specs.declared.prepared.Prepared.{Prepared}
-use Rattle.sx_extension.specs.Checked.{AreChecked, IsExtensionOf, IsReadFrom}
+use Rattle.sx_extension.specs.Checked.{HasCheckedRules, IsExtensionOf, IsReadFrom}
 use Rattle.sx_extension.specs.Fitting.{FitsAfter}
 use Rattle.sx_extension.specs.Grounds.{Ground, IsBefore}
-use Rattle.sx_extension.specs.ReadTexts.{texts_of, AreTextsOf}
-use Rattle.sx_extension.specs.Stages.{reader_of, IsPrepared}
-use Rattle.sx_extension.specs.States.{IsReadAs, HasTable, States}
+use Rattle.sx_extension.specs.ReadTexts.{read_texts, AreTextsOf}
+use Rattle.sx_extension.specs.Stages.{reader_of, IsPreparedExtension}
+use Rattle.sx_extension.specs.States.{IsReadAs, HasTable, IsExtensionIn}
 use Rattle.sx_extension.proofs.Fitted.{prepared_fits}
 use Rattle.sx_extension.proofs.Refusing.{read_as, rule_set, has_table, bodied}
 
@@ -42,7 +42,7 @@ as_many r (l ∷ ls) (n ∷ ns) (q ∷ qs) [] h = absurd h
 module _ (g : Ground) (x : Prepared) (c : CheckedTexts) (read : AreTextsOf g x c.texts) where
   pub as_many_bodies : length c.texts.rules.rules.items ≡ length c.texts.rules.bodies.items
   as_many_bodies =
-      let ts = texts_of c.texts in
+      let ts = read_texts c.texts in
       omega (
         arith,
         as_many (reader_of g x) (map rule_data x.rules.items) ts.names ts.rules
@@ -51,26 +51,26 @@ module _ (g : Ground) (x : Prepared) (c : CheckedTexts) (read : AreTextsOf g x c
         length-map c.texts.rules.bodies.items (option_map tree),
       )
 
-  module _ (before : IsBefore g) (checked : AreChecked g x c.texts c.plain) (bytes : Text)
-      (h : IsPrepared g bytes x) (y : ReadExtension) (is : IsExtensionOf x c y) where
-    grammars : IsReadAs g bytes h.from y.grammar y.rule_grammar (texts_of c.texts)
+  module _ (before : IsBefore g) (checked : HasCheckedRules g x c.texts c.plain) (bytes : Text)
+      (h : IsPreparedExtension g bytes x) (y : ReadExtension) (is : IsExtensionOf x c y) where
+    grammars : IsReadAs g bytes h.from y.grammar y.rule_grammar (read_texts c.texts)
     grammars =
-        subst (λ (b : GrammarData). IsReadAs g bytes h.from y.grammar b (texts_of c.texts))
+        subst (λ (b : GrammarData). IsReadAs g bytes h.from y.grammar b (read_texts c.texts))
         (sym is.rule_grammar)
-        (subst (λ (b : GrammarData). IsReadAs g bytes h.from b x.rule_grammar (texts_of c.texts))
+        (subst (λ (b : GrammarData). IsReadAs g bytes h.from b x.rule_grammar (read_texts c.texts))
         (sym is.grammar) (read_as g bytes x h c.texts read))
 
-    stated : States g bytes y
+    stated : IsExtensionIn g bytes y
     stated = record {
       outline = h.from;
-      texts = texts_of c.texts;
+      texts = read_texts c.texts;
       read = grammars;
       name = is.name ∙ h.name;
       rules = is.rules;
       bodies = is.bodies;
       names = is.names;
       rule_set = rule_set g bytes x h c.texts read checked.rule_set;
-      table = subst (λ (t : PlainTable). HasTable g h.from (texts_of c.texts) t) (sym is.plain)
+      table = subst (λ (t : PlainTable). HasTable g h.from (read_texts c.texts) t) (sym is.plain)
           (has_table g bytes x h c.texts read c.plain checked.table);
       bodied = bodied g bytes x h c.texts read checked.bodied;
     }
@@ -101,7 +101,7 @@ module _ (g : Ground) (x : Prepared) (c : CheckedTexts) (read : AreTextsOf g x c
 
 -- what is read is stated
 pub all_stated : (g : Ground) (bytes : Text) {E : Type 0} (r : Result ReadExtension E) →
-    IfOk r (IsReadFrom g bytes) → IfOk r (States g bytes)
+    IfOk r (IsReadFrom g bytes) → IfOk r (IsExtensionIn g bytes)
 all_stated g bytes (Ok x) h = h.states
 all_stated g bytes (Err e) h = tt
 

@@ -14,11 +14,11 @@ use Rattle.sx_extension.specs.declared.read_texts.ReadTexts.{ReadTexts}
 use Rattle.sx_extension.specs.Checks.{HaveRuleSet, HaveTable, HaveBodies}
 use Rattle.sx_extension.specs.Fitting.{FitsAfter}
 use Rattle.sx_extension.specs.Grounds.{Ground}
-use Rattle.sx_extension.specs.ReadTexts.{texts_of}
-use Rattle.sx_extension.specs.States.{States}
+use Rattle.sx_extension.specs.ReadTexts.{read_texts}
+use Rattle.sx_extension.specs.States.{IsExtensionIn}
 
 -- the rules are a rule set, this is their plain table, and each has its body as it should
-pub record AreChecked (g : Ground) (from : Prepared) (x : ReadTexts) (t : PlainTable) : Type 0
+pub record HasCheckedRules (g : Ground) (from : Prepared) (x : ReadTexts) (t : PlainTable) : Type 0
   where
     pub rule_set : HaveRuleSet g from x
     pub table : HaveTable g from x t
@@ -31,13 +31,13 @@ pub record IsExtensionOf (from : Prepared) (x : CheckedTexts) (y : ReadExtension
   pub grammar : y.grammar ≡ from.grammar
   pub rule_grammar : y.rule_grammar ≡ from.rule_grammar
   pub name : y.extension.name ≡ from.name
-  pub rules : named_rules y.extension ≡ (texts_of x.texts).rules
+  pub rules : named_rules y.extension ≡ (read_texts x.texts).rules
   pub bodies : map (λ e. option_map tree e.body) y.extension.rules.items ≡
-      (texts_of x.texts).bodies
-  pub names : y.names.items ≡ (texts_of x.texts).names
+      (read_texts x.texts).bodies
+  pub names : y.names.items ≡ (read_texts x.texts).names
   pub plain : y.extension.plain ≡ x.plain
 
 -- the text states the extension, which fits what it was read after
 pub record IsReadFrom (g : Ground) (bytes : Text) (x : ReadExtension) : Type 0 where
-  pub states : States g bytes x
+  pub states : IsExtensionIn g bytes x
   pub fits : FitsAfter g x

@@ -14,7 +14,7 @@ use Rattle.sx_extension.specs.Bodies.{AreBodied}
 use Rattle.sx_extension.specs.BodyRefusals.{HaveBadBody}
 use Rattle.sx_extension.specs.Grounds.{Ground}
 use Rattle.sx_extension.specs.PlainTables.{IsTableMade}
-use Rattle.sx_extension.specs.ReadTexts.{texts_of}
+use Rattle.sx_extension.specs.ReadTexts.{read_texts}
 use Rattle.sx_extension.specs.Stages.{IsSetRefusal, IsNoTable}
 
 -- the refusal of notation, which is that of an extension
@@ -25,20 +25,20 @@ IsNotationRefusal e x = x ≡ Notation e
 -- the rules before the extension, and then its own, are a rule set
 abbrev pub HaveRuleSet : Ground → Prepared → ReadTexts → Type 0
 HaveRuleSet g from x =
-    IsRuleSet (shapes_of from.grammar.parts) g.forms (g.rules ++ (texts_of x).rules)
+    IsRuleSet (shapes_of from.grammar.parts) g.forms (g.rules ++ (read_texts x).rules)
 
 -- this is the table before the extension with its plain bodies
 abbrev pub HaveTable : Ground → Prepared → ReadTexts → PlainTable → Type 0
 HaveTable g from x t = IsTableMade g.base (shapes_of from.grammar.parts) (length g.shapes) g.table
-    (texts_of x).plains (Ok t)
+    (read_texts x).plains (Ok t)
 
 -- the rules are no rule set, and this is why, memory aside
 abbrev pub HaveNoRuleSet : Ground → Prepared → ReadTexts → ExtensionError → Type 0
 HaveNoRuleSet g from x Memory = Unit {0}
 HaveNoRuleSet g from x (Notation notation.Memory) = ⊥
 HaveNoRuleSet g from x (Notation e) =
-    IsSetRefusal (shapes_of from.grammar.parts) g.forms (g.rules ++ (texts_of x).rules)
-    (map (λ l. l.name) from.rules.items) (texts_of x).names e
+    IsSetRefusal (shapes_of from.grammar.parts) g.forms (g.rules ++ (read_texts x).rules)
+    (map (λ l. l.name) from.rules.items) (read_texts x).names e
 HaveNoRuleSet g from x _ = ⊥
 
 -- the rules are no rule set, or else the plain bodies make no plain table
@@ -46,15 +46,15 @@ abbrev pub AreUnchecked : Ground → Prepared → ReadTexts → ExtensionError �
 AreUnchecked g from x e =
     HaveNoRuleSet g from x e
     ⊎ (HaveRuleSet g from x × IsNoTable g from.grammar.parts (map plain_data from.plains.items)
-    (texts_of x).plains e)
+    (read_texts x).plains e)
 
 -- each rule has its body as it should
 abbrev pub HaveBodies : Ground → Prepared → ReadTexts → Type 0
 HaveBodies g from x = AreBodied g.forms (shapes_of from.grammar.parts) (length g.shapes)
-    (map rule_data from.rules.items) (texts_of x).rules (texts_of x).bodies
+    (map rule_data from.rules.items) (read_texts x).rules (read_texts x).bodies
 
 -- the first rule whose body is not as it should be is refused so, or memory is lacking
 abbrev pub HaveBodyDefect : Ground → Prepared → ReadTexts → ExtensionError → Type 0
 HaveBodyDefect g from x Memory = Unit {0}
 HaveBodyDefect g from x e = HaveBadBody g.forms (shapes_of from.grammar.parts) (length g.shapes)
-    (map rule_data from.rules.items) (texts_of x).rules (texts_of x).bodies e
+    (map rule_data from.rules.items) (read_texts x).rules (read_texts x).bodies e

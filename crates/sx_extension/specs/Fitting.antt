@@ -17,7 +17,7 @@ use Rattle.sx_rules.specs.Deep.{RulesAreShallow}
 use Rattle.sx_rules.specs.Good.{IsRuleSet}
 use Rattle.sx_rules.specs.Views.{rule}
 use Rattle.sx_rewrite.specs.declared.extension_data.ExtensionData.{ExtensionData}
-use Rattle.sx_rewrite.specs.Extensions.{Fits}
+use Rattle.sx_rewrite.specs.Extensions.{FitsRules}
 use Rattle.sx_rewrite.specs.ExtensionView.{ext_rule, named_rules}
 use Rattle.sx_rewrite.specs.Stored.{signature_of}
 use Rattle.sx_notation.specs.Language.{RuleHasLexemes}
@@ -74,7 +74,7 @@ pub record FitsAfter (g : Ground) (x : ReadExtension) : Type 0 where
   pub good : IsRuleSet (shapes_of x.grammar.parts) g.forms (g.rules ++ named_rules x.extension)
   pub usable : ExtensionIsUsable x.extension
   pub labels : x.extension.plain.base ≡ g.base
-  pub fits : Fits (signature_of g.forms) (shapes_of g.language) g.shapes
+  pub fits : FitsRules (signature_of g.forms) (shapes_of g.language) g.shapes
       (shapes_of x.grammar.parts) g.table (table_of x.extension.plain)
       (map ext_rule x.extension.rules.items)
   pub lexemes : ExtensionHasLexemes (literals_of g.language) g.table x.extension

@@ -8,14 +8,14 @@ use Rattle.sx_rules.specs.Sets.{forms_in, rules_in, shapes_in}
 use Rattle.sx_rewrite.specs.ExtensionView.{named_rules}
 use Rattle.sx_notation.specs.declared.language.Language.{Language}
 use Rattle.sx_notation.specs.Language.{IsLanguage}
-use Rattle.sx_language.specs.States.{States as StatesLanguage}
+use Rattle.sx_language.specs.States.{IsLanguageIn as StatesLanguage}
 use Rattle.sx_extension.specs.declared.extension_error.ExtensionError.{ExtensionError}
 use Rattle.sx_extension.specs.declared.extension_error.ExtensionError.TheVariants.{Memory}
 use Rattle.sx_extension.specs.declared.extension.ReadExtension.{ReadExtension}
 use Rattle.sx_extension.specs.Alike.{ShowOtherReadings}
 use Rattle.sx_extension.specs.Fitting.{FitsAfter}
 use Rattle.sx_extension.specs.Grounds.{Ground, HasRoomFor, IsBefore}
-use Rattle.sx_extension.specs.States.{States, IsRefused}
+use Rattle.sx_extension.specs.States.{IsExtensionIn, IsExtensionTextRefused}
 use Rattle.sx_term.specs.Limits.{most_bytes}
 
 -- two extensions are the same, but for where they lie in memory
@@ -41,12 +41,13 @@ pub record SameExtension (x y : ReadExtension) : Type 0 where
 -- A text states one extension, or has one refusal, but for the two readings that it shows of a line
 -- with more than two. Out of memory is free.
 pub record OneExtension : Type 0 where
-  pub found : (g : Ground) (bytes : Text) (x y : ReadExtension) → States g bytes x →
-      States g bytes y → SameExtension x y
+  pub found : (g : Ground) (bytes : Text) (x y : ReadExtension) → IsExtensionIn g bytes x →
+      IsExtensionIn g bytes y → SameExtension x y
   pub either : (g : Ground) (bytes : Text) (x : ReadExtension) (e : ExtensionError) →
-      States g bytes x → IsRefused g bytes e → e ≡ Memory
-  pub refused : (g : Ground) (bytes : Text) (e d : ExtensionError) → IsRefused g bytes e →
-      IsRefused g bytes d → e ≢ Memory → d ≢ Memory →
+      IsExtensionIn g bytes x → IsExtensionTextRefused g bytes e → e ≡ Memory
+  pub refused : (g : Ground) (bytes : Text) (e d : ExtensionError) →
+      IsExtensionTextRefused g bytes e →
+      IsExtensionTextRefused g bytes d → e ≢ Memory → d ≢ Memory →
       (e ≡ d) ⊎ ShowOtherReadings g bytes e d
 
 -- what the first extension of a language is read after: no plain constructor has a body
@@ -89,7 +90,8 @@ pub record LanguagesBegin : Type 0 where
 -- After an extension that is read and fits the next one can be read, where there is room, and each
 -- file takes the room of one. Extensions that are the same are one to those after them.
 pub record ExtensionsGoOn : Type 0 where
-  pub before : (g : Ground) (bytes : Text) (x : ReadExtension) → IsBefore g → States g bytes x →
+  pub before : (g : Ground) (bytes : Text) (x : ReadExtension) → IsBefore g →
+      IsExtensionIn g bytes x →
       FitsAfter g x → HasRoomFor (next_ground g x) 1 → IsBefore (next_ground g x)
   pub room : (g : Ground) (x : ReadExtension) (files more : ℕ) → FitsAfter g x → files < more →
       HasRoomFor g more → HasRoomFor (next_ground g x) files

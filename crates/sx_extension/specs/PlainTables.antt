@@ -7,28 +7,28 @@ use Rattle.sx_plain.specs.declared.plain_error.PlainError.{PlainError}
 use Rattle.sx_plain.specs.declared.plain_error.PlainError.TheVariants as plain
 use Rattle.sx_plain.specs.declared.table.PlainTable.{PlainTable}
 use Rattle.sx_plain.specs.Plain.{Table}
-use Rattle.sx_plain.specs.Adds.{IsAdded}
+use Rattle.sx_plain.specs.Adds.{IsBodyAdded}
 use Rattle.sx_plain.specs.Views.{table_of}
 use Rattle.sx_extension.specs.declared.table_error.TableError.{TableError}
 use Rattle.sx_extension.specs.declared.table_error.TableError.TheVariants.{Memory, Plain, NoPlain}
 use Rattle.sx_extension.specs.PlainBodies.{BodyData}
 
 -- the body is added to the table
-abbrev pub Adds : ℕ → Table → BodyData → Table → Type 0
-Adds base old b new = IsAdded base old new b.label b.parts b.term (Ok tt)
+abbrev pub AddsBody : ℕ → Table → BodyData → Table → Type 0
+AddsBody base old b new = IsBodyAdded base old new b.label b.parts b.term (Ok tt)
 
 -- the bodies are added to the table in order
 abbrev pub AddsAll : ℕ → Table → List BodyData → Table → Type 0
 AddsAll base old [] new = (label : ℕ) → new label ≡ old label
-AddsAll base old (b ∷ bs) new = (middle : Table) × Adds base old b middle ×
+AddsAll base old (b ∷ bs) new = (middle : Table) × AddsBody base old b middle ×
     AddsAll base middle bs new
 
 -- the bodies before the one with this number are added, and that one is refused
 abbrev pub IsFirstRefused : ℕ → Table → List BodyData → ℕ → PlainError → Type 0
 IsFirstRefused base old [] number e = ⊥
-IsFirstRefused base old (b ∷ bs) zero e = IsAdded base old old b.label b.parts b.term (Err e)
+IsFirstRefused base old (b ∷ bs) zero e = IsBodyAdded base old old b.label b.parts b.term (Err e)
 IsFirstRefused base old (b ∷ bs) (suc number) e =
-    (middle : Table) × Adds base old b middle × IsFirstRefused base middle bs number e
+    (middle : Table) × AddsBody base old b middle × IsFirstRefused base middle bs number e
 
 -- the label is that of a plain constructor
 abbrev pub IsPlainLabel : List Shape → ℕ → Type 0
@@ -58,10 +58,10 @@ IsReason plain.Memory = ⊥
 IsReason _ = Unit {0}
 
 -- the refusal of the body with this number
-abbrev pub IsRefusal : ℕ → PlainError → TableError → Type 0
-IsRefusal number e Memory = e ≡ plain.Memory
-IsRefusal number e (Plain n x) = IsReason e × (n ≡ number) × (x ≡ e)
-IsRefusal number e (NoPlain label) = ⊥
+abbrev pub IsTableRefusal : ℕ → PlainError → TableError → Type 0
+IsTableRefusal number e Memory = e ≡ plain.Memory
+IsTableRefusal number e (Plain n x) = IsReason e × (n ≡ number) × (x ≡ e)
+IsTableRefusal number e (NoPlain label) = ⊥
 
 -- memory is lacking, or this is the first body that is refused
 abbrev pub IsNotAdded : ℕ → Table → List BodyData → TableError → Type 0

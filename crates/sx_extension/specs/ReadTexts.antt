@@ -4,7 +4,7 @@ use Rattle.sx_term.specs.Term.{tree}
 use Rattle.sx_rules.specs.Views as view
 use Rattle.sx_outline.specs.Stages.{plain_data, rule_data}
 use Rattle.sx_notation.specs.declared.notation_error.NotationError.{NotationError}
-use Rattle.sx_language.specs.RuleTexts.{AreRules, IsFirstBad}
+use Rattle.sx_language.specs.RuleTexts.{AreRules, IsFirstBadRule}
 use Rattle.sx_extension.specs.declared.prepared.Prepared.{Prepared}
 use Rattle.sx_extension.specs.declared.read_texts.ReadTexts.{ReadTexts}
 use Rattle.sx_extension.specs.Grounds.{Ground}
@@ -13,8 +13,8 @@ use Rattle.sx_extension.specs.Readings.{Texts, tables, ArePlainsRead, IsFirstBad
 use Rattle.sx_extension.specs.Stages.{reader_of}
 
 -- texts without their memory
-abbrev pub texts_of : ReadTexts → Texts
-texts_of x = record {
+abbrev pub read_texts : ReadTexts → Texts
+read_texts x = record {
   plains = map body_data x.plains.items;
   rules = map view.named x.rules.rules.items;
   names = x.rules.names.items;
@@ -24,9 +24,9 @@ texts_of x = record {
 -- the pairs and the lines of the rules state these texts
 pub record AreTextsOf (g : Ground) (from : Prepared) (x : ReadTexts) : Type 0 where
   pub plains : ArePlainsRead from.grammar.parts (tables (reader_of g from))
-      (map plain_data from.plains.items) (texts_of x).plains
-  pub rules : AreRules (reader_of g from) (map rule_data from.rules.items) (texts_of x).names
-      (texts_of x).rules (texts_of x).bodies
+      (map plain_data from.plains.items) (read_texts x).plains
+  pub rules : AreRules (reader_of g from) (map rule_data from.rules.items) (read_texts x).names
+      (read_texts x).rules (read_texts x).bodies
 
 -- the first bad line of the pairs is refused, or these are read and that of the rules is
 abbrev pub AreBadTextsOf : Ground → Prepared → NotationError → Type 0
@@ -36,4 +36,4 @@ AreBadTextsOf g from e =
     ⊎ ((bs : List BodyData) ×
     ArePlainsRead from.grammar.parts (tables (reader_of g from))
     (map plain_data from.plains.items) bs
-    × IsFirstBad (reader_of g from) (map rule_data from.rules.items) e)
+    × IsFirstBadRule (reader_of g from) (map rule_data from.rules.items) e)

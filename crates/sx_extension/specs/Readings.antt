@@ -7,7 +7,7 @@ use Rattle.sx_grammar.specs.Grammar.{Text}
 use Rattle.sx_grammar.specs.Parts.{Line, Parts, labels}
 use Rattle.sx_grammar.specs.Tables.{GrammarData}
 use Rattle.sx_grammar.specs.Made.{IsGrammar}
-use Rattle.sx_grammar.specs.Told.{IsSortOf}
+use Rattle.sx_grammar.specs.Told.{IsSortOfLabel}
 use Rattle.sx_grammar.specs.Extended.{extended}
 use Rattle.sx_rules.specs.Views.{NamedRule}
 use Rattle.sx_directives.specs.declared.rows.FormLine.{FormLine}
@@ -20,7 +20,7 @@ use Rattle.sx_notation.specs.RuleParts.{rule_parts}
 use Rattle.sx_notation.specs.ReadText.{ReaderData}
 use Rattle.sx_notation.specs.ReadAmong.{IsReadAmong, IsRefusedAmong}
 use Rattle.sx_language.specs.RuleLine.{Reader}
-use Rattle.sx_language.specs.RuleTexts.{AreRules, IsFirstBad}
+use Rattle.sx_language.specs.RuleTexts.{AreRules, IsFirstBadRule}
 use Rattle.sx_language.specs.States.{AreStems, IsNoGrammar}
 use Rattle.sx_extension.specs.Grounds.{Ground, HasForms}
 use Rattle.sx_extension.specs.PlainBodies.{BodyData}
@@ -73,7 +73,7 @@ pub record IsReadable (g : Ground) (bytes : Text) (o : ExtensionOutlineData)
 -- the production with this number has this label and makes this sort
 abbrev pub IsProduction : Parts → (label : Text) → (number : ℕ) → Sort → Type 0
 IsProduction p label number sort =
-    (slice_get (labels p) number ≡ Some label) × IsSortOf p number sort
+    (slice_get (labels p) number ≡ Some label) × IsSortOfLabel p number sort
 
 -- the pair states the plain body: the production has its label, and the term is that of the only
 -- reading of its line at the production's sort, by the names of the parts
@@ -122,4 +122,4 @@ pub record AreRead (p : Parts) (r : Reader) (o : ExtensionOutlineData) (x : Text
 abbrev pub IsBadText : Parts → Reader → ExtensionOutlineData → NotationError → Type 0
 IsBadText p r o e =
     IsFirstBadPlain p (tables r) o.plains e
-    ⊎ ((bs : List BodyData) × ArePlainsRead p (tables r) o.plains bs × IsFirstBad r o.rules e)
+    ⊎ ((bs : List BodyData) × ArePlainsRead p (tables r) o.plains bs × IsFirstBadRule r o.rules e)

@@ -6,18 +6,19 @@ use Rattle.sx_term.specs.declared.sort.Sort.{Sort}
 use Rattle.sx_grammar.specs.Grammar.{Text}
 use Rattle.sx_grammar.specs.Parts.{Line, Parts, labels, literals}
 use Rattle.sx_grammar.specs.Tables.{IsWithinLimits}
-use Rattle.sx_grammar.specs.Told.{IsSortOf, shapes_of}
+use Rattle.sx_grammar.specs.Told.{IsSortOfLabel, shapes_of}
 use Rattle.sx_earley.specs.Completed.{IsSort}
 use Rattle.sx_term.specs.Sorts.{Shape}
 use Rattle.sx_rules.specs.declared.error.RuleError.{RuleError}
-use Rattle.sx_rules.specs.Good.{IsRefused as IsNoRuleSet}
+use Rattle.sx_rules.specs.Good.{IsRuleSetRefused as IsNoRuleSet}
 use Rattle.sx_rules.specs.Views.{FormData, NamedRule}
 use Rattle.sx_directives.specs.declared.rows.FormLine.{FormLine}
 use Rattle.sx_directives.specs.declared.rows.VarLine.{VarLine}
 use Rattle.sx_outline.specs.declared.extension_outline.ExtensionOutline.{ExtensionOutline}
 use Rattle.sx_outline.specs.declared.outline_error.OutlineError.{OutlineError}
 use Rattle.sx_outline.specs.declared.outline_error.OutlineError.TheVariants as outline
-use Rattle.sx_outline.specs.Fitting.{AreDistinct, ArePartNames}
+use Rattle.sx_outline.specs.Fitting.{ArePartNames}
+use Rattle.sx_lines.specs.Distinct.{AreTextsDistinct}
 use Rattle.sx_outline.specs.Sized.{HasShortLines}
 use Rattle.sx_outline.specs.Stages.{PlainData, plain_data, rule_data}
 use Rattle.sx_outline.specs.ExtensionOutlined.{ExtensionOutlineData, extension_outline}
@@ -28,7 +29,7 @@ use Rattle.sx_notation.specs.declared.notation_error.NotationError.TheVariants.{
 use Rattle.sx_notation.specs.declared.notation_error.NotationError.TheVariants.{Notation, Grammar}
 use Rattle.sx_notation.specs.ReadText.{ReaderData}
 use Rattle.sx_notation.specs.RuleParts.{rule_parts}
-use Rattle.sx_language.specs.RuleLine.{Reader, CanRead}
+use Rattle.sx_language.specs.RuleLine.{Reader, CanReadRules}
 use Rattle.sx_language.specs.States.{AreStems, IsNameOfSort}
 use Rattle.sx_language.specs.Prepared.{IsRuleRefusal}
 use Rattle.sx_extension.specs.declared.prepared.Prepared.{Prepared}
@@ -56,7 +57,7 @@ HasFewProductions o = length o.productions + length (literals (own_parts o)) ≤
 
 -- the text has the outline, which fits the language, few productions, and lines of at most 262,144
 -- bytes
-pub record IsUsable (g : Ground) (bytes : Text) (o : ExtensionOutline) : Type 0 where
+pub record IsUsableExtension (g : Ground) (bytes : Text) (o : ExtensionOutline) : Type 0 where
   pub before : List VarLine
   pub stems : AreStems g.language before g.stems
   pub outlined : IsExtensionAnswer g.language.sorts before bytes (Ok (extension_outline o))
@@ -104,21 +105,21 @@ reader_of g x = record {
 -- distinct, and its line is not too long
 pub record CanReadPlain (p : Parts) (r : ReaderData) (l : PlainData) : Type 0 where
   pub there : Contains (labels p) l.label
-  pub sort : (number : ℕ) (s : Sort) → IsSortOf p number s → IsSort r.parts s
-  pub once : AreDistinct l.names
+  pub sort : (number : ℕ) (s : Sort) → IsSortOfLabel p number s → IsSort r.parts s
+  pub once : AreTextsDistinct l.names
   pub short : length l.body.text ≤ most_bytes
 
 -- the plain pairs and the lines of the rules can be read
 pub record CanReadTexts (g : Ground) (x : Prepared) : Type 0 where
   pub few : length x.grammar.parts.productions < 2 ^ 32 - 1
-  pub can : CanRead (reader_of g x)
+  pub can : CanReadRules (reader_of g x)
   pub pairs : AllByRecursion (CanReadPlain x.grammar.parts (tables (reader_of g x)))
       (map plain_data x.plains.items)
   pub short : AllByRecursion (λ l. HasShortLines most_bytes (rule_data l)) x.rules.items
 
 -- the text has an outline with grammars and few productions, whose plain pairs have the names of
 -- their parts, and this is made of it
-pub record IsPrepared (g : Ground) (bytes : Text) (x : Prepared) : Type 0 where
+pub record IsPreparedExtension (g : Ground) (bytes : Text) (x : Prepared) : Type 0 where
   pub from : ExtensionOutlineData
   pub readable : IsReadable g bytes from x.grammar x.rule_grammar (reader_of g x)
   pub name : x.name ≡ from.header.name

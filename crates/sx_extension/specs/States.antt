@@ -7,7 +7,7 @@ use Rattle.sx_grammar.specs.Tables.{GrammarData}
 use Rattle.sx_grammar.specs.Told.{shapes_of}
 use Rattle.sx_rules.specs.declared.error.RuleError.{RuleError}
 use Rattle.sx_rules.specs.declared.error.RuleError.TheVariants as rules
-use Rattle.sx_rules.specs.Good.{IsRuleSet, IsRefused as IsNoRuleSet}
+use Rattle.sx_rules.specs.Good.{IsRuleSet, IsRuleSetRefused as IsNoRuleSet}
 use Rattle.sx_plain.specs.declared.table.PlainTable.{PlainTable}
 use Rattle.sx_outline.specs.declared.outline_error.OutlineError.TheVariants as outline
 use Rattle.sx_outline.specs.ExtensionOutlined.{ExtensionOutlineData}
@@ -52,7 +52,7 @@ HasBodies g o x = AreBodied g.forms (shapes_of (with_own g o.productions)) (leng
     o.rules x.rules x.bodies
 
 -- the text states the extension
-pub record States (g : Ground) (bytes : Text) (x : ReadExtension) : Type 0 where
+pub record IsExtensionIn (g : Ground) (bytes : Text) (x : ReadExtension) : Type 0 where
   pub outline : ExtensionOutlineData
   pub texts : Texts
   pub read : IsReadAs g bytes outline x.grammar x.rule_grammar texts
@@ -132,13 +132,16 @@ IsBadNotation g bytes (Read line e) = HasBadText g bytes (Read line e)
 IsBadNotation g bytes (Rules e unbound) = HasNoRuleSet g bytes e unbound
 
 -- why the text states no extension, out of memory aside
-abbrev pub IsRefused : Ground → Text → ExtensionError → Type 0
-IsRefused g bytes extension.Memory = Unit {0}
-IsRefused g bytes (extension.Notation e) = IsBadNotation g bytes e
-IsRefused g bytes (extension.Plain label defect) =
+abbrev pub IsExtensionTextRefused : Ground → Text → ExtensionError → Type 0
+IsExtensionTextRefused g bytes extension.Memory = Unit {0}
+IsExtensionTextRefused g bytes (extension.Notation e) = IsBadNotation g bytes e
+IsExtensionTextRefused g bytes (extension.Plain label defect) =
     HasNoTable g bytes (extension.Plain label defect)
-IsRefused g bytes (extension.NoPlain label) = HasNoTable g bytes (extension.NoPlain label)
-IsRefused g bytes (extension.NoBody rule) = HasBodyDefect g bytes (extension.NoBody rule)
-IsRefused g bytes (extension.BodySort rule) = HasBodyDefect g bytes (extension.BodySort rule)
-IsRefused g bytes (extension.BodyExtended rule) =
+IsExtensionTextRefused g bytes (extension.NoPlain label) = HasNoTable g bytes
+    (extension.NoPlain label)
+IsExtensionTextRefused g bytes (extension.NoBody rule) = HasBodyDefect g bytes
+    (extension.NoBody rule)
+IsExtensionTextRefused g bytes (extension.BodySort rule) = HasBodyDefect g bytes
+    (extension.BodySort rule)
+IsExtensionTextRefused g bytes (extension.BodyExtended rule) =
     HasBodyDefect g bytes (extension.BodyExtended rule)

@@ -6,7 +6,7 @@ ghost use Rattle.sx_outline.specs.Stages.{rule_data};
 ghost use Rattle.sx_extension.specs.Bodies.{AreBodied};
 ghost use Rattle.sx_extension.specs.BodyRefusals.{IsBodyRefusal, HaveBadBody};
 ghost use Rattle.sx_extension.specs.Grounds.{ground};
-ghost use Rattle.sx_extension.specs.ReadTexts.{texts_of, AreTextsOf};
+ghost use Rattle.sx_extension.specs.ReadTexts.{read_texts, AreTextsOf};
 
 use crate::before::Before;
 use crate::body_checking::first_defect;
@@ -52,10 +52,10 @@ pub(crate) fn check_bodies(
     requires { AreTextsOf (ground before.now) prepared.now texts.now }
     ensures good { IfOk result (λ _. AreBodied (ground before.now).forms (shapes all.now)
         (length (ground before.now).shapes) (map rule_data prepared.now.rules.items)
-        (texts_of texts.now).rules (texts_of texts.now).bodies) }
+        (read_texts texts.now).rules (read_texts texts.now).bodies) }
     ensures refused { IfErr result (HaveBadBody (ground before.now).forms (shapes all.now)
         (length (ground before.now).shapes) (map rule_data prepared.now.rules.items)
-        (texts_of texts.now).rules (texts_of texts.now).bodies) }
+        (read_texts texts.now).rules (read_texts texts.now).bodies) }
 {
     let own = OwnSyntax {
         shapes: all,

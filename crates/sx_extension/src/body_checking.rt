@@ -8,7 +8,7 @@ ghost use Rattle.sx_term.specs.Term.{tree};
 ghost use Rattle.sx_term.specs.Tree.{depth_of};
 ghost use Rattle.sx_term.specs.Shapes.{shapes};
 ghost use Rattle.sx_rules.specs.Views as view;
-ghost use Rattle.sx_outline.specs.Stages.{numbered, rule_data};
+ghost use Rattle.sx_outline.specs.Stages.{numbered_rule_line, rule_data};
 ghost use Rattle.sx_language.specs.RuleLine.{subject_sort};
 ghost use Rattle.sx_extension.specs.Bodies.{IsReadBody, IsBodied, HasDefect, AreReadBodies};
 ghost use Rattle.sx_extension.specs.Bodies.{AreBodied, IsFirstDefect};
@@ -44,12 +44,13 @@ fn body_defect(
 ) -> Option<BodyDefect>
     requires shallow { IfSome body.now (λ t. depth_of (tree t) ≤ most_depth) }
     ensures { (subject : Option Sort) → (IsTrue has_subject ↔ IsSome subject) →
-        IsReadBody subject (option_map numbered line.now) (option_map tree body.now) →
+        IsReadBody subject (option_map numbered_rule_line line.now) (option_map tree body.now) →
         MatchOption result
-        (IsBodied (shapes own.now.shapes.now) own.now.first subject (option_map numbered line.now)
+        (IsBodied (shapes own.now.shapes.now) own.now.first subject
+        (option_map numbered_rule_line line.now)
         (option_map tree body.now))
         (HasDefect (shapes own.now.shapes.now) own.now.first subject
-        (option_map numbered line.now) (option_map tree body.now)) }
+        (option_map numbered_rule_line line.now) (option_map tree body.now)) }
 {
     if !has_subject {
         return match line {

@@ -2,11 +2,11 @@
 
 ghost use Rattle.std.specs.Prelude.{ℕ, List, IfOk, IfErr};
 ghost use Rattle.sx_extension.specs.Grounds.{ground, IsBefore};
-ghost use Rattle.sx_extension.specs.Stages.{IsPrepared};
+ghost use Rattle.sx_extension.specs.Stages.{IsPreparedExtension};
 ghost use Rattle.sx_extension.specs.ReadTexts.{AreTextsOf};
 ghost use Rattle.sx_extension.specs.Checks.{HaveBodies, HaveBodyDefect};
-ghost use Rattle.sx_extension.specs.Checked.{AreChecked};
-ghost use Rattle.sx_extension.specs.States.{IsRefused};
+ghost use Rattle.sx_extension.specs.Checked.{HasCheckedRules};
+ghost use Rattle.sx_extension.specs.States.{IsExtensionTextRefused};
 
 use crate::before::Before;
 use crate::bodies_of_rules::check_bodies;
@@ -44,11 +44,13 @@ pub(crate) fn check_extension(
     texts: &ReadTexts,
 ) -> Result<PlainTable, ExtensionError>
     requires before { IsBefore (ground before.now) }
-    requires prepared { (bytes : List ℕ) × IsPrepared (ground before.now) bytes prepared.now }
+    requires prepared { (bytes : List ℕ) × IsPreparedExtension
+        (ground before.now) bytes prepared.now }
     requires texts { AreTextsOf (ground before.now) prepared.now texts.now }
-    ensures checked { IfOk result (AreChecked (ground before.now) prepared.now texts.now) }
-    ensures refused { (bytes : List ℕ) → IsPrepared (ground before.now) bytes prepared.now →
-        IfErr result (IsRefused (ground before.now) bytes) }
+    ensures checked { IfOk result (HasCheckedRules (ground before.now) prepared.now texts.now) }
+    ensures refused { (bytes : List ℕ) → IsPreparedExtension
+        (ground before.now) bytes prepared.now →
+        IfErr result (IsExtensionTextRefused (ground before.now) bytes) }
 {
     let plain = match check_texts(alloc, before, prepared, texts) {
         Ok(plain) => plain,

@@ -2,11 +2,11 @@
 
 ghost use Rattle.std.specs.Prelude.{◌≡◌, ◌≤◌, ℕ, List, length, IfOk, IfErr};
 ghost use Rattle.sx_extension.specs.Grounds.{ground, IsBefore};
-ghost use Rattle.sx_extension.specs.Stages.{IsPrepared};
+ghost use Rattle.sx_extension.specs.Stages.{IsPreparedExtension};
 ghost use Rattle.sx_extension.specs.ReadTexts.{AreTextsOf};
-ghost use Rattle.sx_extension.specs.Checked.{AreChecked, IsExtensionOf, IsReadFrom};
+ghost use Rattle.sx_extension.specs.Checked.{HasCheckedRules, IsExtensionOf, IsReadFrom};
 ghost use Rattle.sx_extension.specs.Fitting.{FitsAfter};
-ghost use Rattle.sx_extension.specs.States.{States, IsRefused};
+ghost use Rattle.sx_extension.specs.States.{IsExtensionIn, IsExtensionTextRefused};
 ghost use Rattle.sx_term.specs.Limits.{most_bytes};
 
 use crate::before::Before;
@@ -33,12 +33,14 @@ fn read_checked(
     prepared: &Prepared,
 ) -> Result<CheckedTexts, ExtensionError>
     requires before { IsBefore (ground before.now) }
-    requires prepared { (bytes : List ℕ) × IsPrepared (ground before.now) bytes prepared.now }
+    requires prepared { (bytes : List ℕ) × IsPreparedExtension
+        (ground before.now) bytes prepared.now }
     ensures read { IfOk result (λ x. AreTextsOf (ground before.now) prepared.now x.texts) }
     ensures checked { IfOk result (λ x.
-        AreChecked (ground before.now) prepared.now x.texts x.plain) }
-    ensures refused { (bytes : List ℕ) → IsPrepared (ground before.now) bytes prepared.now →
-        IfErr result (IsRefused (ground before.now) bytes) }
+        HasCheckedRules (ground before.now) prepared.now x.texts x.plain) }
+    ensures refused { (bytes : List ℕ) → IsPreparedExtension
+        (ground before.now) bytes prepared.now →
+        IfErr result (IsExtensionTextRefused (ground before.now) bytes) }
 {
     let texts = match read_texts(alloc, before, prepared) {
         Ok(texts) => texts,
@@ -109,11 +111,11 @@ fn read_prepared(
     prepared: Prepared,
 ) -> Result<ReadExtension, ExtensionError>
     requires before { IsBefore (ground before.now) }
-    requires prepared { (bytes : List ℕ) × IsPrepared (ground before.now) bytes prepared }
-    ensures read { (bytes : List ℕ) → IsPrepared (ground before.now) bytes prepared →
+    requires prepared { (bytes : List ℕ) × IsPreparedExtension (ground before.now) bytes prepared }
+    ensures read { (bytes : List ℕ) → IsPreparedExtension (ground before.now) bytes prepared →
         IfOk result (IsReadFrom (ground before.now) bytes) }
-    ensures refused { (bytes : List ℕ) → IsPrepared (ground before.now) bytes prepared →
-        IfErr result (IsRefused (ground before.now) bytes) }
+    ensures refused { (bytes : List ℕ) → IsPreparedExtension (ground before.now) bytes prepared →
+        IfErr result (IsExtensionTextRefused (ground before.now) bytes) }
 {
     match read_checked(alloc, before, &prepared) {
         Ok(checked) => match extension_of(alloc, prepared, checked) {
@@ -139,9 +141,9 @@ pub fn read_extension(
 ) -> Result<ReadExtension, ExtensionError>
     requires before { IsBefore (ground before.now) }
     requires short { length bytes.now ≤ most_bytes }
-    ensures stated { IfOk result (States (ground before.now) bytes.now) }
+    ensures stated { IfOk result (IsExtensionIn (ground before.now) bytes.now) }
     ensures fits { IfOk result (FitsAfter (ground before.now)) }
-    ensures refused { IfErr result (IsRefused (ground before.now) bytes.now) }
+    ensures refused { IfErr result (IsExtensionTextRefused (ground before.now) bytes.now) }
 {
     match prepare(alloc, before, bytes) {
         Ok(prepared) => read_prepared(alloc, before, prepared),

@@ -4,7 +4,7 @@ ghost use Rattle.std.specs.Prelude.{◌≡◌, ◌-◌, ◌<◌, ◌≤◌, ◌^
 ghost use Rattle.std.specs.Prelude.{slice_get, IfOk};
 ghost use Rattle.sx_term.specs.Cutting.{AreDistinct as AreOnce};
 ghost use Rattle.sx_term.specs.Vars.{IsAdded};
-ghost use Rattle.sx_outline.specs.Fitting.{AreDistinct};
+ghost use Rattle.sx_lines.specs.Distinct.{AreTextsDistinct};
 ghost use Rattle.sx_term.specs.Limits.{most_bytes};
 
 use std::alloc::Global;
@@ -25,7 +25,7 @@ fn add_copy(alloc: Global, names: &mut Vars, name: &Text) -> Result<u32, NoMemor
 /// The names, none of which stands twice, with their numbers. More than 262,144 take more memory
 /// than there is.
 pub(crate) fn part_names(alloc: Global, names: &[Text]) -> Result<Vars, NoMemory>
-    requires { AreDistinct names.now }
+    requires { AreTextsDistinct names.now }
     ensures same { IfOk result (λ v. v ≡ names.now) }
     ensures few { IfOk result (λ _. length names.now ≤ most_bytes) }
 {

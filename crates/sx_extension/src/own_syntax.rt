@@ -5,7 +5,7 @@ ghost use Rattle.sx_term.specs.Tree.{depth_of};
 ghost use Rattle.sx_term.specs.Term.{tree};
 ghost use Rattle.sx_term.specs.Shapes.{shapes};
 ghost use Rattle.sx_term.specs.declared.sort.Sort.TheVariants as sorts;
-ghost use Rattle.sx_extension.specs.OwnSyntax.{IsOwn, HasOwn};
+ghost use Rattle.sx_extension.specs.OwnSyntax.{IsOwnLabel, HasOwn};
 ghost use Rattle.sx_term.specs.Limits.{most_depth};
 
 use sx_term::{Shapes, Sort, Term};
@@ -27,7 +27,7 @@ fn is_typed(sort: Sort) -> bool
 impl<'a> OwnSyntax<'a> {
     /// Whether the label is one of these.
     fn has(&self, label: u32) -> bool
-        ensures { IsTrue result ↔ IsOwn (shapes self.now.shapes.now) self.now.first label }
+        ensures { IsTrue result ↔ IsOwnLabel (shapes self.now.shapes.now) self.now.first label }
     {
         let label = label as usize;
         if label < self.first || label >= self.shapes.cons.len() {

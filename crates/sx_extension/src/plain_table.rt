@@ -6,11 +6,11 @@ ghost use Rattle.std.specs.List.{AllByRecursion};
 ghost use Rattle.sx_term.specs.Shapes.{shapes};
 ghost use Rattle.sx_term.specs.Untyped.{IsUntypedSort};
 ghost use Rattle.sx_plain.specs.Tables.{Begins, Desugars, HasBodies};
-ghost use Rattle.sx_plain.specs.Adds.{IsAdded};
+ghost use Rattle.sx_plain.specs.Adds.{IsBodyAdded};
 ghost use Rattle.sx_plain.specs.Views.{table_of};
 ghost use Rattle.sx_extension.specs.PlainBodies.{body_data, IsBodyOf};
 ghost use Rattle.sx_extension.specs.PlainTables.{AddsAll, IsPlainLabel, LacksEntry, HasAll};
-ghost use Rattle.sx_extension.specs.PlainTables.{IsFirstWithout, IsRefusal, IsNotAdded};
+ghost use Rattle.sx_extension.specs.PlainTables.{IsFirstWithout, IsTableRefusal, IsNotAdded};
 ghost use Rattle.sx_extension.specs.PlainTables.{IsTableMade};
 
 use crate::layers::Layers;
@@ -34,7 +34,7 @@ fn add_body(
         (table_of table.old) }
     requires body { IsBodyOf (shapes layers.now.all.now) (length (shapes layers.now.before.now))
         (body_data body.now) }
-    ensures answer { IsAdded table.old.base (table_of table.old) (table_of table.new)
+    ensures answer { IsBodyAdded table.old.base (table_of table.old) (table_of table.new)
         body.now.label body.now.parts (body_data body.now).term result }
     ensures bodies { IfOk result (λ _. HasBodies (shapes layers.now.base.now)
         (shapes layers.now.all.now) (table_of table.new)) }
@@ -80,7 +80,7 @@ fn add_bodies(
 
 /// The refusal of the body with this number.
 fn refusal(number: usize, error: PlainError) -> TableError
-    ensures { IsRefusal number error result }
+    ensures { IsTableRefusal number error result }
 {
     match error {
         PlainError::Memory => TableError::Memory,

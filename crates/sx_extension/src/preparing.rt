@@ -3,7 +3,8 @@
 ghost use Rattle.std.specs.Prelude.{◌≡◌, ◌≤◌, length, IfOk, IfErr};
 ghost use Rattle.sx_extension.specs.Grounds.{ground, IsBefore};
 ghost use Rattle.sx_language.specs.States.{AreStems};
-ghost use Rattle.sx_extension.specs.Stages.{IsOutlineRefusal, IsUsable, IsUnoutlined, IsPrepared};
+ghost use Rattle.sx_extension.specs.Stages.{IsOutlineRefusal, IsUsableExtension, IsUnoutlined};
+ghost use Rattle.sx_extension.specs.Stages.{IsPreparedExtension};
 ghost use Rattle.sx_extension.specs.Stages.{IsUnprepared};
 ghost use Rattle.sx_term.specs.Limits.{most_bytes};
 
@@ -39,7 +40,7 @@ fn outline_after(
     requires before { IsBefore (ground before.now) }
     requires stems { AreStems (ground before.now).language vars.now (ground before.now).stems }
     requires short { length bytes.now ≤ most_bytes }
-    ensures usable { IfOk result (IsUsable (ground before.now) bytes.now) }
+    ensures usable { IfOk result (IsUsableExtension (ground before.now) bytes.now) }
     ensures refused { IfErr result (IsUnoutlined (ground before.now) bytes.now) }
 {
     before.grammar.facts();
@@ -59,7 +60,7 @@ fn outline_of(
 ) -> Result<ExtensionOutline, NotationError>
     requires before { IsBefore (ground before.now) }
     requires short { length bytes.now ≤ most_bytes }
-    ensures usable { IfOk result (IsUsable (ground before.now) bytes.now) }
+    ensures usable { IfOk result (IsUsableExtension (ground before.now) bytes.now) }
     ensures refused { IfErr result (IsUnoutlined (ground before.now) bytes.now) }
 {
     let language = before.language;
@@ -91,7 +92,7 @@ pub(crate) fn prepare(
 ) -> Result<Prepared, NotationError>
     requires before { IsBefore (ground before.now) }
     requires short { length bytes.now ≤ most_bytes }
-    ensures prepared { IfOk result (IsPrepared (ground before.now) bytes.now) }
+    ensures prepared { IfOk result (IsPreparedExtension (ground before.now) bytes.now) }
     ensures refused { IfErr result (IsUnprepared (ground before.now) bytes.now) }
 {
     let ExtensionOutline {

@@ -6,7 +6,7 @@ ghost use Rattle.sx_grammar.specs.Told.{shapes_of};
 ghost use Rattle.sx_plain.specs.Tables.{Desugars};
 ghost use Rattle.sx_plain.specs.Views.{table_of};
 ghost use Rattle.sx_extension.specs.Grounds.{ground, IsBefore};
-ghost use Rattle.sx_extension.specs.Stages.{IsPrepared};
+ghost use Rattle.sx_extension.specs.Stages.{IsPreparedExtension};
 ghost use Rattle.sx_extension.specs.ReadTexts.{AreTextsOf};
 ghost use Rattle.sx_extension.specs.Checks.{IsNotationRefusal, HaveRuleSet, HaveTable};
 ghost use Rattle.sx_extension.specs.Checks.{AreUnchecked};
@@ -42,7 +42,8 @@ fn check_by(
 ) -> Result<PlainTable, ExtensionError>
     requires before { IsBefore (ground before.now) }
     requires all { shapes all.now ≡ shapes_of prepared.now.grammar.parts }
-    requires prepared { (bytes : List ℕ) × IsPrepared (ground before.now) bytes prepared.now }
+    requires prepared { (bytes : List ℕ) × IsPreparedExtension
+        (ground before.now) bytes prepared.now }
     requires texts { AreTextsOf (ground before.now) prepared.now texts.now }
     ensures rules { IfOk result (λ _. HaveRuleSet (ground before.now) prepared.now texts.now) }
     ensures table { IfOk result (HaveTable (ground before.now) prepared.now texts.now) }
@@ -69,7 +70,8 @@ pub(crate) fn check_texts(
     texts: &ReadTexts,
 ) -> Result<PlainTable, ExtensionError>
     requires before { IsBefore (ground before.now) }
-    requires prepared { (bytes : List ℕ) × IsPrepared (ground before.now) bytes prepared.now }
+    requires prepared { (bytes : List ℕ) × IsPreparedExtension
+        (ground before.now) bytes prepared.now }
     requires texts { AreTextsOf (ground before.now) prepared.now texts.now }
     ensures rules { IfOk result (λ _. HaveRuleSet (ground before.now) prepared.now texts.now) }
     ensures table { IfOk result (HaveTable (ground before.now) prepared.now texts.now) }

@@ -4,7 +4,7 @@ ghost use Rattle.std.specs.Prelude.{map, option_map, IfOk, IfErr};
 ghost use Rattle.sx_term.specs.Term.{tree};
 ghost use Rattle.sx_rules.specs.Views as view;
 ghost use Rattle.sx_outline.specs.Stages.{plain_data, rule_data};
-ghost use Rattle.sx_language.specs.RuleTexts.{AreRules, IsFirstBad, OrMemory};
+ghost use Rattle.sx_language.specs.RuleTexts.{AreRules, IsFirstBadRule, OrMemory};
 ghost use Rattle.sx_extension.specs.Grounds.{ground};
 ghost use Rattle.sx_extension.specs.PlainBodies.{body_data};
 ghost use Rattle.sx_extension.specs.Readings.{tables, ArePlainsRead, IsFirstBadPlain};
@@ -50,7 +50,7 @@ fn read_own_rules(
     ensures read { IfOk result (λ x. AreRules (reader_of (ground before.now) prepared.now)
         (map rule_data prepared.now.rules.items) x.names.items (map view.named x.rules.items)
         (map (option_map tree) x.bodies.items)) }
-    ensures refused { IfErr result (OrMemory (IsFirstBad
+    ensures refused { IfErr result (OrMemory (IsFirstBadRule
         (reader_of (ground before.now) prepared.now) (map rule_data prepared.now.rules.items))) }
 {
     let by = RuleReader {

@@ -12,9 +12,10 @@ use Rattle.sx_forest.specs.declared.entry.Entry.{Entry}
 use Rattle.sx_forest.specs.declared.fork.Fork.{Fork}
 use Rattle.sx_forest.specs.declared.fork.Fork.TheVariants.{Apart, Inside}
 use Rattle.sx_forest.specs.Tallies.{tally_of, IsLastRow}
-use Rattle.sx_forest.specs.Rows.{list_at}
+use Rattle.sx_forest.specs.Rows.{entries_at}
 use Rattle.sx_forest.specs.Table.{IsFull}
-use Rattle.sx_forest.specs.Forests.{depth_in, IsMore, IsBy, IsShallow, IsUsable, IsFirstUsable, IsForkOf, IsParting, one_of, other_of}
+use Rattle.sx_forest.specs.Forests.{depth_in, IsMore, IsBy, IsShallowEntry, IsUsableEntry}
+use Rattle.sx_forest.specs.Forests.{IsFirstUsable, IsForkOf, IsParting, one_of, other_of}
 use Rattle.sx_forest.proofs.Counting.{KidOf, kid_reads, kid_fits, kid_tally}
 use Rattle.sx_forest.proofs.Using.{useful_at_end}
 use Rattle.sx_forest.proofs.Whole.{covered}
@@ -34,7 +35,7 @@ one_at_most P depth (more_ways d) h few a b p q = absurd (few tt)
 module _ (g : Grammar) (tokens : List Token) (start : ℕ) (levels : HasLevels g) (lists : List (Vec Entry)) (full : IsFull g tokens start lists)
     (row : ℕ → Tally) (last : IsLastRow (length tokens) row) where
   abbrev Used : Entry → Type 0
-  Used e = IsUsable g start 0 row e
+  Used e = IsUsableEntry g start 0 row e
 
   abbrev Kid : Entry → Reading → Type 0
   Kid e r = KidOf g tokens e.maker start 0 0 e.to r
@@ -58,11 +59,11 @@ module _ (g : Grammar) (tokens : List Token) (start : ℕ) (levels : HasLevels g
   pub by_used : (e : Entry) → Used e → (r : Reading) → IsBy g tokens e.maker 0 e.to r → ReadsWhole g tokens start r
   by_used e used r by = kid_whole e used r (is_kid g tokens e.maker start 0 0 e.to r used.0 by)
 
-  counted : (i : ℕ) (e : Entry) → slice_get (list_at lists 0) i ≡ Some e → Used e → IsTally (Kid e) reading_depth (tally_of e.ways)
+  counted : (i : ℕ) (e : Entry) → slice_get (entries_at lists 0) i ≡ Some e → Used e → IsTally (Kid e) reading_depth (tally_of e.ways)
   counted i e at used = kid_tally g tokens start e.maker start 0 0 e.to (tally_of e.ways) (full.table.sound 0 i e at) used.0
 
   -- each reading of all tokens is by a usable entry
-  pub of_used : (r : Reading) → ReadsWhole g tokens start r → (i : ℕ) × (e : Entry) × (slice_get (list_at lists 0) i ≡ Some e) × Used e × Kid e r
+  pub of_used : (r : Reading) → ReadsWhole g tokens start r → (i : ℕ) × (e : Entry) × (slice_get (entries_at lists 0) i ≡ Some e) × Used e × Kid e r
   of_used r reads =
       let c = covered g tokens start levels lists full (length tokens) r refl reads in
       let e = c.1 in
@@ -84,7 +85,7 @@ module _ (g : Grammar) (tokens : List Token) (start : ℕ) (levels : HasLevels g
       )
 
   -- where no reading is too deep, none by a usable entry is
-  pub used_shallow : ((r : Reading) → ReadsWhole g tokens start r → reading_depth r ≤ 1000) → (i : ℕ) (e : Entry) → slice_get (list_at lists 0) i ≡ Some e → Used e → IsShallow g tokens start 0 e
+  pub used_shallow : ((r : Reading) → ReadsWhole g tokens start r → reading_depth r ≤ 1000) → (i : ℕ) (e : Entry) → slice_get (entries_at lists 0) i ≡ Some e → Used e → IsShallowEntry g tokens start 0 e
   used_shallow bound i e at used = record {
     sound = full.table.sound 0 i e at;
     low = by_some (none_or (tally_of e.ways));
@@ -99,7 +100,7 @@ module _ (g : Grammar) (tokens : List Token) (start : ℕ) (levels : HasLevels g
           omega (arith, d.2)
 
   -- where the entries do not part, all readings are the same
-  pub not_parted : (i : ℕ) (e : Entry) → IsFirstUsable g start 0 row (list_at lists 0) 0 (Some (i, e)) → IsForkOf g start 0 row (list_at lists 0) i e None →
+  pub not_parted : (i : ℕ) (e : Entry) → IsFirstUsable g start 0 row (entries_at lists 0) 0 (Some (i, e)) → IsForkOf g start 0 row (entries_at lists 0) i e None →
       (one other : Reading) → ReadsWhole g tokens start one → ReadsWhole g tokens start other → one ≡ other
   not_parted i e first fork one other reads reads' =
       one_at_most (Kid e) reading_depth (tally_of e.ways) (counted i e first.1 first.2) fork.0 one other (here one reads) (here other reads')
@@ -107,16 +108,16 @@ module _ (g : Grammar) (tokens : List Token) (start : ℕ) (levels : HasLevels g
       here : (r : Reading) → ReadsWhole g tokens start r → Kid e r
       here r reads =
           let u = of_used r reads in
-          let same : u.0 ≡ i = only_usable g start 0 row (list_at lists 0) i e first fork u.0 u.1 u.2 u.3 in
-          let is : u.1 ≡ e = same_Some u.1 e (sym (subst (λ k. slice_get (list_at lists 0) k ≡ Some u.1) same u.2) ∙ first.1) in
+          let same : u.0 ≡ i = only_usable g start 0 row (entries_at lists 0) i e first fork u.0 u.1 u.2 u.3 in
+          let is : u.1 ≡ e = same_Some u.1 e (sym (subst (λ k. slice_get (entries_at lists 0) k ≡ Some u.1) same u.2) ∙ first.1) in
           subst (λ x. Kid x r) is u.4
 
   -- the entries of a fork are shallow, and what reads by them differs
-  pub parted : ((r : Reading) → ReadsWhole g tokens start r → reading_depth r ≤ 1000) → (i : ℕ) (e : Entry) → IsFirstUsable g start 0 row (list_at lists 0) 0 (Some (i, e)) →
-      (fork : Fork) → IsForkOf g start 0 row (list_at lists 0) i e (Some fork) → IsParting g tokens start 0 fork
+  pub parted : ((r : Reading) → ReadsWhole g tokens start r → reading_depth r ≤ 1000) → (i : ℕ) (e : Entry) → IsFirstUsable g start 0 row (entries_at lists 0) 0 (Some (i, e)) →
+      (fork : Fork) → IsForkOf g start 0 row (entries_at lists 0) i e (Some fork) → IsParting g tokens start 0 fork
   parted bound i e first (Apart one other) fork =
       let j = fork.1 in
-      let at : slice_get (list_at lists 0) i ≡ Some one = first.1 ∙ ap Some (sym fork.0) in
+      let at : slice_get (entries_at lists 0) i ≡ Some one = first.1 ∙ ap Some (sym fork.0) in
       let used : Used one = subst Used (sym fork.0) first.2 in
       record {
         sort = start;
@@ -128,7 +129,7 @@ module _ (g : Grammar) (tokens : List Token) (start : ℕ) (levels : HasLevels g
         apart = λ makers ends. let same : i ≡ j.0 = full.table.once 0 i j.0 one other at j.2 makers ends in omega (arith, j.1);
       }
   parted bound i e first (Inside entry) fork =
-      let at : slice_get (list_at lists 0) i ≡ Some entry = first.1 ∙ ap Some (sym fork.0) in
+      let at : slice_get (entries_at lists 0) i ≡ Some entry = first.1 ∙ ap Some (sym fork.0) in
       let used : Used entry = subst Used (sym fork.0) first.2 in
       let low = used_shallow bound i entry at used in
       record {
@@ -142,7 +143,7 @@ module _ (g : Grammar) (tokens : List Token) (start : ℕ) (levels : HasLevels g
       }
 
   -- both entries of a fork are usable
-  pub both_used : (i : ℕ) (e : Entry) → IsFirstUsable g start 0 row (list_at lists 0) 0 (Some (i, e)) →
-      (fork : Fork) → IsForkOf g start 0 row (list_at lists 0) i e (Some fork) → Used (one_of fork) × Used (other_of fork)
+  pub both_used : (i : ℕ) (e : Entry) → IsFirstUsable g start 0 row (entries_at lists 0) 0 (Some (i, e)) →
+      (fork : Fork) → IsForkOf g start 0 row (entries_at lists 0) i e (Some fork) → Used (one_of fork) × Used (other_of fork)
   both_used i e first (Apart one other) fork = (subst Used (sym fork.0) first.2, fork.1.3)
   both_used i e first (Inside entry) fork = (subst Used (sym fork.0) first.2, subst Used (sym fork.0) first.2)

@@ -5,7 +5,8 @@ use Rattle.std.specs.List.{slice_get}
 use Rattle.std.proofs.lemmas.Option.{same_Some, none-some}
 use Rattle.sx_term.specs.declared.lex_kind.LexKind.{LexKind}
 use Rattle.sx_grammar.specs.Grammar.{Symbol, literal, lexical, part}
-use Rattle.sx_grammar.specs.Reading.{Readings, done, ◌▸◌, ReadsAll, ReadsBy, reading_depth, readings_depth}
+use Rattle.sx_grammar.specs.Reading.{Readings, done, ◌▸◌, ReadsAll, ReadsBy, reading_depth}
+use Rattle.sx_grammar.specs.Reading.{readings_depth}
 use Rattle.sx_grammar.specs.Tally.{Tally, no_way, one_way, more_ways, deeper, IsTally}
 use Rattle.sx_grammar.proofs.Completeness.{from_start}
 use Rattle.sx_forest.specs.declared.entry.Entry.{Entry}
@@ -16,9 +17,12 @@ use Rattle.sx_forest.specs.declared.reading.Reading.{Reading}
 use Rattle.sx_forest.specs.declared.step.Step.{Step}
 use Rattle.sx_forest.specs.declared.step.Step.TheVariants as steps
 use Rattle.sx_forest.specs.Readings.{plain_reading, plain_readings}
-use Rattle.sx_forest.specs.Rows.{IsPlace, list_at}
+use Rattle.sx_forest.specs.Rows.{IsPlaceRow, entries_at}
 use Rattle.sx_forest.specs.Tallies.{tally_of}
-use Rattle.sx_forest.specs.Forests.{grammar_in, tokens_in, lists_in, symbols_in, symbols_of, row_from, depth_in, IsMore, IsForest, IsOpened, IsAt, IsReadTo, IsStep, IsOver, IsBy, IsForkOf, IsThere, IsForkAt, IsMoreAt, IsParting, IsFirstUsable, end_of, one_of, other_of, followed}
+use Rattle.sx_forest.specs.Forests.{grammar_in, tokens_in, lists_in, symbols_in, symbols_of}
+use Rattle.sx_forest.specs.Forests.{row_from, depth_in, IsMore, IsForest, IsOpened, IsAt, IsReadTo}
+use Rattle.sx_forest.specs.Forests.{IsItemStep, IsOver, IsBy, IsForkOf, IsThere, IsForkAt, IsMoreAt}
+use Rattle.sx_forest.specs.Forests.{IsParting, IsFirstUsable, end_of, one_of, other_of, followed}
 use Rattle.sx_forest.proofs.Usable.{more_times, goes_on}
 use Rattle.sx_forest.proofs.Following.{same_behind, followed_twice, first_in, one_more_kid}
 use Rattle.sx_forest.proofs.Spans.{head_tally}
@@ -58,11 +62,11 @@ module _ (f : Forest) (forest : IsForest f) (o : Opened) (opened : IsOpened (gra
       (head_tally g ts o.head p o.from o.to u e all') more)
 
   -- over a literal
-  pub more_over_literal : (dot place : ℕ) (step : Step) → step ≡ steps.Literal → IsAt (grammar_in f) (tokens_in f) f.start o dot place → IsStep (grammar_in f) (tokens_in f) f.start (lists_in f) o dot place step →
+  pub more_over_literal : (dot place : ℕ) (step : Step) → step ≡ steps.Literal → IsAt (grammar_in f) (tokens_in f) f.start o dot place → IsItemStep (grammar_in f) (tokens_in f) f.start (lists_in f) o dot place step →
       IsMoreAt (grammar_in f) o dot place → IsMoreAt (grammar_in f) o (suc dot) (end_of step place)
   more_over_literal dot place step e at step_is more = rw e (by_symbol step_is.symbol step_is.is (subst (λ s. IsOver (grammar_in f) (tokens_in f) (lists_in f) (row_from (grammar_in f) o (suc dot)) place step_is.symbol s) e step_is.over))
     where
-      by_place : (text : List ℕ) → IsPlace (grammar_in f) (tokens_in f) (list_at (lists_in f) place) (literal text) place (row_from (grammar_in f) o (suc dot)) ((row_from (grammar_in f) o dot) place) →
+      by_place : (text : List ℕ) → IsPlaceRow (grammar_in f) (tokens_in f) (entries_at (lists_in f) place) (literal text) place (row_from (grammar_in f) o (suc dot)) ((row_from (grammar_in f) o dot) place) →
           IsMoreAt (grammar_in f) o (suc dot) (suc place)
       by_place text (inl h) = subst IsMore h.1 more
       by_place text (inr h) = absurd (subst IsMore h.1 more)
@@ -75,7 +79,7 @@ module _ (f : Forest) (forest : IsForest f) (o : Opened) (opened : IsOpened (gra
       by_symbol (part sort least) s h = let clash : steps.Literal ≡ steps.Part h.0 h.1 = h.2 in cc
 
   -- over a token
-  pub more_over_token : (dot place : ℕ) (step : Step) → step ≡ steps.Token → IsAt (grammar_in f) (tokens_in f) f.start o dot place → IsStep (grammar_in f) (tokens_in f) f.start (lists_in f) o dot place step →
+  pub more_over_token : (dot place : ℕ) (step : Step) → step ≡ steps.Token → IsAt (grammar_in f) (tokens_in f) f.start o dot place → IsItemStep (grammar_in f) (tokens_in f) f.start (lists_in f) o dot place step →
       IsMoreAt (grammar_in f) o dot place → IsMoreAt (grammar_in f) o (suc dot) (end_of step place)
   more_over_token dot place step e at step_is more = rw e (by_symbol step_is.symbol step_is.is (subst (λ s. IsOver (grammar_in f) (tokens_in f) (lists_in f) (row_from (grammar_in f) o (suc dot)) place step_is.symbol s) e step_is.over))
     where
@@ -83,7 +87,7 @@ module _ (f : Forest) (forest : IsForest f) (o : Opened) (opened : IsOpened (gra
       by_part (inl h) = absurd h
       by_part (inr h) = h
 
-      by_place : (kind : LexKind) → IsPlace (grammar_in f) (tokens_in f) (list_at (lists_in f) place) (lexical kind) place (row_from (grammar_in f) o (suc dot)) ((row_from (grammar_in f) o dot) place) →
+      by_place : (kind : LexKind) → IsPlaceRow (grammar_in f) (tokens_in f) (entries_at (lists_in f) place) (lexical kind) place (row_from (grammar_in f) o (suc dot)) ((row_from (grammar_in f) o dot) place) →
           IsMoreAt (grammar_in f) o (suc dot) (suc place)
       by_place kind (inl h) = by_part (more_times (one_way 1) ((row_from (grammar_in f) o (suc dot)) (suc place)) (subst IsMore h.1 more))
       by_place kind (inr h) = absurd (subst IsMore h.1 more)
@@ -97,18 +101,18 @@ module _ (f : Forest) (forest : IsForest f) (o : Opened) (opened : IsOpened (gra
 
   -- over a part, where the readings do not part there
   pub more_over_part : (dot place index sort least : ℕ) (e : Entry) → slice_get (symbols_of (grammar_in f) o.head) dot ≡ Some (part sort least) → IsAt (grammar_in f) (tokens_in f) f.start o dot place →
-      IsFirstUsable (grammar_in f) sort least (row_from (grammar_in f) o (suc dot)) (list_at (lists_in f) place) 0 (Some (index, e)) →
-      IsForkOf (grammar_in f) sort least (row_from (grammar_in f) o (suc dot)) (list_at (lists_in f) place) index e None → IsMoreAt (grammar_in f) o dot place → IsMoreAt (grammar_in f) o (suc dot) e.to
+      IsFirstUsable (grammar_in f) sort least (row_from (grammar_in f) o (suc dot)) (entries_at (lists_in f) place) 0 (Some (index, e)) →
+      IsForkOf (grammar_in f) sort least (row_from (grammar_in f) o (suc dot)) (entries_at (lists_in f) place) index e None → IsMoreAt (grammar_in f) o dot place → IsMoreAt (grammar_in f) o (suc dot) e.to
   more_over_part dot place index sort least e symbol at first fork more =
-      goes_on (grammar_in f) sort least (row_from (grammar_in f) o (suc dot)) (list_at (lists_in f) place) ((row_from (grammar_in f) o dot) place) index e
+      goes_on (grammar_in f) sort least (row_from (grammar_in f) o (suc dot)) (entries_at (lists_in f) place) ((row_from (grammar_in f) o dot) place) index e
       (place_is (grammar_in f) (tokens_in f) f.start forest.levels forest.ranked.0 forest.ranked.1 (lists_in f) forest.full o opened dot place (part sort least) symbol at) more first fork
 
   -- the fork at a part
   pub fork_there : (dot place index sort least : ℕ) (e : Entry) (fork : Fork) → slice_get (symbols_of (grammar_in f) o.head) dot ≡ Some (part sort least) →
-      IsFirstUsable (grammar_in f) sort least (row_from (grammar_in f) o (suc dot)) (list_at (lists_in f) place) 0 (Some (index, e)) →
-      IsForkOf (grammar_in f) sort least (row_from (grammar_in f) o (suc dot)) (list_at (lists_in f) place) index e (Some fork) → IsForkAt (grammar_in f) (lists_in f) o dot place fork
+      IsFirstUsable (grammar_in f) sort least (row_from (grammar_in f) o (suc dot)) (entries_at (lists_in f) place) 0 (Some (index, e)) →
+      IsForkOf (grammar_in f) sort least (row_from (grammar_in f) o (suc dot)) (entries_at (lists_in f) place) index e (Some fork) → IsForkAt (grammar_in f) (lists_in f) o dot place fork
   fork_there dot place index sort least e fork symbol first is =
-      let both = are_both (grammar_in f) sort least (row_from (grammar_in f) o (suc dot)) (list_at (lists_in f) place) index e fork first.1 first.2 is in
+      let both = are_both (grammar_in f) sort least (row_from (grammar_in f) o (suc dot)) (entries_at (lists_in f) place) index e fork first.1 first.2 is in
       record {
         sort = sort;
         least = least;
@@ -161,8 +165,8 @@ module _ (f : Forest) (forest : IsForest f) (o : Opened) (opened : IsOpened (gra
 
   -- the first usable entry at a part is that of the step
   first_as : (dot place index sort least : ℕ) (e : Entry) → slice_get (symbols_of (grammar_in f) o.head) dot ≡ Some (part sort least) →
-      IsStep (grammar_in f) (tokens_in f) f.start (lists_in f) o dot place (steps.Part index e) →
-      IsFirstUsable (grammar_in f) sort least (row_from (grammar_in f) o (suc dot)) (list_at (lists_in f) place) 0 (Some (index, e))
+      IsItemStep (grammar_in f) (tokens_in f) f.start (lists_in f) o dot place (steps.Part index e) →
+      IsFirstUsable (grammar_in f) sort least (row_from (grammar_in f) o (suc dot)) (entries_at (lists_in f) place) 0 (Some (index, e))
   first_as dot place index sort least e symbol step =
       let h = part_of (grammar_in f) (tokens_in f) f.start forest.levels forest.ranked.0 forest.ranked.1 (lists_in f) forest.full o opened dot place index e step in
       let same : part h.sort h.least ≡ part sort least = same_Some (part h.sort h.least) (part sort least) (sym h.symbol ∙ symbol) in
@@ -171,26 +175,26 @@ module _ (f : Forest) (forest : IsForest f) (o : Opened) (opened : IsOpened (gra
       First : Symbol → Type 0
       First (literal text) = Unit {0}
       First (lexical kind) = Unit {0}
-      First (part s l) = IsFirstUsable (grammar_in f) s l (row_from (grammar_in f) o (suc dot)) (list_at (lists_in f) place) 0 (Some (index, e))
+      First (part s l) = IsFirstUsable (grammar_in f) s l (row_from (grammar_in f) o (suc dot)) (entries_at (lists_in f) place) 0 (Some (index, e))
 
   -- what is found at a part
   pub fork_found : (dot place index sort least : ℕ) (e : Entry) (step : Step) (next : ℕ → Tally) (entries : List Entry) (r : Option Fork) → slice_get (symbols_of (grammar_in f) o.head) dot ≡ Some (part sort least) →
-      step ≡ steps.Part index e → IsStep (grammar_in f) (tokens_in f) f.start (lists_in f) o dot place step → next ≡ row_from (grammar_in f) o (suc dot) → entries ≡ list_at (lists_in f) place →
+      step ≡ steps.Part index e → IsItemStep (grammar_in f) (tokens_in f) f.start (lists_in f) o dot place step → next ≡ row_from (grammar_in f) o (suc dot) → entries ≡ entries_at (lists_in f) place →
       IsForkOf (grammar_in f) sort least next entries index e r → IfSome r (IsForkAt (grammar_in f) (lists_in f) o dot place)
   fork_found dot place index sort least e step next entries None symbol is step_is a b h = tt
   fork_found dot place index sort least e step next entries (Some fork) symbol is step_is a b h =
       fork_there dot place index sort least e fork symbol
-      (first_as dot place index sort least e symbol (subst (λ s. IsStep (grammar_in f) (tokens_in f) f.start (lists_in f) o dot place s) is step_is))
+      (first_as dot place index sort least e symbol (subst (λ s. IsItemStep (grammar_in f) (tokens_in f) f.start (lists_in f) o dot place s) is step_is))
       (subst (λ x. IsForkOf (grammar_in f) sort least (row_from (grammar_in f) o (suc dot)) x index e (Some fork)) b (subst (λ x. IsForkOf (grammar_in f) sort least x entries index e (Some fork)) a h))
 
   pub goes_over : (dot place index sort least : ℕ) (e : Entry) (step : Step) (next : ℕ → Tally) (entries : List Entry) (r : Option Fork) → slice_get (symbols_of (grammar_in f) o.head) dot ≡ Some (part sort least) →
-      step ≡ steps.Part index e → IsAt (grammar_in f) (tokens_in f) f.start o dot place → IsStep (grammar_in f) (tokens_in f) f.start (lists_in f) o dot place step → next ≡ row_from (grammar_in f) o (suc dot) → entries ≡ list_at (lists_in f) place →
+      step ≡ steps.Part index e → IsAt (grammar_in f) (tokens_in f) f.start o dot place → IsItemStep (grammar_in f) (tokens_in f) f.start (lists_in f) o dot place step → next ≡ row_from (grammar_in f) o (suc dot) → entries ≡ entries_at (lists_in f) place →
       IsForkOf (grammar_in f) sort least next entries index e r → r ≡ None → IsMoreAt (grammar_in f) o dot place → IsMoreAt (grammar_in f) o (suc dot) (end_of step place)
   goes_over dot place index sort least e step next entries (Some fork) symbol is at step_is a b h none more = absurd (none-some fork (sym none))
   goes_over dot place index sort least e step next entries None symbol is at step_is a b h none more =
       rw is
       (more_over_part dot place index sort least e symbol at
-      (first_as dot place index sort least e symbol (subst (λ s. IsStep (grammar_in f) (tokens_in f) f.start (lists_in f) o dot place s) is step_is))
+      (first_as dot place index sort least e symbol (subst (λ s. IsItemStep (grammar_in f) (tokens_in f) f.start (lists_in f) o dot place s) is step_is))
       (subst (λ x. IsForkOf (grammar_in f) sort least (row_from (grammar_in f) o (suc dot)) x index e None) b (subst (λ x. IsForkOf (grammar_in f) sort least x entries index e None) a h)) more)
 
   -- a usable entry at a part is less deep than the span

@@ -3,10 +3,13 @@ use Rattle.std.proofs.Common.{◌≡◌, ℕ, zero, suc, ◌<◌, ◌≤◌, Lis
 use Rattle.std.specs.Global.{Vec}
 use Rattle.std.specs.List.{slice_get}
 use Rattle.std.proofs.lemmas.Option.{same_Some}
-use Rattle.sx_grammar.specs.Grammar.{Symbol, literal, lexical, part, Production, Grammar, Token, production_of, HasLevels}
+use Rattle.sx_grammar.specs.Grammar.{Symbol, literal, lexical, part, Production, Grammar, Token}
+use Rattle.sx_grammar.specs.Grammar.{production_of, HasLevels}
 use Rattle.sx_grammar.specs.declared.head.Head.{Head}
-use Rattle.sx_grammar.specs.Reading.{Reading, Readings, variable, ◌▸◌, Reads, by_variable, ReadsAll, by_part}
-use Rattle.sx_grammar.specs.Items.{ReadsToken, Makes, NextIs, AtEnd, Item, started, predicted, scanned, completed}
+use Rattle.sx_grammar.specs.Reading.{Reading, Readings, variable, ◌▸◌, Reads, by_variable, ReadsAll}
+use Rattle.sx_grammar.specs.Reading.{by_part}
+use Rattle.sx_grammar.specs.Items.{ReadsToken, Makes, NextIs, AtEnd, Item, started, predicted}
+use Rattle.sx_grammar.specs.Items.{scanned, completed}
 use Rattle.sx_grammar.specs.Order.{IsRanking}
 use Rattle.sx_grammar.proofs.Depth.{forward_all}
 use Rattle.sx_grammar.proofs.Soundness.{Read, joined, one_token, items_read, whole_of, by_head}
@@ -14,8 +17,8 @@ use Rattle.sx_grammar.proofs.Completeness.{Left, from_start, later}
 use Rattle.sx_earley.specs.Chart.{next_symbol, symbol_after}
 use Rattle.sx_forest.specs.declared.entry.Entry.{Entry}
 use Rattle.sx_forest.specs.declared.stretch.Stretch.{Stretch}
-use Rattle.sx_forest.specs.Rows.{list_at, IsIn, LeadsOver, LeadsNext, stretch_at, AreStretches}
-use Rattle.sx_forest.specs.Table.{IsTable, HasBefore}
+use Rattle.sx_forest.specs.Rows.{entries_at, IsIn, LeadsOver, LeadsNext, stretch_at, AreStretches}
+use Rattle.sx_forest.specs.Table.{IsForestTable, HasBefore}
 use Rattle.sx_forest.proofs.Counting.{kid_fits}
 use Rattle.sx_forest.proofs.Rows.{covered}
 
@@ -24,7 +27,7 @@ left_before : {xs : List Symbol} {dot : ℕ} {rest : List Symbol} (x : Symbol) �
 left_before {dot = zero} x e (later {x = y} {xs = xs} from_start) = subst (λ z. Left (y ∷ xs) 0 (z ∷ xs)) (same_Some y x e) from_start
 left_before {dot = suc dot} x e (later l) = later (left_before x e l)
 
-module _ (g : Grammar) (tokens : List Token) (start : ℕ) (levels : HasLevels g) (rank : ℕ → ℕ) (ranking : IsRanking g rank) (lists : List (Vec Entry)) (table : IsTable g tokens start lists)
+module _ (g : Grammar) (tokens : List Token) (start : ℕ) (levels : HasLevels g) (rank : ℕ → ℕ) (ranking : IsRanking g rank) (lists : List (Vec Entry)) (table : IsForestTable g tokens start lists)
     (head : Head) (p : Production) (is : production_of g head ≡ Some p) (from to : ℕ) (has : HasBefore g tokens start rank lists head from to (rank p.sort))
     (stretches : List Stretch) (spread : AreStretches g tokens lists head (length p.symbols) from to stretches) where
   -- a complete span has a reading
@@ -48,10 +51,10 @@ module _ (g : Grammar) (tokens : List Token) (start : ℕ) (levels : HasLevels g
 
   -- over one symbol
   over : (dot place end : ℕ) (symbol : Symbol) → suc dot < length p.symbols → slice_get p.symbols dot ≡ Some symbol → IsIn (stretch_at stretches dot) place →
-      LeadsOver g tokens (list_at lists place) symbol place end → end ≤ to → IsIn (stretch_at stretches (suc dot)) end
+      LeadsOver g tokens (entries_at lists place) symbol place end → end ≤ to → IsIn (stretch_at stretches (suc dot)) end
   over dot place end symbol low e here leads high =
       let same : next_symbol g head dot ≡ Some symbol = ap (λ o. symbol_after o dot) is ∙ e in
-      spread.each dot low place end here (subst (λ o. LeadsNext g tokens (list_at lists place) o place end) (sym same) leads) high
+      spread.each dot low place end here (subst (λ o. LeadsNext g tokens (entries_at lists place) o place end) (sym same) leads) high
 
   -- over a part, by the entry of a reading
   over_kid : (dot place end sort least : ℕ) (rest : List Symbol) (kid : Reading) (ks : Readings) → suc dot < length p.symbols → slice_get p.symbols dot ≡ Some (part sort least) →

@@ -18,14 +18,15 @@ use Rattle.std.proofs.lemmas.List.Elements.{Contains-push_cases}
 use Rattle.sx_earley.specs.declared.span.Span.{Span}
 use Rattle.sx_earley.specs.declared.span.SpanOf.TheVariants.{Node}
 use Rattle.sx_forest.specs.declared.ordered.Ordered.{Ordered}
-use Rattle.sx_forest.specs.Rows.{IsRow, AreRows, row_in, row_at, list_at, stretch_in, stretch_at, Spreads, AreStretches}
+use Rattle.sx_forest.specs.Rows.{IsStretchRow, AreRows, row_in, tally_at, entries_at, stretch_in}
+use Rattle.sx_forest.specs.Rows.{stretch_at, Spreads, AreStretches}
 use Rattle.sx_forest.specs.Table.{IsFirstList}
 use Rattle.sx_forest.proofs.Pushing.{got_before, got_last, longer_pushed}
 
 -- one more row
 pub rows_on : (g : Grammar) (tokens : List Token) (lists : List (Vec Entry)) (head : Head) (count n to : ℕ) (stretches : List Stretch) (rows new : List Row) (r : Row) →
     AreRows g tokens lists head count n to stretches rows → new ≡ rows ++ r ∷ [] →
-    IsRow g tokens lists (next_symbol g head (count - n - 1)) to (stretch_at stretches (count - n - 1)) (row_at rows n) (ways_of r) →
+    IsStretchRow g tokens lists (next_symbol g head (count - n - 1)) to (stretch_at stretches (count - n - 1)) (tally_at rows n) (ways_of r) →
     AreRows g tokens lists head count (n + 1) to stretches new
 rows_on g tokens lists head count n to stretches rows new r so e made = record {
   long = omega (arith, longer_pushed rows new r e, so.long);
@@ -33,14 +34,14 @@ rows_on g tokens lists head count n to stretches rows new r so e made = record {
   each = λ k low. by_place k (cases_lt k n) low;
 }
   where
-    old : (k : ℕ) → k < length rows → row_at new k ≡ row_at rows k
-    old k low = ap (λ l. row_at l k) e ∙ ap row_in (got_before rows (r ∷ []) k low)
+    old : (k : ℕ) → k < length rows → tally_at new k ≡ tally_at rows k
+    old k low = ap (λ l. tally_at l k) e ∙ ap row_in (got_before rows (r ∷ []) k low)
 
-    newest : row_at new (n + 1) ≡ ways_of r
-    newest = ap (λ l. row_at l (n + 1)) e ∙ (ap (λ k. row_at (rows ++ r ∷ []) k) (sym so.long) ∙ ap row_in (got_last rows r))
+    newest : tally_at new (n + 1) ≡ ways_of r
+    newest = ap (λ l. tally_at l (n + 1)) e ∙ (ap (λ k. tally_at (rows ++ r ∷ []) k) (sym so.long) ∙ ap row_in (got_last rows r))
 
     Made : ℕ → Type 0
-    Made k = IsRow g tokens lists (next_symbol g head (count - k - 1)) to (stretch_at stretches (count - k - 1)) (row_at new k) (row_at new (k + 1))
+    Made k = IsStretchRow g tokens lists (next_symbol g head (count - k - 1)) to (stretch_at stretches (count - k - 1)) (tally_at new k) (tally_at new (k + 1))
 
     by_place : (k : ℕ) → (k < n) ⊎ (n ≤ k) → k < n + 1 → Made k
     by_place k (inl h) low = rw (old k (omega (arith, so.long)), old (k + 1) (omega (arith, so.long))) (so.each k h)
@@ -111,15 +112,15 @@ first_past tokens place items long e = rw e (record {
 })
 
 -- one more place
-pub first_put : (tokens : List Token) (n : ℕ) (old new : List (Vec Entry)) → ((p : ℕ) → p < n → IsFirstList tokens p (list_at old p)) → IsFirstList tokens n (list_at new n) →
-    ((p : ℕ) → (p ≡ n → ⊥) → list_at new p ≡ list_at old p) → (p : ℕ) → p < n + 1 → IsFirstList tokens p (list_at new p)
+pub first_put : (tokens : List Token) (n : ℕ) (old new : List (Vec Entry)) → ((p : ℕ) → p < n → IsFirstList tokens p (entries_at old p)) → IsFirstList tokens n (entries_at new n) →
+    ((p : ℕ) → (p ≡ n → ⊥) → entries_at new p ≡ entries_at old p) → (p : ℕ) → p < n + 1 → IsFirstList tokens p (entries_at new p)
 first_put tokens n old new before here others p low = by_place (cases_lt p n)
   where
-    by_place : (p < n) ⊎ (n ≤ p) → IsFirstList tokens p (list_at new p)
+    by_place : (p < n) ⊎ (n ≤ p) → IsFirstList tokens p (entries_at new p)
     by_place (inl below) = subst (λ l. IsFirstList tokens p l) (sym (others p (λ e. omega arith))) (before p below)
     by_place (inr above) =
         let same : n ≡ p = omega arith in
-        subst (λ q. IsFirstList tokens q (list_at new q)) same here
+        subst (λ q. IsFirstList tokens q (entries_at new q)) same here
 
 abbrev pub no_span : Span
 no_span = record { of = Node 0; from = 0; to = 0 }

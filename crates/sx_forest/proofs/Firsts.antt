@@ -10,15 +10,17 @@ use Rattle.sx_earley.specs.Chart.{next_symbol}
 use Rattle.sx_forest.specs.declared.row.Row.{Row}
 use Rattle.sx_forest.specs.declared.stretch.Stretch.{Stretch}
 use Rattle.sx_forest.specs.declared.entry.Entry.{Entry}
-use Rattle.sx_forest.specs.Tallies.{IsSmall, IsLastRow}
-use Rattle.sx_forest.specs.Rows.{IsNext, IsRow, list_at, stretch_at, row_at, AreStretches, AreRows, AreWays, IsSpanWays, IsFirst, IsFirstWays}
+use Rattle.sx_forest.specs.Tallies.{IsSmallTally, IsLastRow}
+use Rattle.sx_forest.specs.Rows.{IsNextRow, IsStretchRow, entries_at, stretch_at, tally_at}
+use Rattle.sx_forest.specs.Rows.{AreStretches, AreRows, AreWays, IsSpanWays, IsFirstRow}
+use Rattle.sx_forest.specs.Rows.{IsFirstWays}
 use Rattle.sx_forest.specs.KeptRows.{symbols_by}
 use Rattle.sx_forest.proofs.Summing.{same_or_not}
 use Rattle.sx_forest.proofs.Wider.{no_symbols, some_symbols}
 
 -- rows are told by their numbers
 pub by_rows : {g : Grammar} {tokens : List Token} {lists : List (Vec Entry)} {head : Head} {count n to : ℕ} {stretches : List Stretch} {rows : List Row} →
-    AreRows g tokens lists head count n to stretches rows → AreWays g tokens lists head count n to stretches (row_at rows)
+    AreRows g tokens lists head count n to stretches rows → AreWays g tokens lists head count n to stretches (tally_at rows)
 by_rows are = record { last = are.last; each = are.each }
 
 abbrev only_at : {from place : ℕ} → Tally → (place ≡ from) ⊎ (place ≡ from → ⊥) → Tally
@@ -59,7 +61,7 @@ module _ (g : Grammar) (tokens : List Token) (lists : List (Vec Entry)) (head : 
   abbrev number : ℕ
   number = symbols_by g head
 
-  by_none : next_symbol g head 0 ≡ None → (t u : Tally) → u ≡ row (number - 1) from → (IsSmall u → t ≡ deeper u) → IsSpanWays g tokens lists head from to t
+  by_none : next_symbol g head 0 ≡ None → (t u : Tally) → u ≡ row (number - 1) from → (IsSmallTally u → t ≡ deeper u) → IsSpanWays g tokens lists head from to t
   by_none none t u at is =
       let zero_here : number ≡ 0 = no_symbols g head none in
       let z : number - 1 ≡ number = omega (arith, zero_here) in
@@ -69,10 +71,10 @@ module _ (g : Grammar) (tokens : List Token) (lists : List (Vec Entry)) (head : 
         spread = spread;
         row = row;
         are = subst (λ n. AreWays g tokens lists head number n to stretches row) z are;
-        is = λ small. is (subst IsSmall (sym same) small) ∙ ap deeper same;
+        is = λ small. is (subst IsSmallTally (sym same) small) ∙ ap deeper same;
       }
 
-  module _ (x : Symbol) (first : next_symbol g head 0 ≡ Some x) (t u : Tally) (next : IsNext g tokens (list_at lists from) (Some x) from (row (number - 1)) u) (is : IsSmall u → t ≡ deeper u) where
+  module _ (x : Symbol) (first : next_symbol g head 0 ≡ Some x) (t u : Tally) (next : IsNextRow g tokens (entries_at lists from) (Some x) from (row (number - 1)) u) (is : IsSmallTally u → t ≡ deeper u) where
     some : 0 < number
     some = some_symbols g head (λ none. none-some x (sym none ∙ first))
 
@@ -85,11 +87,11 @@ module _ (g : Grammar) (tokens : List Token) (lists : List (Vec Entry)) (head : 
     here : new from ≡ u
     here = only_here u (same_or_not from from) refl
 
-    made : IsRow g tokens lists (next_symbol g head 0) to (record { first = from; end = from + 1 }) (row (number - 1)) new
+    made : IsStretchRow g tokens lists (next_symbol g head 0) to (record { first = from; end = from + 1 }) (row (number - 1)) new
     made = record {
       each = λ place low is_in.
           let e : from ≡ place = (let a = is_in.0 in let b = is_in.1 in omega arith) in
-          subst (λ p. IsNext g tokens (list_at lists p) (next_symbol g head 0) p (row (number - 1)) (new p)) e
+          subst (λ p. IsNextRow g tokens (entries_at lists p) (next_symbol g head 0) p (row (number - 1)) (new p)) e
           (rw (first, here) next);
       outside = λ place out. only_there u (same_or_not place from) (λ same. out (omega arith) (omega arith, omega arith));
     }
@@ -101,7 +103,7 @@ module _ (g : Grammar) (tokens : List Token) (lists : List (Vec Entry)) (head : 
     all_new k high = this_new k number (cases_lt k number) (row k) new high
 
     abbrev Made : ℕ → Type 0
-    Made k = IsRow g tokens lists (next_symbol g head (number - k - 1)) to (stretch_at stretches (number - k - 1)) (all k) (all (k + 1))
+    Made k = IsStretchRow g tokens lists (next_symbol g head (number - k - 1)) to (stretch_at stretches (number - k - 1)) (all k) (all (k + 1))
 
     each : (k : ℕ) → k < number → (k < number - 1) ⊎ (number - 1 ≤ k) → Made k
     each k low (inl less) = rw (all_old k low, all_old (k + 1) (omega arith)) (are.each k less)
@@ -121,10 +123,10 @@ module _ (g : Grammar) (tokens : List Token) (lists : List (Vec Entry)) (head : 
             last = rw (all_old 0 some) are.last;
             each = λ k low. each k low (cases_lt k (number - 1));
           };
-          is = λ small. is (subst IsSmall (sym same) small) ∙ ap deeper same;
+          is = λ small. is (subst IsSmallTally (sym same) small) ∙ ap deeper same;
         }
 
-  by_symbol : (o : Option Symbol) → next_symbol g head 0 ≡ o → (t u : Tally) → IsFirst g tokens (list_at lists from) o from (row (number - 1)) u → (IsSmall u → t ≡ deeper u) →
+  by_symbol : (o : Option Symbol) → next_symbol g head 0 ≡ o → (t u : Tally) → IsFirstRow g tokens (entries_at lists from) o from (row (number - 1)) u → (IsSmallTally u → t ≡ deeper u) →
       IsSpanWays g tokens lists head from to t
   by_symbol None e t u first is = by_none e t u first is
   by_symbol (Some x) e t u first is = by_some x e t u first is

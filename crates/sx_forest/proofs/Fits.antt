@@ -10,8 +10,10 @@ use Rattle.sx_token.specs.declared.token.Token.{Token}
 use Rattle.sx_grammar.specs.Grammar as plain
 use Rattle.sx_grammar.specs.Grammar.{Text, Symbol, Grammar, Stem, is_lexeme, is_variable}
 use Rattle.sx_grammar.specs.Parts.{numbered, numbered_line, names}
-use Rattle.sx_grammar.specs.Reading.{Reading, Readings, Marked, Reads, by_production, by_brackets, by_variable, ReadsAll, all_read, by_literal, by_lexeme, by_lexical_variable, by_part}
-use Rattle.sx_earley.specs.Tokens.{Stems, shown, plain_tokens}
+use Rattle.sx_grammar.specs.Reading.{Reading, Readings, Marked, Reads, by_production, by_brackets}
+use Rattle.sx_grammar.specs.Reading.{by_variable, ReadsAll, all_read, by_literal, by_lexeme}
+use Rattle.sx_grammar.specs.Reading.{by_lexical_variable, by_part}
+use Rattle.sx_earley.specs.Tokens.{Stems, read_token, plain_tokens}
 use Rattle.sx_forest.specs.Text.{IsWithin, AreWithin}
 use Rattle.sx_forest.specs.Names.{IsLexeme, IsMetavariable, IsMarked, AreMarked, names_in, names_of}
 use Rattle.sx_forest.specs.Fitting.{ReadingsAreWithin, ReadingsAreMarked, ReadingsHaveFewNames}
@@ -46,34 +48,34 @@ module _ (g : Grammar) (tokens : List plain.Token) where
         let k : middle + length (names_of all kids) ≤ to = all_few all more in
         omega (arith, length-append (names_in all kid) (names_of all kids))
 
-mark_kind : (stems : Stems) (mark : Mark) (text : Text) (kind : LexKind) → (shown stems mark text).mark ≡ is_lexeme kind → (k : LexKind) × (mark ≡ marks.Lex k)
+mark_kind : (stems : Stems) (mark : Mark) (text : Text) (kind : LexKind) → (read_token stems mark text).mark ≡ is_lexeme kind → (k : LexKind) × (mark ≡ marks.Lex k)
 mark_kind stems (marks.Lit n) text kind e = cc
 mark_kind stems (marks.Lex k) text kind e = (k, refl)
 mark_kind stems marks.Meta text kind e = cc
 
-mark_meta : (stems : Stems) (mark : Mark) (text : Text) (stem : Stem) → (shown stems mark text).mark ≡ is_variable stem → mark ≡ marks.Meta
+mark_meta : (stems : Stems) (mark : Mark) (text : Text) (stem : Stem) → (read_token stems mark text).mark ≡ is_variable stem → mark ≡ marks.Meta
 mark_meta stems (marks.Lit n) text stem e = cc
 mark_meta stems (marks.Lex k) text stem e = cc
 mark_meta stems marks.Meta text stem e = refl
 
-lexeme_shown : (stems : Stems) (o : Option Token) (kind : LexKind) (text : Text) → option_map (λ t. shown stems t.mark t.text) o ≡ Some (record { mark = is_lexeme kind; text = text }) → IsLexeme o
+lexeme_shown : (stems : Stems) (o : Option Token) (kind : LexKind) (text : Text) → option_map (λ t. read_token stems t.mark t.text) o ≡ Some (record { mark = is_lexeme kind; text = text }) → IsLexeme o
 lexeme_shown stems None kind text e = cc
 lexeme_shown stems (Some t) kind text e =
-    let q : shown stems t.mark t.text ≡ record { mark = is_lexeme kind; text = text } = cc in
+    let q : read_token stems t.mark t.text ≡ record { mark = is_lexeme kind; text = text } = cc in
     mark_kind stems t.mark t.text kind (ap (λ (s : plain.Token). s.mark) q)
 
-variable_shown : (stems : Stems) (o : Option Token) (stem : Stem) (text : Text) → option_map (λ t. shown stems t.mark t.text) o ≡ Some (record { mark = is_variable stem; text = text }) → IsMetavariable o
+variable_shown : (stems : Stems) (o : Option Token) (stem : Stem) (text : Text) → option_map (λ t. read_token stems t.mark t.text) o ≡ Some (record { mark = is_variable stem; text = text }) → IsMetavariable o
 variable_shown stems None stem text e = cc
 variable_shown stems (Some t) stem text e =
-    let q : shown stems t.mark t.text ≡ record { mark = is_variable stem; text = text } = cc in
+    let q : read_token stems t.mark t.text ≡ record { mark = is_variable stem; text = text } = cc in
     mark_meta stems t.mark t.text stem (ap (λ (s : plain.Token). s.mark) q)
 
 module _ (g : Grammar) (stems : Stems) (tokens : List Token) where
   lexeme_at : (i : ℕ) (kind : LexKind) → Marked (plain_tokens stems tokens) i (is_lexeme kind) → IsLexeme (slice_get tokens i)
-  lexeme_at i kind m = lexeme_shown stems (slice_get tokens i) kind m.0 (sym (slice_get-map (λ t. shown stems t.mark t.text) tokens i) ∙ m.1)
+  lexeme_at i kind m = lexeme_shown stems (slice_get tokens i) kind m.0 (sym (slice_get-map (λ t. read_token stems t.mark t.text) tokens i) ∙ m.1)
 
   variable_at : (i : ℕ) (stem : Stem) → Marked (plain_tokens stems tokens) i (is_variable stem) → IsMetavariable (slice_get tokens i)
-  variable_at i stem m = variable_shown stems (slice_get tokens i) stem m.0 (sym (slice_get-map (λ t. shown stems t.mark t.text) tokens i) ∙ m.1)
+  variable_at i stem m = variable_shown stems (slice_get tokens i) stem m.0 (sym (slice_get-map (λ t. read_token stems t.mark t.text) tokens i) ∙ m.1)
 
   mutual
     marked : {sort least from to : ℕ} {r : Reading} → Reads g (plain_tokens stems tokens) sort least from to r → IsMarked tokens r

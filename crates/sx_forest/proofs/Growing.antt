@@ -9,7 +9,7 @@ use Rattle.sx_grammar.specs.Reading as plain
 use Rattle.sx_grammar.specs.Reading.{Readings, done, ◌▸◌, ReadsAll}
 use Rattle.sx_grammar.specs.Items.{ReadsToken}
 use Rattle.sx_grammar.specs.Tally.{IsLeafAt}
-use Rattle.sx_earley.specs.Shown.{texts, token_of}
+use Rattle.sx_earley.specs.Shown.{literal_texts, token_of}
 use Rattle.sx_forest.specs.declared.entry.Entry.{Entry}
 use Rattle.sx_forest.specs.declared.entry.Maker.{Maker}
 use Rattle.sx_forest.specs.declared.entry.Maker.TheVariants.{By}
@@ -20,7 +20,9 @@ use Rattle.sx_forest.specs.declared.step.Step.{Step}
 use Rattle.sx_forest.specs.declared.step.Step.TheVariants as steps
 use Rattle.sx_forest.specs.Readings.{plain_reading, plain_readings}
 use Rattle.sx_forest.specs.Tallies.{tally_of}
-use Rattle.sx_forest.specs.Forests.{grammar_in, tokens_in, lists_in, symbols_of, depth_in, IsForest, IsShallow, IsOpened, IsAt, IsReadTo, IsStep, IsBy, HasKids, IsMadeOf, end_of, followed}
+use Rattle.sx_forest.specs.Forests.{grammar_in, tokens_in, lists_in, symbols_of, depth_in, IsForest}
+use Rattle.sx_forest.specs.Forests.{IsShallowEntry, IsOpened, IsAt, IsReadTo, IsItemStep, IsBy}
+use Rattle.sx_forest.specs.Forests.{HasKids, IsReadingMade, end_of, followed}
 use Rattle.sx_forest.proofs.Following.{one_more_kid, followed_none, followed_twice}
 use Rattle.sx_forest.proofs.Making.{are_kids, made_reads}
 use Rattle.sx_forest.proofs.Rows.{item_within}
@@ -44,42 +46,42 @@ module _ (f : Forest) (forest : IsForest f) (o : Opened) (opened : IsOpened (gra
   pub place_low : (dot place : ℕ) → IsAt (grammar_in f) (tokens_in f) f.start o dot place → place ≤ 10000
   place_low dot place at =
       let w = item_within (grammar_in f) (tokens_in f) f.start at.item in
-      let l : length (tokens_in f) ≡ length f.shown.now = length-map f.shown.now (token_of (texts f.grammar.now)) in
+      let l : length (tokens_in f) ≡ length f.shown.now = length-map f.shown.now (token_of (literal_texts f.grammar.now)) in
       let s = forest.short in
       omega arith
 
   pub entry_shallow : (dot place index : ℕ) (e : Entry) (kids : Readings) → IsReadTo (grammar_in f) (tokens_in f) f.start o dot place kids →
-      IsStep (grammar_in f) (tokens_in f) f.start (lists_in f) o dot place (steps.Part index e) → IsShallow (grammar_in f) (tokens_in f) f.start place e
+      IsItemStep (grammar_in f) (tokens_in f) f.start (lists_in f) o dot place (steps.Part index e) → IsShallowEntry (grammar_in f) (tokens_in f) f.start place e
   entry_shallow dot place index e kids so step =
       let h = part_of (grammar_in f) (tokens_in f) f.start forest.levels forest.ranked.0 forest.ranked.1 (lists_in f) forest.full o opened dot place index e step in
       kid_shallow (grammar_in f) (tokens_in f) f.start forest.levels forest.ranked.0 forest.ranked.1 (lists_in f) forest.full o opened dot place h.sort h.least index e kids h.symbol so h.first.1 h.first.2
 
   pub entry_less : (dot place index : ℕ) (e : Entry) (kids : Readings) → IsReadTo (grammar_in f) (tokens_in f) f.start o dot place kids →
-      IsStep (grammar_in f) (tokens_in f) f.start (lists_in f) o dot place (steps.Part index e) → depth_in (tally_of e.ways) < depth_in (tally_of o.ways)
+      IsItemStep (grammar_in f) (tokens_in f) f.start (lists_in f) o dot place (steps.Part index e) → depth_in (tally_of e.ways) < depth_in (tally_of o.ways)
   entry_less dot place index e kids so step =
       let h = part_of (grammar_in f) (tokens_in f) f.start forest.levels forest.ranked.0 forest.ranked.1 (lists_in f) forest.full o opened dot place index e step in
       kid_depth (grammar_in f) (tokens_in f) f.start forest.levels forest.ranked.0 forest.ranked.1 (lists_in f) forest.full o opened dot place h.sort h.least index e kids h.symbol so h.first.1 h.first.2
 
   pub over_literal : (dot place : ℕ) (step : Step) (kids : Readings) → step ≡ steps.Literal → IsReadTo (grammar_in f) (tokens_in f) f.start o dot place kids →
-      IsStep (grammar_in f) (tokens_in f) f.start (lists_in f) o dot place step → IsReadTo (grammar_in f) (tokens_in f) f.start o (suc dot) (end_of step place) kids
+      IsItemStep (grammar_in f) (tokens_in f) f.start (lists_in f) o dot place step → IsReadTo (grammar_in f) (tokens_in f) f.start o (suc dot) (end_of step place) kids
   over_literal dot place step kids e so is =
       rw e (read_literal (grammar_in f) (tokens_in f) f.start forest.levels forest.ranked.0 forest.ranked.1 (lists_in f) forest.full o opened dot place kids so
-      (subst (λ s. IsStep (grammar_in f) (tokens_in f) f.start (lists_in f) o dot place s) e is))
+      (subst (λ s. IsItemStep (grammar_in f) (tokens_in f) f.start (lists_in f) o dot place s) e is))
 
   pub over_token : (dot place : ℕ) (step : Step) (kids new : List Reading) (r : Reading) → step ≡ steps.Token → IsReadTo (grammar_in f) (tokens_in f) f.start o dot place (plain_readings kids) →
-      IsStep (grammar_in f) (tokens_in f) f.start (lists_in f) o dot place step →
+      IsItemStep (grammar_in f) (tokens_in f) f.start (lists_in f) o dot place step →
       ((kind : LexKind) → ReadsToken (tokens_in f) (lexical kind) place → IsLeafAt (tokens_in f) kind place (plain_reading r)) → new ≡ kids ++ r ∷ [] →
       IsReadTo (grammar_in f) (tokens_in f) f.start o (suc dot) (end_of step place) (plain_readings new)
   over_token dot place step kids new r e so is leaf more =
       rw e (read_token (grammar_in f) (tokens_in f) f.start forest.levels forest.ranked.0 forest.ranked.1 (lists_in f) forest.full o opened dot place (plain_readings kids) (plain_readings new) (plain_reading r) so
-      (subst (λ s. IsStep (grammar_in f) (tokens_in f) f.start (lists_in f) o dot place s) e is) leaf (one_more_kid kids new r more))
+      (subst (λ s. IsItemStep (grammar_in f) (tokens_in f) f.start (lists_in f) o dot place s) e is) leaf (one_more_kid kids new r more))
 
   pub over_part : (dot place index : ℕ) (x : Entry) (step : Step) (kids new : List Reading) (r : Reading) → step ≡ steps.Part index x → IsReadTo (grammar_in f) (tokens_in f) f.start o dot place (plain_readings kids) →
-      IsStep (grammar_in f) (tokens_in f) f.start (lists_in f) o dot place step → IsBy (grammar_in f) (tokens_in f) x.maker place x.to (plain_reading r) → new ≡ kids ++ r ∷ [] →
+      IsItemStep (grammar_in f) (tokens_in f) f.start (lists_in f) o dot place step → IsBy (grammar_in f) (tokens_in f) x.maker place x.to (plain_reading r) → new ≡ kids ++ r ∷ [] →
       IsReadTo (grammar_in f) (tokens_in f) f.start o (suc dot) (end_of step place) (plain_readings new)
   over_part dot place index x step kids new r e so is by more =
       let h = part_of (grammar_in f) (tokens_in f) f.start forest.levels forest.ranked.0 forest.ranked.1 (lists_in f) forest.full o opened dot place index x
-      (subst (λ s. IsStep (grammar_in f) (tokens_in f) f.start (lists_in f) o dot place s) e is) in
+      (subst (λ s. IsItemStep (grammar_in f) (tokens_in f) f.start (lists_in f) o dot place s) e is) in
       rw e (read_part (grammar_in f) (tokens_in f) f.start forest.levels forest.ranked.0 forest.ranked.1 (lists_in f) forest.full o opened dot place h.sort h.least index x (plain_readings kids) (plain_readings new) (plain_reading r)
       h.symbol so h.first.1 h.first.2 by (one_more_kid kids new r more))
 
@@ -98,7 +100,7 @@ module _ (f : Forest) (forest : IsForest f) (o : Opened) (opened : IsOpened (gra
       (kids_of_all (grammar_in f) (tokens_in f) f.start forest.levels forest.ranked.0 forest.ranked.1 (lists_in f) forest.full o opened kids all)
 
   -- what is made of all kids is by the head
-  pub made_by : (kids : Readings) (r : plain.Reading) → ReadsAll (grammar_in f) (tokens_in f) (symbols_of (grammar_in f) o.head) o.from o.to kids → IsMadeOf o.head kids o.from o.to r →
+  pub made_by : (kids : Readings) (r : plain.Reading) → ReadsAll (grammar_in f) (tokens_in f) (symbols_of (grammar_in f) o.head) o.from o.to kids → IsReadingMade o.head kids o.from o.to r →
       IsBy (grammar_in f) (tokens_in f) (By o.head) o.from o.to r
   made_by kids r all made = λ sort makes.
       let p = opened.sound.0.1.0 in
@@ -111,11 +113,11 @@ module _ (f : Forest) (forest : IsForest f) (o : Opened) (opened : IsOpened (gra
 
   -- the same for a head and places that are those of the span
   pub made_as : (head : Head) (from to : ℕ) (maker : Maker) → o.head ≡ head → o.from ≡ from → o.to ≡ to → maker ≡ By head → (kids : Readings) (r : plain.Reading) →
-      ReadsAll (grammar_in f) (tokens_in f) (symbols_of (grammar_in f) o.head) o.from o.to kids → IsMadeOf head kids from to r → IsBy (grammar_in f) (tokens_in f) maker from to r
+      ReadsAll (grammar_in f) (tokens_in f) (symbols_of (grammar_in f) o.head) o.from o.to kids → IsReadingMade head kids from to r → IsBy (grammar_in f) (tokens_in f) maker from to r
   made_as head from to maker h a b m kids r all made =
-      let made1 : IsMadeOf o.head kids from to r = subst (λ x. IsMadeOf x kids from to r) (sym h) made in
-      let made2 : IsMadeOf o.head kids o.from to r = subst (λ x. IsMadeOf o.head kids x to r) (sym a) made1 in
-      let made3 : IsMadeOf o.head kids o.from o.to r = subst (λ x. IsMadeOf o.head kids o.from x r) (sym b) made2 in
+      let made1 : IsReadingMade o.head kids from to r = subst (λ x. IsReadingMade x kids from to r) (sym h) made in
+      let made2 : IsReadingMade o.head kids o.from to r = subst (λ x. IsReadingMade o.head kids x to r) (sym a) made1 in
+      let made3 : IsReadingMade o.head kids o.from o.to r = subst (λ x. IsReadingMade o.head kids o.from x r) (sym b) made2 in
       let by : IsBy (grammar_in f) (tokens_in f) (By o.head) o.from o.to r = made_by kids r all made3 in
       let by1 : IsBy (grammar_in f) (tokens_in f) (By head) o.from o.to r = subst (λ x. IsBy (grammar_in f) (tokens_in f) (By x) o.from o.to r) h by in
       let by2 : IsBy (grammar_in f) (tokens_in f) (By head) from o.to r = subst (λ x. IsBy (grammar_in f) (tokens_in f) (By head) x o.to r) a by1 in

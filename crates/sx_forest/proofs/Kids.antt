@@ -3,11 +3,15 @@ use Rattle.std.proofs.Common.{◌≡◌, ℕ, ◌+◌, ◌<◌, ◌≤◌, drop,
 use Rattle.std.proofs.lemmas.List.{at_drop_more, at_drop_all}
 use Rattle.std.specs.declared.alloc.Global.{Global}
 use Rattle.sx_grammar.specs.Reading as plain
-use Rattle.sx_grammar.specs.Reading.{Readings, branch, bracket, leaf, variable, done, ◌▸◌, reading_depth, readings_depth}
-use Rattle.sx_forest.specs.declared.reading.Reading.{Reading, Row_of-Reading, end_of-Reading, more_of-Reading, Node, Bracket, items-the_row-Reading, items_hidden-the_row-Reading-0}
+use Rattle.sx_grammar.specs.Reading.{Readings, branch, bracket, leaf, variable, done, ◌▸◌}
+use Rattle.sx_grammar.specs.Reading.{reading_depth, readings_depth}
+use Rattle.sx_forest.specs.declared.reading.Reading.{Reading, Row_of-Reading, end_of-Reading}
+use Rattle.sx_forest.specs.declared.reading.Reading.{more_of-Reading, Node, Bracket}
+use Rattle.sx_forest.specs.declared.reading.Reading.{items-the_row-Reading}
+use Rattle.sx_forest.specs.declared.reading.Reading.{items_hidden-the_row-Reading-0}
 use Rattle.sx_forest.specs.declared.reading.Reading.TheBlock.{hidden-the_row-Reading-0}
 use Rattle.sx_forest.specs.Readings.{plain_reading, row_readings, row, plain_readings}
-use Rattle.sx_forest.specs.Places.{listed}
+use Rattle.sx_forest.specs.Places.{listed_readings}
 
 row_readings-items : {m : _} → (k : Row_of-Reading m) → row_readings k ≡ plain_readings (items-the_row-Reading m k)
 row_readings-items end_of-Reading = refl
@@ -28,9 +32,9 @@ readings-drop rs i r h e = at_drop_more plain_readings rs i r h ∙ ap (λ x. pl
 pub readings-drop_all : (rs : List Reading) (i : ℕ) → length rs ≤ i → plain_readings (drop i rs) ≡ done
 readings-drop_all rs i h = at_drop_all plain_readings rs i h
 
-pub listed-row : (rs : List plain.Reading) → listed (row rs) ≡ rs
-listed-row [] = refl
-listed-row (r ∷ rs) = ap (λ x. r ∷ x) (listed-row rs)
+pub listed_readings-row : (rs : List plain.Reading) → listed_readings (row rs) ≡ rs
+listed_readings-row [] = refl
+listed_readings-row (r ∷ rs) = ap (λ x. r ∷ x) (listed_readings-row rs)
 
 -- a kid is no deeper than the deepest
 pub readings_depth-at : (rs : List Reading) (i : ℕ) (k : Reading) → i < length rs → k ≡ get_or rs i k → reading_depth (plain_reading k) ≤ readings_depth (plain_readings rs)

@@ -10,7 +10,8 @@ use Rattle.sx_grammar.specs.Tally.{Tally, no_way, one_way, times}
 use Rattle.sx_forest.specs.declared.entry.Entry.{Entry}
 use Rattle.sx_forest.specs.declared.stretch.Stretch.{Stretch}
 use Rattle.sx_forest.specs.Tallies.{tally_of, ways_of}
-use Rattle.sx_forest.specs.Rows.{FitsPart, IsWhere, IsEntryTally, SumTo, sum_none, IsNext, IsIn, IsRow, list_at}
+use Rattle.sx_forest.specs.Rows.{FitsPart, IsWhere, IsEntryTally, SumTo, sum_none, IsNextRow, IsIn}
+use Rattle.sx_forest.specs.Rows.{IsStretchRow, entries_at}
 use Rattle.sx_forest.proofs.Reaching.{in_or_out}
 use Rattle.sx_forest.specs.declared.row.Row.{Row}
 use Rattle.sx_forest.proofs.RowWays.{none_before, none_after}
@@ -45,11 +46,11 @@ module _ (g : Grammar) (sort least : ℕ) (next : ℕ → Tally) (entries : List
 
 -- no ways by a token
 pub no_literal : (g : Grammar) (tokens : List Token) (entries : List Entry) (text : List ℕ) (place : ℕ) (next : ℕ → Tally) →
-    next (suc place) ≡ no_way → IsNext g tokens entries (Some (literal text)) place next no_way
+    next (suc place) ≡ no_way → IsNextRow g tokens entries (Some (literal text)) place next no_way
 no_literal g tokens entries text place next none = none_where _ _ (literal_or_not tokens place text) none
 
 pub no_lexical : (g : Grammar) (tokens : List Token) (entries : List Entry) (kind : LexKind) (place : ℕ) (next : ℕ → Tally) →
-    next (suc place) ≡ no_way → IsNext g tokens entries (Some (lexical kind)) place next no_way
+    next (suc place) ≡ no_way → IsNextRow g tokens entries (Some (lexical kind)) place next no_way
 no_lexical g tokens entries kind place next none =
     none_where _ (times (one_way 1) (next (suc place))) (lexical_or_not tokens place kind) (ap (times (one_way 1)) none ∙ nothing_after (one_way 1))
 
@@ -66,18 +67,18 @@ no_way_outside row to place s first end low out = by_order (cases_lt place s.fir
 -- a row that is made from some places of a stretch only, where there are no ways from the others
 pub row_of_some : (g : Grammar) (tokens : List Token) (lists : List (Vec Entry)) (symbol : Option Symbol) (to : ℕ) (stretch some : Stretch) (next row : ℕ → Tally) →
     ((p : ℕ) → IsIn some p → IsIn stretch p) →
-    ((p : ℕ) → p ≤ to → IsIn stretch p → (IsIn some p → ⊥) → IsNext g tokens (list_at lists p) symbol p next no_way) →
-    IsRow g tokens lists symbol to some next row → IsRow g tokens lists symbol to stretch next row
+    ((p : ℕ) → p ≤ to → IsIn stretch p → (IsIn some p → ⊥) → IsNextRow g tokens (entries_at lists p) symbol p next no_way) →
+    IsStretchRow g tokens lists symbol to some next row → IsStretchRow g tokens lists symbol to stretch next row
 row_of_some g tokens lists symbol to stretch some next row back none made = record {
   each = λ place low is. ⊎_elim (λ h. made.each place low h)
-      (λ out. subst (λ t. IsNext g tokens (list_at lists place) symbol place next t) (sym (made.outside place (λ l h. out h))) (none place low is out))
+      (λ out. subst (λ t. IsNextRow g tokens (entries_at lists place) symbol place next t) (sym (made.outside place (λ l h. out h))) (none place low is out))
       (in_or_out some place);
   outside = λ place out. made.outside place (λ low h. out low (back place h));
 }
 
 -- a row of the places of a stretch up to the end is one of the stretch
 pub row_clipped : (g : Grammar) (tokens : List Token) (lists : List (Vec Entry)) (symbol : Option Symbol) (to : ℕ) (stretch own : Stretch) (next row : ℕ → Tally) →
-    ((p : ℕ) → p ≤ to → IsIn stretch p ↔ IsIn own p) → IsRow g tokens lists symbol to own next row → IsRow g tokens lists symbol to stretch next row
+    ((p : ℕ) → p ≤ to → IsIn stretch p ↔ IsIn own p) → IsStretchRow g tokens lists symbol to own next row → IsStretchRow g tokens lists symbol to stretch next row
 row_clipped g tokens lists symbol to stretch own next row same made = record {
   each = λ p low is. made.each p low ((same p low).0 is);
   outside = λ p out. made.outside p (λ low is. out low ((same p low).1 is));

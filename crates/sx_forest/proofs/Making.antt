@@ -2,10 +2,13 @@
 use Rattle.std.proofs.Common.{◌≡◌, ℕ, suc, ◌+◌, List, [], ◌∷◌, Some, refl, sym, subst, ap, ◌∙◌, arith}
 use Rattle.sx_grammar.specs.declared.head.Head.{Head}
 use Rattle.sx_grammar.specs.declared.head.Head.TheVariants.{Labelled, Bracketed}
-use Rattle.sx_grammar.specs.Grammar.{literal, part, Production, Grammar, Token, production_of, pair_of}
-use Rattle.sx_grammar.specs.Reading.{IsLiteral, Reading, Readings, branch, bracket, done, ◌▸◌, Reads, by_production, by_brackets, ReadsAll, all_read, by_literal, by_part, reading_depth, readings_depth, ReadsBy}
+use Rattle.sx_grammar.specs.Grammar.{literal, part, Production, Grammar, Token, production_of}
+use Rattle.sx_grammar.specs.Grammar.{pair_of}
+use Rattle.sx_grammar.specs.Reading.{IsLiteral, Reading, Readings, branch, bracket, done, ◌▸◌}
+use Rattle.sx_grammar.specs.Reading.{Reads, by_production, by_brackets, ReadsAll, all_read}
+use Rattle.sx_grammar.specs.Reading.{by_literal, by_part, reading_depth, readings_depth, ReadsBy}
 use Rattle.sx_grammar.proofs.Soundness.{bracket_head}
-use Rattle.sx_forest.specs.Forests.{IsMadeOf, HasKids}
+use Rattle.sx_forest.specs.Forests.{IsReadingMade, HasKids}
 
 module _ (g : Grammar) (tokens : List Token) where
   one_kid : (s from to : ℕ) (o c : List ℕ) (ks : Readings) → ReadsAll g tokens (literal o ∷ part s 0 ∷ literal c ∷ []) from to ks → (r : Reading) × (ks ≡ r ▸ done)
@@ -28,7 +31,7 @@ module _ (g : Grammar) (tokens : List Token) where
 
   -- what is made of them reads by the head
   pub made_reads : (head : Head) (p : Production) (from to : ℕ) (ks : Readings) (r : Reading) → production_of g head ≡ Some p → ReadsAll g tokens p.symbols from to ks →
-      IsMadeOf head ks from to r → ReadsBy g tokens head p.sort from to r
+      IsReadingMade head ks from to r → ReadsBy g tokens head p.sort from to r
   made_reads (Labelled label) p from to ks r e all made = ((ks, made), rw made (by_production {least = 0} e (omega arith) all))
   made_reads (Bracketed s) p from to ks r e all made =
       let b = bracket_head g tokens s (pair_of g s) p e in
@@ -41,12 +44,12 @@ module _ (g : Grammar) (tokens : List Token) where
       ((inner, made.2), subst (λ x. Reads g tokens x 0 from to r) sort reads')
 
 -- there is such a reading
-pub can_make : (head : Head) (ks : Readings) (from to : ℕ) → HasKids head ks → (r : Reading) × IsMadeOf head ks from to r
+pub can_make : (head : Head) (ks : Readings) (from to : ℕ) → HasKids head ks → (r : Reading) × IsReadingMade head ks from to r
 can_make (Labelled label) ks from to h = (branch label ks from to, refl)
 can_make (Bracketed s) ks from to h = (bracket h.0 from to, (h.0, h.1, refl))
 
 -- it is one deeper than they
-pub made_depth : (head : Head) (ks : Readings) (from to : ℕ) (r : Reading) → IsMadeOf head ks from to r → reading_depth r ≡ readings_depth ks + 1
+pub made_depth : (head : Head) (ks : Readings) (from to : ℕ) (r : Reading) → IsReadingMade head ks from to r → reading_depth r ≡ readings_depth ks + 1
 made_depth (Labelled label) ks from to r made = ap reading_depth made
 made_depth (Bracketed s) ks from to r made =
     let a : reading_depth r ≡ reading_depth (bracket made.0 from to) = ap reading_depth made.2 in
@@ -59,6 +62,6 @@ kids_in (bracket inner from to) = inner ▸ done
 kids_in r = done
 
 -- readings of different kids are different
-pub made_same : (head : Head) (ks ls : Readings) (from to : ℕ) (r : Reading) → IsMadeOf head ks from to r → IsMadeOf head ls from to r → ks ≡ ls
+pub made_same : (head : Head) (ks ls : Readings) (from to : ℕ) (r : Reading) → IsReadingMade head ks from to r → IsReadingMade head ls from to r → ks ≡ ls
 made_same (Labelled label) ks ls from to r a b = sym (ap kids_in a) ∙ ap kids_in b
 made_same (Bracketed s) ks ls from to r a b = a.1 ∙ (sym (ap kids_in a.2) ∙ (ap kids_in b.2 ∙ sym b.1))

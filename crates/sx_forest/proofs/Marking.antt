@@ -2,10 +2,11 @@
 use Rattle.std.proofs.Common.{◌≡◌, ◌↔◌, ℕ, List, [], Option, Some, None, option_map, refl, ap, ◌∙◌, sym}
 use Rattle.std.specs.List.{slice_get}
 use Rattle.std.proofs.lemmas.Option.{slice_get-map, same_Some, none-some}
-use Rattle.sx_grammar.specs.Grammar.{Text, Token, is_literal, is_lexeme, is_variable, of_kind, of_sort}
+use Rattle.sx_grammar.specs.Grammar.{Text, Token, is_literal, is_lexeme, is_variable, of_kind}
+use Rattle.sx_grammar.specs.Grammar.{of_sort}
 use Rattle.sx_grammar.specs.Reading.{Marked}
 use Rattle.sx_grammar.specs.Tables.{GrammarData}
-use Rattle.sx_earley.specs.Shown.{texts, token_of, tokens_of}
+use Rattle.sx_earley.specs.Shown.{literal_texts, token_of, tokens_of}
 use Rattle.sx_earley.specs.declared.shown.Shown.{Shown}
 use Rattle.sx_earley.specs.declared.shown.Shown.TheVariants.{Lit, Lex, Kind, Sort, Other}
 
@@ -16,10 +17,10 @@ same_sort n sort e = cc
 pub sort_there : (d : GrammarData) (shown : List Shown) (place n : ℕ) → slice_get shown place ≡ Some (Sort n) →
     (sort : ℕ) → (Some n ≡ Some sort) ↔ Marked (tokens_of d shown) place (is_variable (of_sort sort))
 sort_there d shown place n at sort =
-    let there = slice_get-map (token_of (texts d)) shown place ∙ ap (option_map (token_of (texts d))) at in (
-      λ same. ([], there ∙ ap (λ (k : ℕ). Some (token_of (texts d) (Sort k))) (same_Some n sort same)),
+    let there = slice_get-map (token_of (literal_texts d)) shown place ∙ ap (option_map (token_of (literal_texts d))) at in (
+      λ same. ([], there ∙ ap (λ (k : ℕ). Some (token_of (literal_texts d) (Sort k))) (same_Some n sort same)),
       λ marked. ap Some (same_sort n sort (ap (λ (t : Token). t.mark)
-          (same_Some (token_of (texts d) (Sort n)) (record { mark = is_variable (of_sort sort); text = marked.0 }) (sym there ∙ marked.1)))),
+          (same_Some (token_of (literal_texts d) (Sort n)) (record { mark = is_variable (of_sort sort); text = marked.0 }) (sym there ∙ marked.1)))),
     )
 
 marks : (literals : List Text) (s : Shown) (sort : ℕ) (text : Text) →
@@ -40,5 +41,5 @@ pub no_sort_there : (d : GrammarData) (shown : List Shown) (place : ℕ) → ((n
     (sort : ℕ) → (None ≡ Some sort) ↔ Marked (tokens_of d shown) place (is_variable (of_sort sort))
 no_sort_there d shown place none sort = (
   λ same. absurd (none-some sort same),
-  λ marked. absurd (not_marked (texts d) (slice_get shown place) none sort marked.0 (sym (slice_get-map (token_of (texts d)) shown place) ∙ marked.1)),
+  λ marked. absurd (not_marked (literal_texts d) (slice_get shown place) none sort marked.0 (sym (slice_get-map (token_of (literal_texts d)) shown place) ∙ marked.1)),
 )

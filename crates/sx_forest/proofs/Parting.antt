@@ -14,9 +14,10 @@ use Rattle.sx_forest.specs.declared.entry.Maker.TheVariants.{Variable}
 use Rattle.sx_forest.specs.declared.fork.Fork.{Fork}
 use Rattle.sx_forest.specs.declared.fork.Fork.TheVariants.{Apart, Inside}
 use Rattle.sx_forest.specs.Tallies.{tally_of, IsLastRow}
-use Rattle.sx_forest.specs.Rows.{list_at}
-use Rattle.sx_forest.specs.Table.{IsTable, IsFull, IsSoundBy}
-use Rattle.sx_forest.specs.Forests.{IsMore, IsBy, IsShallow, IsUsable, IsFirstUsable, IsForkOf, IsApart, IsParting, one_of, other_of}
+use Rattle.sx_forest.specs.Rows.{entries_at}
+use Rattle.sx_forest.specs.Table.{IsForestTable, IsFull, IsSoundBy}
+use Rattle.sx_forest.specs.Forests.{IsMore, IsBy, IsShallowEntry, IsUsableEntry, IsFirstUsable}
+use Rattle.sx_forest.specs.Forests.{IsForkOf, IsApart, IsParting, one_of, other_of}
 use Rattle.sx_forest.proofs.Using.{useful_at_end}
 use Rattle.sx_forest.proofs.Counting.{KidOf, kid_reads, kid_fits, kid_tally, one_kid}
 use Rattle.sx_forest.proofs.Whole.{covered}
@@ -29,17 +30,17 @@ pub record AreBoth (g : Grammar) (sort least : ℕ) (next : ℕ → Tally) (entr
   pub j : ℕ
   pub one_at : slice_get entries i ≡ Some (one_of fork)
   pub other_at : slice_get entries j ≡ Some (other_of fork)
-  pub one_used : IsUsable g sort least next (one_of fork)
-  pub other_used : IsUsable g sort least next (other_of fork)
+  pub one_used : IsUsableEntry g sort least next (one_of fork)
+  pub other_used : IsUsableEntry g sort least next (other_of fork)
 
 pub are_both : (g : Grammar) (sort least : ℕ) (next : ℕ → Tally) (entries : List Entry) (index : ℕ) (e : Entry) (fork : Fork) → slice_get entries index ≡ Some e →
-    IsUsable g sort least next e → IsForkOf g sort least next entries index e (Some fork) → AreBoth g sort least next entries fork
+    IsUsableEntry g sort least next e → IsForkOf g sort least next entries index e (Some fork) → AreBoth g sort least next entries fork
 are_both g sort least next entries index e (Apart one other) at used h = record {
   i = index;
   j = h.1.0;
   one_at = at ∙ ap Some (sym h.0);
   other_at = h.1.2;
-  one_used = subst (λ x. IsUsable g sort least next x) (sym h.0) used;
+  one_used = subst (λ x. IsUsableEntry g sort least next x) (sym h.0) used;
   other_used = h.1.3;
 }
 are_both g sort least next entries index e (Inside entry) at used h = record {
@@ -47,13 +48,13 @@ are_both g sort least next entries index e (Inside entry) at used h = record {
   j = index;
   one_at = at ∙ ap Some (sym h.0);
   other_at = at ∙ ap Some (sym h.0);
-  one_used = subst (λ x. IsUsable g sort least next x) (sym h.0) used;
-  other_used = subst (λ x. IsUsable g sort least next x) (sym h.0) used;
+  one_used = subst (λ x. IsUsableEntry g sort least next x) (sym h.0) used;
+  other_used = subst (λ x. IsUsableEntry g sort least next x) (sym h.0) used;
 }
 
 -- they part
-pub they_part : (g : Grammar) (tokens : List Token) (start : ℕ) (lists : List (Vec Entry)) (table : IsTable g tokens start lists) (place sort least : ℕ) (next : ℕ → Tally) (index : ℕ) (e : Entry) (fork : Fork) →
-    slice_get (list_at lists place) index ≡ Some e → IsForkOf g sort least next (list_at lists place) index e (Some fork) → IsApart fork
+pub they_part : (g : Grammar) (tokens : List Token) (start : ℕ) (lists : List (Vec Entry)) (table : IsForestTable g tokens start lists) (place sort least : ℕ) (next : ℕ → Tally) (index : ℕ) (e : Entry) (fork : Fork) →
+    slice_get (entries_at lists place) index ≡ Some e → IsForkOf g sort least next (entries_at lists place) index e (Some fork) → IsApart fork
 they_part g tokens start lists table place sort least next index e (Apart one other) at h = λ makers ends.
     let same = table.once place index h.1.0 one other (at ∙ ap Some (sym h.0)) h.1.2 makers ends in
     let low = h.1.1 in omega arith
@@ -84,7 +85,7 @@ times_last (more_ways d) e = absurd (subst IsSome e tt)
 module _ (g : Grammar) (tokens : List Token) (start : ℕ) (levels : HasLevels g) (lists : List (Vec Entry)) (full : IsFull g tokens start lists) (row : ℕ → Tally) (last : IsLastRow (length tokens) row) where
   -- a reading of all tokens is by a usable entry
   pub whole_used : (r : Reading) → ReadsWhole g tokens start r →
-      (i : ℕ) × (e : Entry) × (slice_get (list_at lists 0) i ≡ Some e) × KidOf g tokens e.maker start 0 0 e.to r × IsUsable g start 0 row e
+      (i : ℕ) × (e : Entry) × (slice_get (entries_at lists 0) i ≡ Some e) × KidOf g tokens e.maker start 0 0 e.to r × IsUsableEntry g start 0 row e
   whole_used r reads =
       let h = covered g tokens start levels lists full (length tokens) r refl reads in
       let e = h.1 in
@@ -104,7 +105,7 @@ module _ (g : Grammar) (tokens : List Token) (start : ℕ) (levels : HasLevels g
       )
 
   -- a usable entry reads up to the end
-  pub reads_to_end : (e : Entry) → IsUsable g start 0 row e → e.to ≡ length tokens
+  pub reads_to_end : (e : Entry) → IsUsableEntry g start 0 row e → e.to ≡ length tokens
   reads_to_end e used = by_order (cases_lt e.to (length tokens)) (cases_lt (length tokens) e.to)
     where
       some : row e.to ≡ no_way → ⊥
@@ -121,13 +122,13 @@ module _ (g : Grammar) (tokens : List Token) (start : ℕ) (levels : HasLevels g
       by_order (inr high) (inr low) = omega arith
 
   -- what reads by it reads all tokens
-  pub whole_by : (e : Entry) (r : Reading) → IsUsable g start 0 row e → IsBy g tokens e.maker 0 e.to r → ReadsWhole g tokens start r
+  pub whole_by : (e : Entry) (r : Reading) → IsUsableEntry g start 0 row e → IsBy g tokens e.maker 0 e.to r → ReadsWhole g tokens start r
   whole_by e r used by =
       subst (λ q. Reads g tokens start 0 0 q r) (reads_to_end e used) (kid_reads g tokens e.maker start 0 0 e.to r (is_kid g tokens e.maker start 0 0 e.to r used.0 by))
 
   module _ (low : (r : Reading) → ReadsWhole g tokens start r → reading_depth r ≤ 1000) where
     -- it is as shallow as they are
-    pub whole_shallow : (i : ℕ) (e : Entry) → slice_get (list_at lists 0) i ≡ Some e → IsUsable g start 0 row e → IsShallow g tokens start 0 e
+    pub whole_shallow : (i : ℕ) (e : Entry) → slice_get (entries_at lists 0) i ≡ Some e → IsUsableEntry g start 0 row e → IsShallowEntry g tokens start 0 e
     whole_shallow i e at used =
         let sound = full.table.sound 0 i e at in
         let kid = deepest_of (KidOf g tokens e.maker start 0 0 e.to) reading_depth (tally_of e.ways) (kid_tally g tokens start e.maker start 0 0 e.to (tally_of e.ways) sound used.0)
@@ -136,9 +137,9 @@ module _ (g : Grammar) (tokens : List Token) (start : ℕ) (levels : HasLevels g
         let bound = low kid.0 reads in let deep = kid.2 in
         record { sound = sound; low = omega arith; useful = useful_at_end g tokens e.maker e.to (reads_to_end e used) }
 
-    pub whole_parting : (i : ℕ) (e : Entry) (fork : Fork) → slice_get (list_at lists 0) i ≡ Some e → IsUsable g start 0 row e → IsForkOf g start 0 row (list_at lists 0) i e (Some fork) → IsParting g tokens start 0 fork
+    pub whole_parting : (i : ℕ) (e : Entry) (fork : Fork) → slice_get (entries_at lists 0) i ≡ Some e → IsUsableEntry g start 0 row e → IsForkOf g start 0 row (entries_at lists 0) i e (Some fork) → IsParting g tokens start 0 fork
     whole_parting i e fork at used h =
-        let both = are_both g start 0 row (list_at lists 0) i e fork at used h in
+        let both = are_both g start 0 row (entries_at lists 0) i e fork at used h in
         record {
           sort = start;
           least = 0;
@@ -150,12 +151,12 @@ module _ (g : Grammar) (tokens : List Token) (start : ℕ) (levels : HasLevels g
         }
 
   -- where there is a reading, an entry is usable
-  pub whole_some : (r : Reading) → ReadsWhole g tokens start r → IsFirstUsable g start 0 row (list_at lists 0) 0 None → ⊥
+  pub whole_some : (r : Reading) → ReadsWhole g tokens start r → IsFirstUsable g start 0 row (entries_at lists 0) 0 None → ⊥
   whole_some r reads none = let h = whole_used r reads in none h.0 h.1 (omega arith) h.2 h.4
 
   -- where there are two, they part
   pub whole_apart : (a b : Reading) (i : ℕ) (e : Entry) → ReadsWhole g tokens start a → ReadsWhole g tokens start b → (a ≡ b → ⊥) →
-      IsFirstUsable g start 0 row (list_at lists 0) 0 (Some (i, e)) → IsForkOf g start 0 row (list_at lists 0) i e None → ⊥
+      IsFirstUsable g start 0 row (entries_at lists 0) 0 (Some (i, e)) → IsForkOf g start 0 row (entries_at lists 0) i e None → ⊥
   whole_apart a b i e one two apart first fork =
       apart
       (same_of (KidOf g tokens e.maker start 0 0 e.to) reading_depth (tally_of e.ways) (kid_tally g tokens start e.maker start 0 0 e.to (tally_of e.ways) (full.table.sound 0 i e first.1) first.2.0) fork.0 a b
@@ -164,8 +165,8 @@ module _ (g : Grammar) (tokens : List Token) (start : ℕ) (levels : HasLevels g
       by_it : (r : Reading) → ReadsWhole g tokens start r → KidOf g tokens e.maker start 0 0 e.to r
       by_it r reads =
           let h = whole_used r reads in
-          let same = only_usable g start 0 row (list_at lists 0) i e first fork h.0 h.1 h.2 h.4 in
-          let is : h.1 ≡ e = same_Some h.1 e (sym (subst (λ k. slice_get (list_at lists 0) k ≡ Some h.1) same h.2) ∙ first.1) in
+          let same = only_usable g start 0 row (entries_at lists 0) i e first fork h.0 h.1 h.2 h.4 in
+          let is : h.1 ≡ e = same_Some h.1 e (sym (subst (λ k. slice_get (entries_at lists 0) k ≡ Some h.1) same h.2) ∙ first.1) in
           subst (λ x. KidOf g tokens x.maker start 0 0 x.to r) is h.3
 
 -- readings by the two entries of a fork are different

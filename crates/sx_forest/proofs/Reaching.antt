@@ -13,9 +13,9 @@ use Rattle.sx_forest.specs.declared.entry.Entry.{Entry}
 use Rattle.sx_forest.specs.declared.reach.Reach.{Reach}
 use Rattle.sx_forest.specs.declared.stretch.Stretch.{Stretch}
 use Rattle.sx_forest.specs.Tallies.{ways_at, ways_of}
-use Rattle.sx_forest.specs.Rows.{FitsPart, IsIn, list_at}
+use Rattle.sx_forest.specs.Rows.{FitsPart, IsIn, entries_at}
 use Rattle.sx_forest.specs.Reached.{HasReach, reaches_in, reaches_at, AreReached}
-use Rattle.sx_forest.specs.Table.{IsPut}
+use Rattle.sx_forest.specs.Table.{IsEntryPut}
 use Rattle.sx_forest.proofs.Pushing.{got_before, got_last}
 use Rattle.sx_forest.specs.declared.row.Row.{Row}
 use Rattle.sx_forest.proofs.RowWays.{none_after, none_before, way_there}
@@ -110,7 +110,7 @@ still_reached lists ends starts ends' starts' onward back h = record {
 }
 
 -- one more entry
-pub reached_put : (old new : List (Vec Entry)) (ends starts : List (Vec Reach)) (place : ℕ) (e : Entry) → IsPut old new place e → AreReached old ends starts →
+pub reached_put : (old new : List (Vec Entry)) (ends starts : List (Vec Reach)) (place : ℕ) (e : Entry) → IsEntryPut old new place e → AreReached old ends starts →
     HasReach (reaches_at ends place) e.maker e.to → HasReach (reaches_at starts e.to) e.maker place → AreReached new ends starts
 reached_put old new ends starts place e put h to from = record {
   onward = λ p i x at. ⊎_elim (λ k. h.onward p i x k)
@@ -121,8 +121,8 @@ reached_put old new ends starts place e put h to from = record {
 
 -- one more entry, or none where memory is lacking
 pub reached_added : {E : Type 0} (r : Result (Unit {0}) E) (old new : List (Vec Entry)) (ends starts : List (Vec Reach)) (place : ℕ) (e : Entry) → length new ≡ length old →
-    OnOk r (list_at new place ≡ list_at old place ++ e ∷ []) → IfErr r (λ _. list_at new place ≡ list_at old place) →
-    ((p : ℕ) → (p ≡ place → ⊥) → list_at new p ≡ list_at old p) → AreReached old ends starts →
+    OnOk r (entries_at new place ≡ entries_at old place ++ e ∷ []) → IfErr r (λ _. entries_at new place ≡ entries_at old place) →
+    ((p : ℕ) → (p ≡ place → ⊥) → entries_at new p ≡ entries_at old p) → AreReached old ends starts →
     HasReach (reaches_at ends place) e.maker e.to → HasReach (reaches_at starts e.to) e.maker place → AreReached new ends starts
 reached_added (Ok u) old new ends starts place e same there failed others h to from =
     reached_put old new ends starts place e (record { same = same; there = there; others = others }) h to from
@@ -131,8 +131,8 @@ reached_added (Err x) old new ends starts place e same there failed others h to 
   back = λ p i y at. h.back p i y (subst (λ l. slice_get l i ≡ Some y) (alike p) at);
 }
   where
-    alike : (p : ℕ) → list_at new p ≡ list_at old p
-    alike p = ⊎_elim (λ (same_place : p ≡ place). subst (λ q. list_at new q ≡ list_at old q) (sym same_place) failed) (λ differ. others p differ) (same_or_not p place)
+    alike : (p : ℕ) → entries_at new p ≡ entries_at old p
+    alike p = ⊎_elim (λ (same_place : p ≡ place). subst (λ q. entries_at new q ≡ entries_at old q) (sym same_place) failed) (λ differ. others p differ) (same_or_not p place)
 
 -- where there cannot be some there are none
 none_by : (t : Tally) → ((t ≡ no_way → ⊥) → ⊥) → t ≡ no_way
@@ -141,14 +141,14 @@ none_by t h = ⊎_elim (λ e. e) (λ some. absurd (h some)) (none_or t)
 -- the ends of entries from places of which all is gone over
 pub ends_within : (g : Grammar) (lists : List (Vec Entry)) (ends starts : List (Vec Reach)) → ∥ AreReached lists ends starts ∥₁ → (sort least : ℕ) (stretch grown : Stretch) →
     ((place : ℕ) (m : Maker) (p : ℕ) → IsIn stretch place → HasReach (reaches_at ends place) m p → FitsPart g m sort least → IsIn grown p) →
-    (place i : ℕ) (e : Entry) → IsIn stretch place → slice_get (list_at lists place) i ≡ Some e → FitsPart g e.maker sort least → IsIn grown e.to
+    (place i : ℕ) (e : Entry) → IsIn stretch place → slice_get (entries_at lists place) i ≡ Some e → FitsPart g e.maker sort least → IsIn grown e.to
 ends_within g lists ends starts reached sort least stretch grown each place i e is at fits =
     in_by grown e.to (λ out. unrefuted reached (λ r. out (each place e.maker e.to is (r.onward place i e at) fits)))
 
 -- an entry from another place than those that reach where the row has ways ends where it has none
 pub none_beside : (g : Grammar) (lists : List (Vec Entry)) (ends starts : List (Vec Reach)) → ∥ AreReached lists ends starts ∥₁ → (sort least : ℕ) (row : Row) (grown : Stretch) →
     ((n : ℕ) (m : Maker) (p : ℕ) → n < length row.ways → (ways_at row.ways n ≡ no_way → ⊥) → HasReach (reaches_at starts (row.end - (n + 1))) m p → FitsPart g m sort least → IsIn grown p) →
-    (place i : ℕ) (e : Entry) → slice_get (list_at lists place) i ≡ Some e → FitsPart g e.maker sort least → (IsIn grown place → ⊥) → ways_of row e.to ≡ no_way
+    (place i : ℕ) (e : Entry) → slice_get (entries_at lists place) i ≡ Some e → FitsPart g e.maker sort least → (IsIn grown place → ⊥) → ways_of row e.to ≡ no_way
 none_beside g lists ends starts reached sort least row grown each place i e at fits out = by_order (cases_lt e.to row.end) (cases_lt (row.end - 1 - e.to) (length row.ways))
   where
     by_order : (e.to < row.end) ⊎ (row.end ≤ e.to) → (row.end - 1 - e.to < length row.ways) ⊎ (length row.ways ≤ row.end - 1 - e.to) → ways_of row e.to ≡ no_way

@@ -2,13 +2,19 @@
 use Rattle.std.proofs.Common.{◌≡◌, ℕ, suc, List, [], ◌∷◌, Some, length, refl, ap, subst, arith}
 use Rattle.std.specs.Prelude.{slice_get}
 use Rattle.sx_grammar.specs.declared.head.Head.TheVariants.{Labelled, Bracketed}
-use Rattle.sx_grammar.specs.Grammar.{Text, Symbol, literal, part, Production, Brackets, Grammar, Token, is_lexeme, is_variable, of_kind, of_sort, pair_of, bracket_production}
-use Rattle.sx_grammar.specs.Reading.{Reading, Readings, Reads, by_production, by_brackets, by_variable, ReadsAll, all_read, by_literal, by_lexeme, by_lexical_variable, by_part, ReadsWhole}
-use Rattle.sx_grammar.specs.ReadOne.{ReadAnswer, IsAnswer, only, too_hard, no_reading, too_deep, ambiguous}
+use Rattle.sx_grammar.specs.Grammar.{Text, Symbol, literal, part, Production, Brackets, Grammar}
+use Rattle.sx_grammar.specs.Grammar.{Token, is_lexeme, is_variable, of_kind, of_sort, pair_of}
+use Rattle.sx_grammar.specs.Grammar.{bracket_production}
+use Rattle.sx_grammar.specs.Reading.{Reading, Readings, Reads, by_production, by_brackets}
+use Rattle.sx_grammar.specs.Reading.{by_variable, ReadsAll, all_read, by_literal, by_lexeme}
+use Rattle.sx_grammar.specs.Reading.{by_lexical_variable, by_part, ReadsWhole}
+use Rattle.sx_grammar.specs.ReadOne.{ReadAnswer, IsAnswer, only, too_hard, no_reading, too_deep}
+use Rattle.sx_grammar.specs.ReadOne.{ambiguous}
 use Rattle.sx_forest.specs.Readings.{plain_reading}
 use Rattle.sx_forest.specs.declared.read_error.ReadError.{ReadError}
-use Rattle.sx_forest.specs.declared.read_error.ReadError.TheVariants.{Memory, TooHard, NoReading, TooDeep, Ambiguous}
-use Rattle.sx_forest.specs.Verdict.{IsRefusal}
+use Rattle.sx_forest.specs.declared.read_error.ReadError.TheVariants.{Memory, TooHard, NoReading}
+use Rattle.sx_forest.specs.declared.read_error.ReadError.TheVariants.{TooDeep, Ambiguous}
+use Rattle.sx_forest.specs.Verdict.{IsReadRefusal}
 use Rattle.sx_earley.proofs.Literals.{HasLiteral}
 use Rattle.sx_earley.proofs.Sameness.{AllSame, turned, literal_same, marked_same, more_same, reach_same}
 
@@ -83,7 +89,7 @@ answer_same g xs ys same start (ambiguous one other) h = (
 
 -- so it is of refusals
 pub refusal_same : (g : Grammar) (xs ys : List Token) → AllSame g xs ys → (start : ℕ) (labels texts : List (List ℕ)) (e : ReadError) →
-    IsRefusal labels texts g xs start e → IsRefusal labels texts g ys start e
+    IsReadRefusal labels texts g xs start e → IsReadRefusal labels texts g ys start e
 refusal_same g xs ys same start labels texts Memory h = h
 refusal_same g xs ys same start labels texts TooHard h = answer_same g xs ys same start too_hard h
 refusal_same g xs ys same start labels texts (NoReading end) h = answer_same g xs ys same start (no_reading end) h

@@ -4,11 +4,16 @@ use Rattle.std.specs.List.{slice_get}
 use Rattle.std.proofs.lemmas.Bool.{cases_lt}
 use Rattle.std.proofs.lemmas.Option.{slice_get_within, same_Some}
 use Rattle.sx_term.specs.declared.lex_kind.LexKind.{LexKind}
-use Rattle.sx_grammar.specs.Grammar.{Symbol, literal, lexical, part, Production, Grammar, Token, production_of, pair_of, is_variable, is_lexeme, of_sort, of_kind, HasLevels}
+use Rattle.sx_grammar.specs.Grammar.{Symbol, literal, lexical, part, Production, Grammar, Token}
+use Rattle.sx_grammar.specs.Grammar.{production_of, pair_of, is_variable, is_lexeme, of_sort}
+use Rattle.sx_grammar.specs.Grammar.{of_kind, HasLevels}
 use Rattle.sx_grammar.specs.declared.head.Head.{Head}
 use Rattle.sx_grammar.specs.declared.head.Head.TheVariants.{Labelled, Bracketed}
-use Rattle.sx_grammar.specs.Reading.{Marked, Reading, Readings, bracket, leaf, variable, Reads, ReadsAll, reading_depth, readings_depth, HasSpan, at_node, at_bracket}
-use Rattle.sx_grammar.specs.Items.{ReadsToken, NextIs, Item, Span, started, predicted, scanned, completed}
+use Rattle.sx_grammar.specs.Reading.{Marked, Reading, Readings, bracket, leaf, variable, Reads}
+use Rattle.sx_grammar.specs.Reading.{ReadsAll, reading_depth, readings_depth, HasSpan, at_node}
+use Rattle.sx_grammar.specs.Reading.{at_bracket}
+use Rattle.sx_grammar.specs.Items.{ReadsToken, NextIs, Item, Span, started, predicted, scanned}
+use Rattle.sx_grammar.specs.Items.{completed}
 use Rattle.sx_grammar.specs.Order.{IsRanking, ComesBefore}
 use Rattle.sx_grammar.specs.Tally.{Tally, no_way, one_way, IsTally, IsLeafAt, ReadsAt}
 use Rattle.sx_grammar.proofs.Deciding.{lexical_read, literal_read, bracket_sort, literal_elsewhere, literal_tally, lexical_tally, none_tally, none_elsewhere, by_kind}
@@ -21,19 +26,19 @@ use Rattle.sx_forest.specs.declared.entry.Maker.{Maker}
 use Rattle.sx_forest.specs.declared.entry.Maker.TheVariants.{Variable, By}
 use Rattle.sx_forest.specs.declared.entry.Entry.{Entry}
 use Rattle.sx_forest.specs.Tallies.{tally_of, IsLastRow}
-use Rattle.sx_forest.specs.Rows.{FitsPart, IsPlace, IsNext, IsIn, IsRow, list_at}
-use Rattle.sx_forest.specs.Table.{IsSoundBy, IsTable, HasBefore, IsRight}
+use Rattle.sx_forest.specs.Rows.{FitsPart, IsPlaceRow, IsNextRow, IsIn, IsStretchRow, entries_at}
+use Rattle.sx_forest.specs.Table.{IsSoundBy, IsForestTable, HasBefore, IsRight}
 use Rattle.sx_forest.proofs.Counting.{makes_is, of_sort_is, KidOf, part_counted}
 use Rattle.sx_forest.proofs.Using.{kid_end}
 
 -- where a row has a way, it is made there
 pub row_there : (g : Grammar) (tokens : List Token) (lists : List (Vec Entry)) (symbol : Option Symbol) (to place : ℕ) (stretch : Stretch) (next row : ℕ → Tally) →
-    IsRow g tokens lists symbol to stretch next row → (row place ≡ no_way → ⊥) → IsNext g tokens (list_at lists place) symbol place next (row place)
+    IsStretchRow g tokens lists symbol to stretch next row → (row place ≡ no_way → ⊥) → IsNextRow g tokens (entries_at lists place) symbol place next (row place)
 row_there g tokens lists symbol to place stretch next row made some =
     by_order (cases_lt place stretch.first) (cases_lt place stretch.end) (cases_lt to place)
   where
     by_order : (place < stretch.first) ⊎ (stretch.first ≤ place) → (place < stretch.end) ⊎ (stretch.end ≤ place) → (to < place) ⊎ (place ≤ to) →
-        IsNext g tokens (list_at lists place) symbol place next (row place)
+        IsNextRow g tokens (entries_at lists place) symbol place next (row place)
     by_order (inl before) h k = absurd (some (made.outside place (λ low is. let first = is.0 in omega arith)))
     by_order (inr after) (inr past) k = absurd (some (made.outside place (λ low is. let last = is.1 in omega arith)))
     by_order (inr after) (inl under) (inl beyond) = absurd (some (made.outside place (λ low is. omega arith)))
@@ -108,7 +113,7 @@ module _ (g : Grammar) (tokens : List Token) (start : ℕ) where
       let same : s ≡ sort = sym (bracket_sort g tokens s (pair_of g s) k.0.production k.0.is) ∙ k.0.same_sort in
       rw k.1.0.1 (subst (λ x. HasSpan g sort (bracket k.1.0.0 place middle) (Bracketed x) place middle) (sym same) at_bracket)
 
-  module _ (levels : HasLevels g) (rank : ℕ → ℕ) (ranking : IsRanking g rank) (lists : List (Vec Entry)) (table : IsTable g tokens start lists)
+  module _ (levels : HasLevels g) (rank : ℕ → ℕ) (ranking : IsRanking g rank) (lists : List (Vec Entry)) (table : IsForestTable g tokens start lists)
       (head : Head) (p : Production) (is : production_of g head ≡ Some p) (from to : ℕ) (has : HasBefore g tokens start rank lists head from to (rank p.sort)) where
     -- the symbols before a place
     before_left : {xs : List Symbol} {dot : ℕ} {rest : List Symbol} → Left xs dot rest → xs ≡ take dot xs ++ rest
@@ -140,7 +145,7 @@ module _ (g : Grammar) (tokens : List Token) (start : ℕ) where
 
     pub covered : (dot place sort least : ℕ) (rest : List Symbol) → Left p.symbols dot (part sort least ∷ rest) → Item g tokens start head dot from place →
         (middle : ℕ) (kid : Reading) (ks : Readings) → Reads g tokens sort least place middle kid → ReadsAll g tokens rest middle to ks →
-        (i : ℕ) × (e : Entry) × (slice_get (list_at lists place) i ≡ Some e) × KidOf g tokens e.maker sort least place middle kid × (e.to ≡ middle)
+        (i : ℕ) × (e : Entry) × (slice_get (entries_at lists place) i ≡ Some e) × KidOf g tokens e.maker sort least place middle kid × (e.to ≡ middle)
     covered dot place sort least rest left item middle kid ks reads more = by_case (by_kind g tokens reads low)
       where
         next : NextIs g head dot (part sort least)
@@ -150,7 +155,7 @@ module _ (g : Grammar) (tokens : List Token) (start : ℕ) where
         low = part_low g tokens start levels head p dot sort least is (left_first (part sort least) rest left)
 
         by_case : (Marked tokens place (is_variable (of_sort sort)) × (middle ≡ suc place) × (kid ≡ variable place)) ⊎ ((h : Head) × ReadsAt g tokens sort least place middle h kid) →
-            (i : ℕ) × (e : Entry) × (slice_get (list_at lists place) i ≡ Some e) × KidOf g tokens e.maker sort least place middle kid × (e.to ≡ middle)
+            (i : ℕ) × (e : Entry) × (slice_get (entries_at lists place) i ≡ Some e) × KidOf g tokens e.maker sort least place middle kid × (e.to ≡ middle)
         by_case (inl v) =
             let entry = table.variables place sort v.0 in
             (entry.0, entry.1, entry.2, subst (λ m. KidOf g tokens m sort least place middle kid) (sym entry.3) (refl, v), entry.4 ∙ sym v.1)
@@ -164,7 +169,7 @@ module _ (g : Grammar) (tokens : List Token) (start : ℕ) where
 
     -- the ways at a place are those of the symbol's readings
     place_right : (dot place : ℕ) (symbol : Symbol) (rest : List Symbol) (next row : ℕ → Tally) (t : Tally) → Left p.symbols dot (symbol ∷ rest) →
-        IsRight g tokens start head (suc dot) from to rest next → Item g tokens start head dot from place → IsPlace g tokens (list_at lists place) symbol place next t →
+        IsRight g tokens start head (suc dot) from to rest next → Item g tokens start head dot from place → IsPlaceRow g tokens (entries_at lists place) symbol place next t →
         IsTally (ReadsAll g tokens (symbol ∷ rest) place to) readings_depth t
     place_right dot place (literal text) rest next row t left right item (inl h) =
         rw h.1 (literal_tally g tokens text rest place to (next (suc place)) h.0
@@ -176,7 +181,7 @@ module _ (g : Grammar) (tokens : List Token) (start : ℕ) where
     place_right dot place (lexical kind) rest next row t left right item (inr h) =
         rw h.1 (λ ks all. let l = lexical_read g tokens all in h.0 (no_leaf kind place l.0 l.2))
     place_right dot place (part sort least) rest next row t left right item sum =
-        part_counted g tokens start sort least place to rest next (list_at lists place) (table.sound place) (table.once place)
+        part_counted g tokens start sort least place to rest next (entries_at lists place) (table.sound place) (table.once place)
         (λ i e at fits. right e.to (over e.maker e.to (tally_of e.ways) (table.sound place i e at) fits))
         t sum (covered dot place sort least rest left item)
       where
@@ -190,7 +195,7 @@ module _ (g : Grammar) (tokens : List Token) (start : ℕ) where
     -- a row before a right row is right, where the stretch has each place from which the rest is read
     pub row_right : (dot : ℕ) (symbol : Symbol) (rest : List Symbol) (stretch : Stretch) (next row : ℕ → Tally) → Left p.symbols dot (symbol ∷ rest) →
         ((place : ℕ) (ks : Readings) → Item g tokens start head dot from place → ReadsAll g tokens (symbol ∷ rest) place to ks → IsIn stretch place) →
-        IsRight g tokens start head (suc dot) from to rest next → IsRow g tokens lists (Some symbol) to stretch next row → IsRight g tokens start head dot from to (symbol ∷ rest) row
+        IsRight g tokens start head (suc dot) from to rest next → IsStretchRow g tokens lists (Some symbol) to stretch next row → IsRight g tokens start head dot from to (symbol ∷ rest) row
     row_right dot symbol rest stretch next row left there right made place item = by_order (cases_lt place stretch.first) (cases_lt place stretch.end) (cases_lt to place)
       where
         none : (place ≤ to → IsIn stretch place → ⊥) → IsTally (ReadsAll g tokens (symbol ∷ rest) place to) readings_depth (row place)

@@ -4,15 +4,17 @@ use Rattle.std.specs.List.{slice_get}
 use Rattle.std.proofs.lemmas.Option.{same_Some, none-some}
 use Rattle.sx_term.specs.declared.lex_kind.LexKind.{LexKind}
 use Rattle.sx_grammar.specs.declared.head.Head.{Head}
-use Rattle.sx_grammar.specs.Grammar.{Symbol, Text, literal, lexical, Production, Grammar, Token, production_of}
-use Rattle.sx_grammar.specs.Reading.{Reading, Readings, done, ◌▸◌, ReadsAll, all_read, by_literal, by_lexeme, by_lexical_variable, ReadsBy}
+use Rattle.sx_grammar.specs.Grammar.{Symbol, Text, literal, lexical, Production, Grammar, Token}
+use Rattle.sx_grammar.specs.Grammar.{production_of}
+use Rattle.sx_grammar.specs.Reading.{Reading, Readings, done, ◌▸◌, ReadsAll, all_read, by_literal}
+use Rattle.sx_grammar.specs.Reading.{by_lexeme, by_lexical_variable, ReadsBy}
 use Rattle.sx_grammar.specs.Items.{ReadsToken, Span}
 use Rattle.sx_grammar.specs.Tally.{IsLeafAt}
 use Rattle.sx_grammar.proofs.Soundness.{items_read, whole_of}
 use Rattle.sx_earley.specs.Chart.{next_symbol}
 use Rattle.sx_forest.specs.declared.entry.Maker.TheVariants.{By}
-use Rattle.sx_forest.specs.Rows.{count_of}
-use Rattle.sx_forest.specs.Forests.{symbols_in, symbols_of, IsBy, HasKids, IsMadeOf}
+use Rattle.sx_forest.specs.Rows.{symbol_count}
+use Rattle.sx_forest.specs.Forests.{symbols_in, symbols_of, IsBy, HasKids, IsReadingMade}
 use Rattle.sx_forest.proofs.Making.{are_kids, made_reads}
 use Rattle.sx_forest.proofs.Stepwise.{symbol_there, count_long, leaf_read}
 
@@ -22,7 +24,7 @@ only_one (y ∷ []) x long e = ap (λ z. z ∷ []) (same_Some y x e)
 only_one (y ∷ z ∷ zs) x long e = absurd (omega arith)
 
 -- the one symbol of a head is the first
-pub lone_symbol : (g : Grammar) (head : Head) (x : Symbol) → count_of (production_of g head) ≡ 1 → next_symbol g head 0 ≡ Some x → symbols_of g head ≡ x ∷ []
+pub lone_symbol : (g : Grammar) (head : Head) (x : Symbol) → symbol_count (production_of g head) ≡ 1 → next_symbol g head 0 ≡ Some x → symbols_of g head ≡ x ∷ []
 lone_symbol g head x one first =
     only_one (symbols_of g head) x (sym (count_long (production_of g head)) ∙ one) (sym (symbol_there (production_of g head) 0) ∙ first)
 
@@ -70,7 +72,7 @@ module _ (g : Grammar) (tokens : List Token) where
     kids_alone ks all = are_kids g tokens head p from to ks is (subst (λ xs. ReadsAll g tokens xs from to ks) symbols all)
 
     -- and what is made of them is by it
-    pub made_alone : (ks : Readings) (r : Reading) → ReadsAll g tokens (symbols_of g head) from to ks → IsMadeOf head ks from to r → IsBy g tokens (By head) from to r
+    pub made_alone : (ks : Readings) (r : Reading) → ReadsAll g tokens (symbols_of g head) from to ks → IsReadingMade head ks from to r → IsBy g tokens (By head) from to r
     made_alone ks r all made = λ sort makes.
         let reads = made_reads g tokens head p from to ks r is (subst (λ xs. ReadsAll g tokens xs from to ks) symbols all) made in
         let same : makes.production ≡ p = same_Some makes.production p (sym makes.is ∙ is) in

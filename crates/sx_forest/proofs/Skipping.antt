@@ -9,7 +9,7 @@ use Rattle.sx_forest.specs.declared.row.Row.{Row}
 use Rattle.sx_forest.specs.declared.stretch.Stretch.{Stretch}
 use Rattle.sx_forest.specs.declared.ways.Ways.{Ways}
 use Rattle.sx_forest.specs.Tallies.{tally_of, ways_of}
-use Rattle.sx_forest.specs.Rows.{list_at, IsNext, IsIn, IsExtended, IsRow}
+use Rattle.sx_forest.specs.Rows.{entries_at, IsNextRow, IsIn, IsRowExtended, IsStretchRow}
 use Rattle.sx_forest.proofs.RowWays.{pushed_there, pushed_kept, empty_none}
 use Rattle.sx_forest.proofs.Pushing.{one_longer}
 
@@ -17,7 +17,7 @@ use Rattle.sx_forest.proofs.Pushing.{one_longer}
 pub record IsExtendedTo (g : Grammar) (tokens : List Token) (lists : List (Vec Entry)) (symbol : Option Symbol) (next : ℕ → Tally) (places : Stretch) (old : Row) (place : ℕ) (new : Row) : Type 0 where
   pub low : (places.first ≤ place) ⊎ (place ≡ places.end)
   pub high : place ≤ places.end
-  pub each : (p : ℕ) → place ≤ p → p < places.end → IsNext g tokens (list_at lists p) symbol p next (ways_of new p)
+  pub each : (p : ℕ) → place ≤ p → p < places.end → IsNextRow g tokens (entries_at lists p) symbol p next (ways_of new p)
   pub kept : (p : ℕ) → (p < place) ⊎ (places.end ≤ p) → ways_of new p ≡ ways_of old p
   pub first : new.end ≡ place + length new.ways
 
@@ -34,7 +34,7 @@ module _ (g : Grammar) (tokens : List Token) (lists : List (Vec Entry)) (symbol 
     first = joins;
   }
 
-  module _ (before : ℕ) (mid : Row) (so : So before mid) (place : ℕ) (at : before ≡ suc place) (above : places.first < before) (w : Ways) (here : IsNext g tokens (list_at lists place) symbol place next (tally_of w)) (new : Row) where
+  module _ (before : ℕ) (mid : Row) (so : So before mid) (place : ℕ) (at : before ≡ suc place) (above : places.first < before) (w : Ways) (here : IsNextRow g tokens (entries_at lists place) symbol place next (tally_of w)) (new : Row) where
     -- the same ways at the other places, and these here
     on : new.end ≡ place + length new.ways → ways_of new place ≡ tally_of w → ((p : ℕ) → (p ≡ place → ⊥) → ways_of new p ≡ ways_of mid p) → So place new
     on first there same = record {
@@ -45,11 +45,11 @@ module _ (g : Grammar) (tokens : List Token) (lists : List (Vec Entry)) (symbol 
       first = first;
     }
       where
-        by_place : (p : ℕ) → place ≤ p → p < places.end → (place < p) ⊎ (p ≤ place) → IsNext g tokens (list_at lists p) symbol p next (ways_of new p)
-        by_place p a b (inl after) = subst (λ t. IsNext g tokens (list_at lists p) symbol p next t) (sym (same p (λ e. omega arith))) (so.each p (omega arith) b)
+        by_place : (p : ℕ) → place ≤ p → p < places.end → (place < p) ⊎ (p ≤ place) → IsNextRow g tokens (entries_at lists p) symbol p next (ways_of new p)
+        by_place p a b (inl after) = subst (λ t. IsNextRow g tokens (entries_at lists p) symbol p next t) (sym (same p (λ e. omega arith))) (so.each p (omega arith) b)
         by_place p a b (inr low) =
             let e : place ≡ p = omega arith in
-            subst (λ q. IsNext g tokens (list_at lists q) symbol q next (ways_of new q)) e (subst (λ t. IsNext g tokens (list_at lists place) symbol place next t) (sym there) here)
+            subst (λ q. IsNextRow g tokens (entries_at lists q) symbol q next (ways_of new q)) e (subst (λ t. IsNextRow g tokens (entries_at lists place) symbol place next t) (sym there) here)
 
         by_kept : (p : ℕ) → (p < place) ⊎ (places.end ≤ p) → ways_of new p ≡ ways_of old p
         by_kept p (inl low) = same p (λ e. omega arith) ∙ so.kept p (inl (omega arith))
@@ -67,7 +67,7 @@ module _ (g : Grammar) (tokens : List Token) (lists : List (Vec Entry)) (symbol 
         on (let z : length new.ways ≡ 0 = ap length empty in omega arith) (empty_none new place empty ∙ sym nothing)
         (λ p other. empty_none new p empty ∙ sym (empty_none mid p none))
 
-  pub extends_all : (place : ℕ) (new : Row) → So place new → place ≤ places.first → IsExtended g tokens lists symbol next places old new
+  pub extends_all : (place : ℕ) (new : Row) → So place new → place ≤ places.first → IsRowExtended g tokens lists symbol next places old new
   extends_all place new so end = record {
     each = λ p is. so.each p (let h = is.0 in omega arith) is.1;
     kept = λ p out. by_place p out (cases_lt p place) (cases_lt p places.end);
@@ -93,7 +93,7 @@ module _ (g : Grammar) (tokens : List Token) (lists : List (Vec Entry)) (symbol 
 
 -- a row that is made from nothing
 pub row_is : (g : Grammar) (tokens : List Token) (lists : List (Vec Entry)) (symbol : Option Symbol) (to : ℕ) (places : Stretch) (next : ℕ → Tally) (old new : Row) →
-    places.end ≤ to + 1 → old.ways ≡ [] → IsExtended g tokens lists symbol next places old new → IsRow g tokens lists symbol to places next (ways_of new)
+    places.end ≤ to + 1 → old.ways ≡ [] → IsRowExtended g tokens lists symbol next places old new → IsStretchRow g tokens lists symbol to places next (ways_of new)
 row_is g tokens lists symbol to places next old new end none made = record {
   each = λ p low is. made.each p is;
   outside = λ p out. made.kept p (λ is. let h = is.1 in out (omega arith) is) ∙ empty_none old p none;

@@ -3,10 +3,13 @@ use Rattle.std.specs.Global.{Vec}
 use Rattle.std.specs.List.{slice_get}
 use Rattle.std.proofs.lemmas.Option.{same_Some}
 use Rattle.std.proofs.Math.Nat.{mul-le-mul_right}
-use Rattle.sx_grammar.specs.Grammar.{Symbol, literal, part, Production, Brackets, Grammar, Token, production_of, pair_of, HasLevels}
+use Rattle.sx_grammar.specs.Grammar.{Symbol, literal, part, Production, Brackets, Grammar, Token}
+use Rattle.sx_grammar.specs.Grammar.{production_of, pair_of, HasLevels}
 use Rattle.sx_grammar.specs.declared.head.Head.{Head}
 use Rattle.sx_grammar.specs.declared.head.Head.TheVariants.{Labelled, Bracketed}
-use Rattle.sx_grammar.specs.Reading.{IsLiteral, Reading, Readings, bracket, done, ◌▸◌, Reads, by_brackets, ReadsAll, all_read, by_literal, by_part, reading_depth, readings_depth, ReadsBy}
+use Rattle.sx_grammar.specs.Reading.{IsLiteral, Reading, Readings, bracket, done, ◌▸◌, Reads}
+use Rattle.sx_grammar.specs.Reading.{by_brackets, ReadsAll, all_read, by_literal, by_part}
+use Rattle.sx_grammar.specs.Reading.{reading_depth, readings_depth, ReadsBy}
 use Rattle.sx_grammar.specs.Items.{Span}
 use Rattle.sx_grammar.specs.Order.{IsRanking}
 use Rattle.sx_grammar.specs.Tally.{Tally, no_way, one_way, more_ways, deeper, IsTally}
@@ -20,9 +23,10 @@ use Rattle.sx_earley.specs.Chart.{next_symbol, symbol_after}
 use Rattle.sx_forest.specs.declared.stretch.Stretch.{Stretch}
 use Rattle.sx_forest.specs.declared.entry.Maker.TheVariants.{By}
 use Rattle.sx_forest.specs.declared.entry.Entry.{Entry}
-use Rattle.sx_forest.specs.Tallies.{IsSmall}
-use Rattle.sx_forest.specs.Rows.{count_of, stretch_at, AreStretches, AreWays, IsSpanWays, IsRow}
-use Rattle.sx_forest.specs.Table.{IsSoundBy, IsTable, HasBefore, IsRight}
+use Rattle.sx_forest.specs.Tallies.{IsSmallTally}
+use Rattle.sx_forest.specs.Rows.{symbol_count, stretch_at, AreStretches, AreWays, IsSpanWays}
+use Rattle.sx_forest.specs.Rows.{IsStretchRow}
+use Rattle.sx_forest.specs.Table.{IsSoundBy, IsForestTable, HasBefore, IsRight}
 use Rattle.sx_forest.proofs.Covering.{in_stretch}
 use Rattle.sx_forest.proofs.Rows.{last_right, row_right, span_within}
 
@@ -67,7 +71,7 @@ single_tally Q one (more_ways d) h =
     )
 
 -- one more is a depth, and so fits where depths do
-pub small_from : {A : Type 0} (P : A → Type 0) (depth : A → ℕ) (limit : ℕ) → limit ≤ 2 ^ 63 → ((a : A) → P a → depth a ≤ limit) → (t : Tally) → IsTally P depth (deeper t) → IsSmall t
+pub small_from : {A : Type 0} (P : A → Type 0) (depth : A → ℕ) (limit : ℕ) → limit ≤ 2 ^ 63 → ((a : A) → P a → depth a ≤ limit) → (t : Tally) → IsTally P depth (deeper t) → IsSmallTally t
 small_from P depth limit fits bound no_way h = tt
 small_from P depth limit fits bound (one_way d) h = let b = bound h.0 h.1 in omega (arith, h.2)
 small_from P depth limit fits bound (more_ways d) h = let b = bound h.5.deepest h.5.holds in omega (arith, h.5.is)
@@ -127,7 +131,7 @@ depth_fits g tokens rank ranking many short sort from to r along within reads =
     let wide = mul-le-mul_right {m = to - from} {n = 10000} (length g.productions + 1) (omega arith) in
     omega arith
 
-module _ (g : Grammar) (tokens : List Token) (start : ℕ) (levels : HasLevels g) (rank : ℕ → ℕ) (ranking : IsRanking g rank) (lists : List (Vec Entry)) (table : IsTable g tokens start lists)
+module _ (g : Grammar) (tokens : List Token) (start : ℕ) (levels : HasLevels g) (rank : ℕ → ℕ) (ranking : IsRanking g rank) (lists : List (Vec Entry)) (table : IsForestTable g tokens start lists)
     (head : Head) (p : Production) (is : production_of g head ≡ Some p) (from to : ℕ) (along : from ≤ to) (has : HasBefore g tokens start rank lists head from to (rank p.sort)) where
   -- each row of a span is right
   pub rows_right : (stretches : List Stretch) (row : ℕ → ℕ → Tally) → AreStretches g tokens lists head (length p.symbols) from to stretches →
@@ -142,9 +146,9 @@ module _ (g : Grammar) (tokens : List Token) (start : ℕ) (levels : HasLevels g
       let here : length p.symbols - k - 1 ≡ dot = omega arith in
       let symbol : next_symbol g head dot ≡ Some m.0 = ap (λ o. symbol_after o dot) is ∙ m.3 in
       let made = are.each k (omega arith) in
-      let made' : IsRow g tokens lists (Some m.0) to (stretch_at stretches dot) (row k) (row (k + 1)) =
-      subst (λ o. IsRow g tokens lists o to (stretch_at stretches dot) (row k) (row (k + 1))) symbol
-      (subst (λ d. IsRow g tokens lists (next_symbol g head d) to (stretch_at stretches d) (row k) (row (k + 1))) here made) in
+      let made' : IsStretchRow g tokens lists (Some m.0) to (stretch_at stretches dot) (row k) (row (k + 1)) =
+      subst (λ o. IsStretchRow g tokens lists o to (stretch_at stretches dot) (row k) (row (k + 1))) symbol
+      (subst (λ d. IsStretchRow g tokens lists (next_symbol g head d) to (stretch_at stretches d) (row k) (row (k + 1))) here made) in
       rw m.2
       (row_right g tokens start levels rank ranking lists table head p is from to has dot m.0 m.1 (stretch_at stretches dot) (row k) (row (suc k)) left'
       (λ place ks item all. in_stretch g tokens start levels rank ranking lists table head p is from to has stretches spread item refl refl (omega arith) (m.0 ∷ m.1) left' ks all)
@@ -156,7 +160,7 @@ module _ (g : Grammar) (tokens : List Token) (start : ℕ) (levels : HasLevels g
   span_sound span many short t w =
       let row = w.row in
       let n = length p.symbols in
-      let counted : count_of (production_of g head) ≡ n = ap count_of is in
+      let counted : symbol_count (production_of g head) ≡ n = ap symbol_count is in
       let stretches = w.stretches in
       let spread : AreStretches g tokens lists head n from to stretches = subst (λ c. AreStretches g tokens lists head c from to stretches) counted w.spread in
       let are : AreWays g tokens lists head n n to stretches row = subst (λ c. AreWays g tokens lists head c c to stretches row) counted w.are in
@@ -164,9 +168,9 @@ module _ (g : Grammar) (tokens : List Token) (start : ℕ) (levels : HasLevels g
       let all : IsTally (ReadsAll g tokens p.symbols from to) readings_depth u =
       rows_right stretches row spread are n 0 (omega arith) p.symbols from_start from (begins g tokens start levels span.2) in
       let by : IsTally (ReadsBy g tokens head p.sort from to) reading_depth (deeper u) = head_tally g tokens head p from to u is all in
-      let small : IsSmall u = small_from (ReadsBy g tokens head p.sort from to) reading_depth (2 ^ 62) (omega arith)
+      let small : IsSmallTally u = small_from (ReadsBy g tokens head p.sort from to) reading_depth (2 ^ 62) (omega arith)
       (λ r reads. depth_fits g tokens rank ranking many short p.sort from to r along (span_within g tokens start head from to span) reads.1) u by in
-      let same : t ≡ deeper u = subst (λ c. IsSmall (row c from) → t ≡ deeper (row c from)) counted w.is small in (
+      let same : t ≡ deeper u = subst (λ c. IsSmallTally (row c from) → t ≡ deeper (row c from)) counted w.is small in (
         span,
         λ sort makes.
             let production : makes.production ≡ p = same_Some makes.production p (sym makes.is ∙ is) in

@@ -7,8 +7,11 @@ use Rattle.std.proofs.lemmas.Bool.{cases_lt}
 use Rattle.std.proofs.lemmas.List.{take_all}
 use Rattle.std.proofs.lemmas.Option.{slice_get_within, slice_get-get_or, same_Some, none-some}
 use Rattle.sx_term.specs.declared.lex_kind.LexKind.{LexKind}
-use Rattle.sx_grammar.specs.Grammar.{Symbol, literal, lexical, part, Production, Grammar, Token, production_of, is_variable, of_sort, HasLevels}
-use Rattle.sx_grammar.specs.Reading.{Marked, Reading, Readings, done, ◌▸◌, ReadsAll, all_read, by_literal, by_lexeme, by_lexical_variable, by_part, reading_depth, readings_depth, ReadsBy}
+use Rattle.sx_grammar.specs.Grammar.{Symbol, literal, lexical, part, Production, Grammar, Token}
+use Rattle.sx_grammar.specs.Grammar.{production_of, is_variable, of_sort, HasLevels}
+use Rattle.sx_grammar.specs.Reading.{Marked, Reading, Readings, done, ◌▸◌, ReadsAll, all_read}
+use Rattle.sx_grammar.specs.Reading.{by_literal, by_lexeme, by_lexical_variable, by_part}
+use Rattle.sx_grammar.specs.Reading.{reading_depth, readings_depth, ReadsBy}
 use Rattle.sx_grammar.specs.Items.{ReadsToken, Makes, NextIs, Item, scanned, completed}
 use Rattle.sx_grammar.specs.Order.{IsRanking}
 use Rattle.sx_grammar.specs.Tally.{Tally, no_way, one_way, times, IsTally, IsLeafAt}
@@ -23,10 +26,13 @@ use Rattle.sx_forest.specs.declared.stretch.Stretch.{Stretch}
 use Rattle.sx_forest.specs.declared.step.Step.{Step}
 use Rattle.sx_forest.specs.declared.step.Step.TheVariants as steps
 use Rattle.sx_forest.specs.Tallies.{tally_of}
-use Rattle.sx_forest.specs.Rows.{FitsPart, IsPlace, stretch_at, AreStretches, IsRow, AreRows, count_of, row_at, list_at}
+use Rattle.sx_forest.specs.Rows.{FitsPart, IsPlaceRow, stretch_at, AreStretches, IsStretchRow}
+use Rattle.sx_forest.specs.Rows.{AreRows, symbol_count, tally_at, entries_at}
 use Rattle.sx_forest.specs.Useful.{IsUsefulBy, useful_kid}
 use Rattle.sx_forest.specs.Table.{IsSoundBy, IsFull, IsRight}
-use Rattle.sx_forest.specs.Forests.{symbols_in, symbols_of, depth_in, IsMore, IsBy, IsShallow, IsOpened, row_from, IsAt, IsReadTo, IsUsable, IsFirstUsable, IsOver, IsStep, followed}
+use Rattle.sx_forest.specs.Forests.{symbols_in, symbols_of, depth_in, IsMore, IsBy, IsShallowEntry}
+use Rattle.sx_forest.specs.Forests.{IsOpened, row_from, IsAt, IsReadTo, IsUsableEntry}
+use Rattle.sx_forest.specs.Forests.{IsFirstUsable, IsOver, IsItemStep, followed}
 use Rattle.sx_forest.proofs.Counting.{makes_is, KidOf, kid_reads, kid_tally, makes_low}
 use Rattle.sx_forest.proofs.Using.{kid_end}
 use Rattle.sx_forest.proofs.Rows.{row_there, item_forward, span_forward}
@@ -68,15 +74,15 @@ pub symbol_there : (q : Option Production) (dot : ℕ) → symbol_after q dot �
 symbol_there None dot = refl
 symbol_there (Some q) dot = refl
 
-pub count_long : (q : Option Production) → count_of q ≡ length (symbols_in q)
+pub count_long : (q : Option Production) → symbol_count q ≡ length (symbols_in q)
 count_long None = refl
 count_long (Some q) = refl
 
 -- the row after the symbol at the dot
-pub next_row : (g : Grammar) (o : Opened) (dot count : ℕ) (row : ℕ → Tally) → count ≡ count_of (production_of g o.head) → row ≡ row_at o.rows.items (count - dot - 1) → row ≡ row_from g o (suc dot)
+pub next_row : (g : Grammar) (o : Opened) (dot count : ℕ) (row : ℕ → Tally) → count ≡ symbol_count (production_of g o.head) → row ≡ tally_at o.rows.items (count - dot - 1) → row ≡ row_from g o (suc dot)
 next_row g o dot count row long e =
     let same : count - dot - 1 ≡ length (symbols_of g o.head) - suc dot = omega (arith, long, count_long (production_of g o.head)) in
-    e ∙ ap (λ k. row_at o.rows.items k) same
+    e ∙ ap (λ k. tally_at o.rows.items k) same
 
 pub no_symbol : (xs : List Symbol) (dot : ℕ) → dot < length xs → slice_get xs dot ≡ None → ⊥
 no_symbol xs dot low e = none-some (get_or xs dot (literal [])) (sym e ∙ slice_get-get_or xs dot (literal []) low)
@@ -110,10 +116,10 @@ module _ (g : Grammar) (tokens : List Token) (start : ℕ) (levels : HasLevels g
   stretches = opened.rows.stretches
 
   spread : AreStretches g tokens lists o.head (length p.symbols) o.from o.to stretches
-  spread = subst (λ c. AreStretches g tokens lists o.head c o.from o.to stretches) (ap count_of is) opened.rows.spread
+  spread = subst (λ c. AreStretches g tokens lists o.head c o.from o.to stretches) (ap symbol_count is) opened.rows.spread
 
   are : AreRows g tokens lists o.head (length p.symbols) (length p.symbols) o.to stretches o.rows.items
-  are = subst (λ c. AreRows g tokens lists o.head c c o.to stretches o.rows.items) (ap count_of is) opened.rows.are
+  are = subst (λ c. AreRows g tokens lists o.head c c o.to stretches o.rows.items) (ap symbol_count is) opened.rows.are
 
   makes : Makes g o.head p.sort 0
   makes = record { production = p; is = is; same_sort = refl; reaches = omega arith }
@@ -123,11 +129,11 @@ module _ (g : Grammar) (tokens : List Token) (start : ℕ) (levels : HasLevels g
   right dot rest low left =
       let long : n ≡ length p.symbols = ap length symbols in
       rows_right g tokens start levels rank ranking lists full.table o.head p is o.from o.to along (λ other q place end e span after within before part_of. full.has other place end span (useful_kid opened.useful part_of))
-      stretches (row_at o.rows.items) spread (by_rows are) (n - dot) dot (omega arith) rest (subst (λ xs. Left xs dot rest) symbols left)
+      stretches (tally_at o.rows.items) spread (by_rows are) (n - dot) dot (omega arith) rest (subst (λ xs. Left xs dot rest) symbols left)
 
   -- the ways from a place by the symbol after the dot
   pub place_is : (dot place : ℕ) (x : Symbol) → slice_get (symbols_of g o.head) dot ≡ Some x → IsAt g tokens start o dot place →
-      IsPlace g tokens (list_at lists place) x place (row_from g o (suc dot)) ((row_from g o dot) place)
+      IsPlaceRow g tokens (entries_at lists place) x place (row_from g o (suc dot)) ((row_from g o dot) place)
   place_is dot place x e at =
       let low : dot < n = slice_get_within (symbols_of g o.head) dot x e in
       let long : n ≡ length p.symbols = ap length symbols in
@@ -139,25 +145,25 @@ module _ (g : Grammar) (tokens : List Token) (start : ℕ) (levels : HasLevels g
       let up : m + 1 ≡ n - dot = omega arith in
       let symbol : next_symbol g o.head dot ≡ Some x = ap (λ q. symbol_after q dot) is ∙ subst (λ xs. slice_get xs dot ≡ Some x) symbols e in
       let made = are.each m (omega arith) in
-      let made' : IsRow g tokens lists (Some x) o.to (stretch_at stretches dot) next row =
-      subst (λ k. IsRow g tokens lists (Some x) o.to (stretch_at stretches dot) next (row_at o.rows.items k)) up
-      (subst (λ s. IsRow g tokens lists s o.to (stretch_at stretches dot) next (row_at o.rows.items (m + 1))) symbol
-      (subst (λ d. IsRow g tokens lists (next_symbol g o.head d) o.to (stretch_at stretches d) next (row_at o.rows.items (m + 1))) there made)) in
+      let made' : IsStretchRow g tokens lists (Some x) o.to (stretch_at stretches dot) next row =
+      subst (λ k. IsStretchRow g tokens lists (Some x) o.to (stretch_at stretches dot) next (tally_at o.rows.items k)) up
+      (subst (λ s. IsStretchRow g tokens lists s o.to (stretch_at stretches dot) next (tally_at o.rows.items (m + 1))) symbol
+      (subst (λ d. IsStretchRow g tokens lists (next_symbol g o.head d) o.to (stretch_at stretches d) next (tally_at o.rows.items (m + 1))) there made)) in
       row_there g tokens lists (Some x) o.to place (stretch_at stretches dot) next row made' at.some
 
   next_is : (dot : ℕ) (x : Symbol) → slice_get (symbols_of g o.head) dot ≡ Some x → NextIs g o.head dot x
   next_is dot x e = (p, is, subst (λ xs. slice_get xs dot ≡ Some x) symbols e)
 
   -- what begins at a place that is reached ends no earlier than the span begins
-  pub later_there : (dot place : ℕ) → IsAt g tokens start o dot place → (i : ℕ) (e : Entry) → slice_get (list_at lists place) i ≡ Some e → o.from ≤ e.to
+  pub later_there : (dot place : ℕ) → IsAt g tokens start o dot place → (i : ℕ) (e : Entry) → slice_get (entries_at lists place) i ≡ Some e → o.from ≤ e.to
   later_there dot place at i e there =
       let a = all_later g tokens start lists full.table place i e there in let b : o.from ≤ place = item_forward g tokens start at.item in omega arith
 
   -- the step over a literal
-  pub step_literal : (dot place : ℕ) (text : List ℕ) → slice_get (symbols_of g o.head) dot ≡ Some (literal text) → IsAt g tokens start o dot place → IsStep g tokens start lists o dot place steps.Literal
+  pub step_literal : (dot place : ℕ) (text : List ℕ) → slice_get (symbols_of g o.head) dot ≡ Some (literal text) → IsAt g tokens start o dot place → IsItemStep g tokens start lists o dot place steps.Literal
   step_literal dot place text e at = by_case (place_is dot place (literal text) e at)
     where
-      by_case : IsPlace g tokens (list_at lists place) (literal text) place (row_from g o (suc dot)) ((row_from g o dot) place) → IsStep g tokens start lists o dot place steps.Literal
+      by_case : IsPlaceRow g tokens (entries_at lists place) (literal text) place (row_from g o (suc dot)) ((row_from g o dot) place) → IsItemStep g tokens start lists o dot place steps.Literal
       by_case (inl h) = record {
         symbol = literal text;
         is = e;
@@ -167,10 +173,10 @@ module _ (g : Grammar) (tokens : List Token) (start : ℕ) (levels : HasLevels g
       by_case (inr h) = absurd (at.some h.1)
 
   -- the step over a token
-  pub step_token : (dot place : ℕ) (kind : LexKind) → slice_get (symbols_of g o.head) dot ≡ Some (lexical kind) → IsAt g tokens start o dot place → IsStep g tokens start lists o dot place steps.Token
+  pub step_token : (dot place : ℕ) (kind : LexKind) → slice_get (symbols_of g o.head) dot ≡ Some (lexical kind) → IsAt g tokens start o dot place → IsItemStep g tokens start lists o dot place steps.Token
   step_token dot place kind e at = by_case (place_is dot place (lexical kind) e at)
     where
-      by_case : IsPlace g tokens (list_at lists place) (lexical kind) place (row_from g o (suc dot)) ((row_from g o dot) place) → IsStep g tokens start lists o dot place steps.Token
+      by_case : IsPlaceRow g tokens (entries_at lists place) (lexical kind) place (row_from g o (suc dot)) ((row_from g o dot) place) → IsItemStep g tokens start lists o dot place steps.Token
       by_case (inl h) = record {
         symbol = lexical kind;
         is = e;
@@ -189,7 +195,7 @@ module _ (g : Grammar) (tokens : List Token) (start : ℕ) (levels : HasLevels g
 
   -- an item goes over a part by a usable entry, and the rest can be read
   pub after_part : (dot place sort least index : ℕ) (e : Entry) → slice_get (symbols_of g o.head) dot ≡ Some (part sort least) → IsAt g tokens start o dot place →
-      slice_get (list_at lists place) index ≡ Some e → IsUsable g sort least (row_from g o (suc dot)) e → IsAt g tokens start o (suc dot) e.to
+      slice_get (entries_at lists place) index ≡ Some e → IsUsableEntry g sort least (row_from g o (suc dot)) e → IsAt g tokens start o (suc dot) e.to
   after_part dot place sort least index e symbol at there used = record {
     item = over dot place sort least e.maker e.to (tally_of e.ways) (next_is dot (part sort least) symbol) at.item (full.table.sound place index e there) used.0;
     some = λ z. used.1 (ap (λ u. times (tally_of e.ways) u) z ∙ times_none (tally_of e.ways));
@@ -197,7 +203,7 @@ module _ (g : Grammar) (tokens : List Token) (start : ℕ) (levels : HasLevels g
 
   -- the step over a part
   pub step_part : (dot place sort least index : ℕ) (e : Entry) → slice_get (symbols_of g o.head) dot ≡ Some (part sort least) → IsAt g tokens start o dot place →
-      IsFirstUsable g sort least (row_from g o (suc dot)) (list_at lists place) 0 (Some (index, e)) → IsStep g tokens start lists o dot place (steps.Part index e)
+      IsFirstUsable g sort least (row_from g o (suc dot)) (entries_at lists place) 0 (Some (index, e)) → IsItemStep g tokens start lists o dot place (steps.Part index e)
   step_part dot place sort least index e symbol at first = record {
     symbol = part sort least;
     is = symbol;
@@ -207,14 +213,14 @@ module _ (g : Grammar) (tokens : List Token) (start : ℕ) (levels : HasLevels g
 
   -- some entry is usable
   pub some_usable : (dot place sort least : ℕ) → slice_get (symbols_of g o.head) dot ≡ Some (part sort least) → IsAt g tokens start o dot place →
-      IsFirstUsable g sort least (row_from g o (suc dot)) (list_at lists place) 0 None → ⊥
+      IsFirstUsable g sort least (row_from g o (suc dot)) (entries_at lists place) 0 None → ⊥
   some_usable dot place sort least symbol at none =
-      let u = sum_usable g sort least (row_from g o (suc dot)) (list_at lists place) (place_is dot place (part sort least) symbol at) at.some in
+      let u = sum_usable g sort least (row_from g o (suc dot)) (entries_at lists place) (place_is dot place (part sort least) symbol at) at.some in
       none u.0 u.1 (omega arith) u.2 u.3
 
   -- what an entry reads is less deep than what the span does
   pub kid_depth : (dot place sort least index : ℕ) (e : Entry) (kids : Readings) → slice_get (symbols_of g o.head) dot ≡ Some (part sort least) → IsReadTo g tokens start o dot place kids →
-      slice_get (list_at lists place) index ≡ Some e → IsUsable g sort least (row_from g o (suc dot)) e → depth_in (tally_of e.ways) < depth_in (tally_of o.ways)
+      slice_get (entries_at lists place) index ≡ Some e → IsUsableEntry g sort least (row_from g o (suc dot)) e → depth_in (tally_of e.ways) < depth_in (tally_of o.ways)
   kid_depth dot place sort least index e kids symbol so there used =
       let low : dot < n = slice_get_within (symbols_of g o.head) dot (part sort least) symbol in
       let left = left_at (symbols_of g o.head) dot (part sort least) symbol in
@@ -237,7 +243,7 @@ module _ (g : Grammar) (tokens : List Token) (start : ℕ) (levels : HasLevels g
       omega arith
 
   pub kid_shallow : (dot place sort least index : ℕ) (e : Entry) (kids : Readings) → slice_get (symbols_of g o.head) dot ≡ Some (part sort least) → IsReadTo g tokens start o dot place kids →
-      slice_get (list_at lists place) index ≡ Some e → IsUsable g sort least (row_from g o (suc dot)) e → IsShallow g tokens start place e
+      slice_get (entries_at lists place) index ≡ Some e → IsUsableEntry g sort least (row_from g o (suc dot)) e → IsShallowEntry g tokens start place e
   kid_shallow dot place sort least index e kids symbol so there used =
       let less = kid_depth dot place sort least index e kids symbol so there used in let low = opened.low in
       record { sound = full.table.sound place index e there; low = omega arith; useful = by_maker e.maker used.0 }
@@ -261,7 +267,7 @@ module _ (g : Grammar) (tokens : List Token) (start : ℕ) (levels : HasLevels g
     read = rw (take_one_more (symbols_of g o.head) dot x symbol) (read_on g tokens (x ∷ []) to more so.read one);
   }
 
-  pub read_literal : (dot place : ℕ) (kids : Readings) → IsReadTo g tokens start o dot place kids → IsStep g tokens start lists o dot place steps.Literal → IsReadTo g tokens start o (suc dot) (suc place) kids
+  pub read_literal : (dot place : ℕ) (kids : Readings) → IsReadTo g tokens start o dot place kids → IsItemStep g tokens start lists o dot place steps.Literal → IsReadTo g tokens start o (suc dot) (suc place) kids
   read_literal dot place kids so step = by_symbol step.symbol step.is step.over
     where
       by_symbol : (x : Symbol) → slice_get (symbols_of g o.head) dot ≡ Some x → IsOver g tokens lists (row_from g o (suc dot)) place x steps.Literal → IsReadTo g tokens start o (suc dot) (suc place) kids
@@ -270,7 +276,7 @@ module _ (g : Grammar) (tokens : List Token) (start : ℕ) (levels : HasLevels g
       by_symbol (lexical kind) e h = let clash : steps.Literal ≡ steps.Token = h.0 in cc
       by_symbol (part sort least) e h = let clash : steps.Literal ≡ steps.Part h.0 h.1 = h.2 in cc
 
-  pub read_token : (dot place : ℕ) (kids new : Readings) (r : Reading) → IsReadTo g tokens start o dot place kids → IsStep g tokens start lists o dot place steps.Token →
+  pub read_token : (dot place : ℕ) (kids new : Readings) (r : Reading) → IsReadTo g tokens start o dot place kids → IsItemStep g tokens start lists o dot place steps.Token →
       ((kind : LexKind) → ReadsToken tokens (lexical kind) place → IsLeafAt tokens kind place r) → new ≡ followed kids (r ▸ done) → IsReadTo g tokens start o (suc dot) (suc place) new
   read_token dot place kids new r so step leaf same = rw same (by_symbol step.symbol step.is step.over)
     where
@@ -285,9 +291,9 @@ module _ (g : Grammar) (tokens : List Token) (start : ℕ) (levels : HasLevels g
     pub sort : ℕ
     pub least : ℕ
     pub symbol : slice_get (symbols_of g o.head) dot ≡ Some (part sort least)
-    pub first : IsFirstUsable g sort least (row_from g o (suc dot)) (list_at lists place) 0 (Some (index, e))
+    pub first : IsFirstUsable g sort least (row_from g o (suc dot)) (entries_at lists place) 0 (Some (index, e))
 
-  pub part_of : (dot place index : ℕ) (e : Entry) → IsStep g tokens start lists o dot place (steps.Part index e) → IsPartAt dot place index e
+  pub part_of : (dot place index : ℕ) (e : Entry) → IsItemStep g tokens start lists o dot place (steps.Part index e) → IsPartAt dot place index e
   part_of dot place index e step = by_symbol step.symbol step.is step.over
     where
       by_symbol : (x : Symbol) → slice_get (symbols_of g o.head) dot ≡ Some x → IsOver g tokens lists (row_from g o (suc dot)) place x (steps.Part index e) → IsPartAt dot place index e
@@ -300,8 +306,8 @@ module _ (g : Grammar) (tokens : List Token) (start : ℕ) (levels : HasLevels g
             sort = sort;
             least = least;
             symbol = s;
-            first = subst (λ j. IsFirstUsable g sort least (row_from g o (suc dot)) (list_at lists place) 0 (Some (j, e))) (sym i)
-                (subst (λ y. IsFirstUsable g sort least (row_from g o (suc dot)) (list_at lists place) 0 (Some (h.0, y))) (sym x) h.3);
+            first = subst (λ j. IsFirstUsable g sort least (row_from g o (suc dot)) (entries_at lists place) 0 (Some (j, e))) (sym i)
+                (subst (λ y. IsFirstUsable g sort least (row_from g o (suc dot)) (entries_at lists place) 0 (Some (h.0, y))) (sym x) h.3);
           }
         where
           index_in : Step → ℕ
@@ -316,7 +322,7 @@ module _ (g : Grammar) (tokens : List Token) (start : ℕ) (levels : HasLevels g
 
   -- one part more is read, by a usable entry
   pub read_part : (dot place sort least index : ℕ) (e : Entry) (kids new : Readings) (r : Reading) → slice_get (symbols_of g o.head) dot ≡ Some (part sort least) →
-      IsReadTo g tokens start o dot place kids → slice_get (list_at lists place) index ≡ Some e → IsUsable g sort least (row_from g o (suc dot)) e →
+      IsReadTo g tokens start o dot place kids → slice_get (entries_at lists place) index ≡ Some e → IsUsableEntry g sort least (row_from g o (suc dot)) e →
       IsBy g tokens e.maker place e.to r → new ≡ followed kids (r ▸ done) → IsReadTo g tokens start o (suc dot) e.to new
   read_part dot place sort least index e kids new r symbol so there used by same =
       rw same
@@ -342,11 +348,11 @@ module _ (g : Grammar) (tokens : List Token) (start : ℕ) (levels : HasLevels g
   pub all_is_read : (place : ℕ) (kids : Readings) → IsReadTo g tokens start o n place kids → ReadsAll g tokens (symbols_of g o.head) o.from o.to kids
   all_is_read place kids so =
       let first : n - n ≡ 0 = omega arith in
-      let some : (row_at o.rows.items 0) place ≡ no_way → ⊥ = subst (λ k. (row_at o.rows.items k) place ≡ no_way → ⊥) first so.at.some in
+      let some : (tally_at o.rows.items 0) place ≡ no_way → ⊥ = subst (λ k. (tally_at o.rows.items k) place ≡ no_way → ⊥) first so.at.some in
       let here : place ≡ o.to = at_end some (cases_lt place o.to) (cases_lt o.to place) in
       subst (λ xs. ReadsAll g tokens xs o.from o.to kids) (take_all n (symbols_of g o.head) (omega arith)) (subst (λ q. ReadsAll g tokens (take n (symbols_of g o.head)) o.from q kids) here so.read)
     where
-      at_end : (row_at o.rows.items 0 place ≡ no_way → ⊥) → (place < o.to) ⊎ (o.to ≤ place) → (o.to < place) ⊎ (place ≤ o.to) → place ≡ o.to
+      at_end : (tally_at o.rows.items 0 place ≡ no_way → ⊥) → (place < o.to) ⊎ (o.to ≤ place) → (o.to < place) ⊎ (place ≤ o.to) → place ≡ o.to
       at_end some (inl low) h = absurd (some (are.last.elsewhere place (λ same. omega arith)))
       at_end some (inr high) (inl beyond) = absurd (some (are.last.elsewhere place (λ same. omega arith)))
       at_end some (inr high) (inr low) = omega arith
@@ -355,15 +361,15 @@ module _ (g : Grammar) (tokens : List Token) (start : ℕ) (levels : HasLevels g
   pub at_the_end : (place : ℕ) → IsMore ((row_from g o n) place) → IsAt g tokens start o n place → ⊥
   at_the_end place more at = by_order (cases_lt place o.to) (cases_lt o.to place)
     where
-      more' : IsMore ((row_at o.rows.items 0) place)
-      more' = let first : n - n ≡ 0 = omega arith in subst (λ k. IsMore ((row_at o.rows.items k) place)) first more
+      more' : IsMore ((tally_at o.rows.items 0) place)
+      more' = let first : n - n ≡ 0 = omega arith in subst (λ k. IsMore ((tally_at o.rows.items k) place)) first more
 
       by_order : (place < o.to) ⊎ (o.to ≤ place) → (o.to < place) ⊎ (place ≤ o.to) → ⊥
       by_order (inl low) h = subst IsMore (are.last.elsewhere place (λ same. omega arith)) more'
       by_order (inr high) (inl beyond) = subst IsMore (are.last.elsewhere place (λ same. omega arith)) more'
       by_order (inr high) (inr low) =
           let same : place ≡ o.to = omega arith in
-          subst IsMore (ap (λ k. row_at o.rows.items 0 k) same ∙ are.last.end) more'
+          subst IsMore (ap (λ k. tally_at o.rows.items 0 k) same ∙ are.last.end) more'
 
   pub kids_of_all : (kids : Readings) → ReadsAll g tokens (symbols_of g o.head) o.from o.to kids → ReadsAll g tokens p.symbols o.from o.to kids
   kids_of_all kids all = subst (λ xs. ReadsAll g tokens xs o.from o.to kids) symbols all

@@ -19,9 +19,10 @@ use Rattle.sx_forest.specs.declared.entry.Maker.{Maker}
 use Rattle.sx_forest.specs.declared.entry.Maker.TheVariants.{Variable, By}
 use Rattle.sx_forest.specs.declared.entry.Entry.{Entry}
 use Rattle.sx_forest.specs.Tallies.{tally_of}
-use Rattle.sx_forest.specs.Rows.{list_at, AllLater}
+use Rattle.sx_forest.specs.Rows.{entries_at, AllLater}
 use Rattle.sx_forest.specs.Useful.{AreUseful, Keeps}
-use Rattle.sx_forest.specs.Table.{IsSoundBy, IsTable, HasEntry, HasBefore, IsPut, IsAdded, IsFirstTable, IsFull}
+use Rattle.sx_forest.specs.Table.{IsSoundBy, IsForestTable, HasEntry, HasBefore, IsEntryPut}
+use Rattle.sx_forest.specs.Table.{IsEntryAdded, IsFirstTable, IsFull}
 use Rattle.sx_forest.specs.Ordering.{IsSoFar, AreOrdered, sort_in}
 use Rattle.sx_forest.proofs.Using.{kid_kept, useful_kept}
 use Rattle.sx_forest.proofs.Putting.{still_has, now_has, got_either}
@@ -33,13 +34,13 @@ module _ (g : Grammar) (tokens : List Token) (start : ℕ) where
   later_by (Variable s) place to t h = omega (arith, h.1)
   later_by (By head) place to t h = span_forward g tokens start head place to h.0
 
-  pub all_later : (lists : List (Vec Entry)) → IsTable g tokens start lists → AllLater lists
+  pub all_later : (lists : List (Vec Entry)) → IsForestTable g tokens start lists → AllLater lists
   all_later lists table = λ place i e at. later_by e.maker place e.to (tally_of e.ways) (table.sound place i e at)
 
-  module _ (old new : List (Vec Entry)) (place : ℕ) (e : Entry) (put : IsPut old new place e) where
+  module _ (old new : List (Vec Entry)) (place : ℕ) (e : Entry) (put : IsEntryPut old new place e) where
     -- a table with one more entry, which ends no earlier than those by heads that begin there
-    pub table_on : IsTable g tokens start old → (HasEntry old place e.maker e.to → ⊥) → IsSoundBy g tokens start e.maker place e.to (tally_of e.ways) →
-        ((head : Head) × (e.maker ≡ By head)) → ((i : ℕ) (x : Entry) (head : Head) → slice_get (list_at old place) i ≡ Some x → x.maker ≡ By head → x.to ≤ e.to) → IsTable g tokens start new
+    pub table_on : IsForestTable g tokens start old → (HasEntry old place e.maker e.to → ⊥) → IsSoundBy g tokens start e.maker place e.to (tally_of e.ways) →
+        ((head : Head) × (e.maker ≡ By head)) → ((i : ℕ) (x : Entry) (head : Head) → slice_get (entries_at old place) i ≡ Some x → x.maker ≡ By head → x.to ≤ e.to) → IsForestTable g tokens start new
     table_on table fresh sound by last = record {
       sound = λ p i x at. ⊎_elim (λ h. table.sound p i x h)
           (λ h. subst (λ y. IsSoundBy g tokens start y.maker p y.to (tally_of y.ways)) h.2
@@ -51,33 +52,33 @@ module _ (g : Grammar) (tokens : List Token) (start : ℕ) where
     }
       where
         in_ends : (p i j : ℕ) (a b : Entry) → 0 < i → i ≤ j →
-            (slice_get (list_at old p) i ≡ Some a) ⊎ ((p ≡ place) × (i ≡ length (list_at old place)) × (e ≡ a)) →
-            (slice_get (list_at old p) j ≡ Some b) ⊎ ((p ≡ place) × (j ≡ length (list_at old place)) × (e ≡ b)) → a.to ≤ b.to
+            (slice_get (entries_at old p) i ≡ Some a) ⊎ ((p ≡ place) × (i ≡ length (entries_at old place)) × (e ≡ a)) →
+            (slice_get (entries_at old p) j ≡ Some b) ⊎ ((p ≡ place) × (j ≡ length (entries_at old place)) × (e ≡ b)) → a.to ≤ b.to
         in_ends p i j a b low up (inl h) (inl k) = table.sorted p i j a b low up h k
         in_ends p i j a b low up (inl h) (inr k) =
             let head = table.heads p i a low h in
-            let end : a.to ≤ e.to = last i a head.0 (subst (λ q. slice_get (list_at old q) i ≡ Some a) k.0 h) head.1 in
+            let end : a.to ≤ e.to = last i a head.0 (subst (λ q. slice_get (entries_at old q) i ≡ Some a) k.0 h) head.1 in
             subst (λ y. a.to ≤ y.to) k.2 end
         in_ends p i j a b low up (inr h) (inl k) =
-            let within = slice_get_within (list_at old p) j b k in
-            let long : length (list_at old p) ≡ length (list_at old place) = ap (λ q. length (list_at old q)) h.0 in
+            let within = slice_get_within (entries_at old p) j b k in
+            let long : length (entries_at old p) ≡ length (entries_at old place) = ap (λ q. length (entries_at old q)) h.0 in
             absurd (omega (arith, h.1))
         in_ends p i j a b low up (inr h) (inr k) = let same : a ≡ b = sym h.2 ∙ k.2 in subst (λ y. a.to ≤ y.to) same (omega arith)
 
         by_both : (p i j : ℕ) (a b : Entry) → a.maker ≡ b.maker → a.to ≡ b.to →
-            (slice_get (list_at old p) i ≡ Some a) ⊎ ((p ≡ place) × (i ≡ length (list_at old place)) × (e ≡ a)) →
-            (slice_get (list_at old p) j ≡ Some b) ⊎ ((p ≡ place) × (j ≡ length (list_at old place)) × (e ≡ b)) → i ≡ j
+            (slice_get (entries_at old p) i ≡ Some a) ⊎ ((p ≡ place) × (i ≡ length (entries_at old place)) × (e ≡ a)) →
+            (slice_get (entries_at old p) j ≡ Some b) ⊎ ((p ≡ place) × (j ≡ length (entries_at old place)) × (e ≡ b)) → i ≡ j
         by_both p i j a b makers ends (inl h) (inl k) = table.once p i j a b h k makers ends
         by_both p i j a b makers ends (inl h) (inr k) =
-            absurd (fresh (i, a, subst (λ q. slice_get (list_at old q) i ≡ Some a) k.0 h, makers ∙ ap (λ x. x.maker) (sym k.2), ends ∙ ap (λ x. x.to) (sym k.2)))
+            absurd (fresh (i, a, subst (λ q. slice_get (entries_at old q) i ≡ Some a) k.0 h, makers ∙ ap (λ x. x.maker) (sym k.2), ends ∙ ap (λ x. x.to) (sym k.2)))
         by_both p i j a b makers ends (inr h) (inl k) =
-            absurd (fresh (j, b, subst (λ q. slice_get (list_at old q) j ≡ Some b) h.0 k, sym makers ∙ ap (λ x. x.maker) (sym h.2), sym ends ∙ ap (λ x. x.to) (sym h.2)))
+            absurd (fresh (j, b, subst (λ q. slice_get (entries_at old q) j ≡ Some b) h.0 k, sym makers ∙ ap (λ x. x.maker) (sym h.2), sym ends ∙ ap (λ x. x.to) (sym h.2)))
         by_both p i j a b makers ends (inr h) (inr k) = h.1 ∙ sym k.1
 
-  list_there : (lists : List (Vec Entry)) (p i : ℕ) (x : Entry) → slice_get (list_at lists p) i ≡ Some x → p < length lists
+  list_there : (lists : List (Vec Entry)) (p i : ℕ) (x : Entry) → slice_get (entries_at lists p) i ≡ Some x → p < length lists
   list_there lists p i x at = by_place (cases_lt p (length lists))
     where
-      none_at : (ls : List (Vec Entry)) (q : ℕ) → length ls ≤ q → list_at ls q ≡ []
+      none_at : (ls : List (Vec Entry)) (q : ℕ) → length ls ≤ q → entries_at ls q ≡ []
       none_at [] q long = refl
       none_at (l ∷ ls) zero long = absurd (omega arith)
       none_at (l ∷ ls) (suc q) long = none_at ls q (omega arith)
@@ -87,7 +88,7 @@ module _ (g : Grammar) (tokens : List Token) (start : ℕ) where
       by_place (inr high) = absurd (none-some x (subst (λ l. slice_get l i ≡ Some x) (none_at lists p high) at))
 
   -- before any span is counted there are the metavariables
-  pub first_is_table : (lists : List (Vec Entry)) → IsFirstTable tokens (length tokens + 1) lists → IsTable g tokens start lists
+  pub first_is_table : (lists : List (Vec Entry)) → IsFirstTable tokens (length tokens + 1) lists → IsForestTable g tokens start lists
   first_is_table lists first = record {
     sound = λ p i x at.
         let o = (first.each p (list_there lists p i x at)).only i x at in
@@ -198,8 +199,8 @@ module _ (g : Grammar) (tokens : List Token) (start : ℕ) (rank : ℕ → ℕ) 
 
   -- an entry by a head is of one of the spans so far, with one more
   only_on : (old new : List (Vec Entry)) (n : ℕ) (o : Ordered) (ways : Ways) → slice_get list n ≡ Some o → IsSoFar g tokens start list n old →
-      IsPut old new o.span.from (record { maker = By (head_of o.span.of); to = o.span.to; ways = ways }) →
-      (place i : ℕ) (e : Entry) (head : Head) → slice_get (list_at new place) i ≡ Some e → e.maker ≡ By head →
+      IsEntryPut old new o.span.from (record { maker = By (head_of o.span.of); to = o.span.to; ways = ways }) →
+      (place i : ℕ) (e : Entry) (head : Head) → slice_get (entries_at new place) i ≡ Some e → e.maker ≡ By head →
       (q : ℕ) × (u : Ordered) × (q < n + 1) × (slice_get list q ≡ Some u) × (head_of u.span.of ≡ head) × (u.span.from ≡ place) × (u.span.to ≡ e.to)
   only_on old new n o ways at so put place i e head got by =
       ⊎_elim
@@ -214,14 +215,14 @@ module _ (g : Grammar) (tokens : List Token) (start : ℕ) (rank : ℕ → ℕ) 
 
   -- an entry of a span so far ends no later than a span that stands after it
   ends_on : (lists : List (Vec Entry)) (n : ℕ) (o : Ordered) → slice_get list n ≡ Some o → IsSoFar g tokens start list n lists →
-      (i : ℕ) (x : Entry) (head : Head) → slice_get (list_at lists o.span.from) i ≡ Some x → x.maker ≡ By head → x.to ≤ o.span.to
+      (i : ℕ) (x : Entry) (head : Head) → slice_get (entries_at lists o.span.from) i ≡ Some x → x.maker ≡ By head → x.to ≤ o.span.to
   ends_on lists n o at so i x head got by =
       let u = so.only o.span.from i x head got by in
       ⊎_elim (λ low. absurd (let back : n < u.0 = ordered.sorted n u.0 o u.1 at u.3 (inl low) in omega (arith, u.2))) (λ high. omega (arith, u.6)) (cases_lt o.span.to u.1.span.to)
 
   -- one more span has its entry
   pub so_far_on : (old new : List (Vec Entry)) (n : ℕ) (o : Ordered) → HasLevels g → IsRanking g rank → length g.productions < 2 ^ 32 → length tokens ≤ 10000 →
-      slice_get list n ≡ Some o → IsSoFar g tokens start list n old → IsAdded g tokens old new o.span → IsSoFar g tokens start list (n + 1) new
+      slice_get list n ≡ Some o → IsSoFar g tokens start list n old → IsEntryAdded g tokens old new o.span → IsSoFar g tokens start list (n + 1) new
   so_far_on old new n o levels ranking many short at so added =
       let s = o.span in
       let span = span_at n o at in
@@ -250,7 +251,7 @@ module _ (g : Grammar) (tokens : List Token) (start : ℕ) (rank : ℕ → ℕ) 
   }
 
   no_head_first : (lists : List (Vec Entry)) → IsFirstTable tokens (length tokens + 1) lists → (place i : ℕ) (e : Entry) (head : Head) →
-      slice_get (list_at lists place) i ≡ Some e → e.maker ≡ By head → ⊥
+      slice_get (entries_at lists place) i ≡ Some e → e.maker ≡ By head → ⊥
   no_head_first lists first place i e head at by =
       let o = (first.each place (list_there g tokens start lists place i e at)).only i e at in
       differ o.1 head (sym (ap (λ x. x.maker) o.3) ∙ by)

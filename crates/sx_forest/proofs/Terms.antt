@@ -17,10 +17,11 @@ use Rattle.sx_token.specs.declared.token.Token.{Token}
 use Rattle.sx_grammar.specs.Grammar as grammars
 use Rattle.sx_grammar.specs.Grammar.{Text}
 use Rattle.sx_grammar.specs.Print.{term_of, terms_of, leaf_term, variable_term, mark_term}
-use Rattle.sx_earley.specs.Tokens.{Stems, shown, plain_tokens}
+use Rattle.sx_earley.specs.Tokens.{Stems, read_token, plain_tokens}
 use Rattle.sx_forest.specs.declared.reading.Reading.{Reading, Node, Lex, Var}
 use Rattle.sx_forest.specs.Readings.{plain_reading, plain_readings}
-use Rattle.sx_forest.specs.Names.{IsLexeme, IsMetavariable, IsMarked, AreMarked, names_in, names_of, AddsEach, AddsFront}
+use Rattle.sx_forest.specs.Names.{IsLexeme, IsMetavariable, IsMarked, AreMarked, names_in, names_of}
+use Rattle.sx_forest.specs.Names.{AddsEach, AddsFront}
 use Rattle.sx_forest.proofs.Kids.{reading-at_node, readings-drop, readings-drop_all}
 use Rattle.sx_forest.proofs.Naming.{number_at, each_long, each_append, front_after, front_more}
 
@@ -59,20 +60,20 @@ terms_step tokens old more new later rs i k ts now t h g grown before is made =
     ∙ sym (map_step (term_by tokens (new ++ later)) rs i k h g)
 
 -- what a token shows has its text
-shown_text : (stems : Stems) (mark : Mark) (text : Text) → (shown stems mark text).text ≡ text
+shown_text : (stems : Stems) (mark : Mark) (text : Text) → (read_token stems mark text).text ≡ text
 shown_text stems (marks.Lit n) text = refl
 shown_text stems (marks.Lex kind) text = refl
 shown_text stems marks.Meta text = refl
 
 -- the token at a place, as the grammar reads it
-shown_at : (stems : Stems) (tokens : List Token) (i : ℕ) (t : Token) → i < length tokens → t ≡ get_or tokens i t → slice_get (plain_tokens stems tokens) i ≡ Some (shown stems t.mark t.text)
+shown_at : (stems : Stems) (tokens : List Token) (i : ℕ) (t : Token) → i < length tokens → t ≡ get_or tokens i t → slice_get (plain_tokens stems tokens) i ≡ Some (read_token stems t.mark t.text)
 shown_at stems tokens i t h e =
-    slice_get-map (λ t. shown stems t.mark t.text) tokens i ∙ ap (option_map (λ t. shown stems t.mark t.text)) (slice_get_read tokens (length tokens) i t refl h e)
+    slice_get-map (λ t. read_token stems t.mark t.text) tokens i ∙ ap (option_map (λ t. read_token stems t.mark t.text)) (slice_get_read tokens (length tokens) i t refl h e)
 
 pub variable_made : (stems : Stems) (tokens : List Token) (i : ℕ) (t : Token) (r : Reading) (made : Tree) (new later : List Text) (number : ℕ) → r ≡ Var i → i < length tokens → t ≡ get_or tokens i t → AreDistinct new → slice_get new number ≡ Some (without_tilde t.text) →
     made ≡ hole number → made ≡ term_by (plain_tokens stems tokens) (new ++ later) r
 variable_made stems tokens i t r made new later number e h g d at is =
-    let s = shown stems t.mark t.text in
+    let s = read_token stems t.mark t.text in
     let same : without_tilde s.text ≡ without_tilde t.text = ap without_tilde (shown_text stems t.mark t.text) in
     is ∙ ap hole (sym (number_at new later (without_tilde s.text) number d (at ∙ ap Some (sym same))))
     ∙ sym (ap (variable_term (new ++ later)) (shown_at stems tokens i t h g))
@@ -81,7 +82,7 @@ variable_made stems tokens i t r made new later number e h g d at is =
 pub lexeme_made : (stems : Stems) (tokens : List Token) (i : ℕ) (t : Token) (r : Reading) (made : Tree) (names : List Text) (kind : LexKind) → r ≡ Lex i → i < length tokens → t ≡ get_or tokens i t → t.mark ≡ marks.Lex kind →
     made ≡ lexeme kind t.text → made ≡ term_by (plain_tokens stems tokens) names r
 lexeme_made stems tokens i t r made names kind e h g m is =
-    is ∙ sym (ap (λ s. mark_term s.mark s.text) (ap (λ x. shown stems x t.text) m))
+    is ∙ sym (ap (λ s. mark_term s.mark s.text) (ap (λ x. read_token stems x t.text) m))
     ∙ sym (ap leaf_term (shown_at stems tokens i t h g))
     ∙ sym (ap (term_by (plain_tokens stems tokens) names) e)
 

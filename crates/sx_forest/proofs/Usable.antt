@@ -9,7 +9,7 @@ use Rattle.sx_grammar.specs.Tally.{Tally, no_way, one_way, more_ways, plus, time
 use Rattle.sx_forest.specs.declared.entry.Entry.{Entry}
 use Rattle.sx_forest.specs.Tallies.{tally_of}
 use Rattle.sx_forest.specs.Rows.{IsEntryTally, SumTo, sum_none, sum_more}
-use Rattle.sx_forest.specs.Forests.{depth_in, IsMore, IsUsable, IsFirstUsable, IsForkOf}
+use Rattle.sx_forest.specs.Forests.{depth_in, IsMore, IsUsableEntry, IsFirstUsable, IsForkOf}
 
 abbrev IsSome : Tally → Type 0
 IsSome no_way = ⊥
@@ -54,7 +54,7 @@ more_times (more_ways d) u h = inl tt
 
 module _ (g : Grammar) (sort least : ℕ) (next : ℕ → Tally) (entries : List Entry) where
   abbrev Used : Entry → Type 0
-  Used e = IsUsable g sort least next e
+  Used e = IsUsableEntry g sort least next e
 
   abbrev tally : Entry → Tally
   tally e = times (tally_of e.ways) (next e.to)

@@ -3,7 +3,8 @@ use Rattle.std.proofs.Common.{◌≡◌, ℕ, zero, suc, ◌<◌, ◌≤◌, Lis
 use Rattle.std.specs.Global.{Vec}
 use Rattle.std.specs.List.{slice_get}
 use Rattle.std.proofs.lemmas.Option.{none-some, slice_get_within}
-use Rattle.sx_grammar.specs.Grammar.{Symbol, literal, lexical, part, Production, Grammar, Token, production_of, SortLine, brackets_of, bracket_production}
+use Rattle.sx_grammar.specs.Grammar.{Symbol, literal, lexical, part, Production, Grammar, Token}
+use Rattle.sx_grammar.specs.Grammar.{production_of, SortLine, brackets_of, bracket_production}
 use Rattle.sx_grammar.specs.declared.head.Head.{Head}
 use Rattle.sx_grammar.specs.declared.head.Head.TheVariants.{Labelled, Bracketed}
 use Rattle.sx_grammar.specs.Reading.{Readings, ReadsAll}
@@ -11,13 +12,15 @@ use Rattle.sx_grammar.proofs.Deciding.{nothing_read, literal_read, lexical_read}
 use Rattle.sx_grammar.proofs.Completeness.{Left, from_start, later, past, left_first}
 use Rattle.sx_grammar.specs.Tables.{GrammarData}
 use Rattle.sx_earley.specs.declared.shown.Shown.{Shown}
-use Rattle.sx_earley.specs.Shown.{texts, token_of, tokens_of}
+use Rattle.sx_earley.specs.Shown.{literal_texts, token_of, tokens_of}
 use Rattle.sx_earley.specs.Chart.{IsOfSort, symbol_after, next_symbol}
 use Rattle.sx_forest.specs.declared.levels.Levels.{Levels}
 use Rattle.sx_forest.specs.declared.entry.Maker.{Maker}
 use Rattle.sx_forest.specs.declared.entry.Maker.TheVariants.{Variable, By}
-use Rattle.sx_forest.specs.Useful.{MayEnd, IsKidEnd, IsUseful, IsUsefulBy, useful_whole, useful_kid, level_at, IsKept, IsMetAt, IsMet, row_in, row_at, row_by, levels_at, AreMetBy, AreMet, Keeps}
-use Rattle.sx_forest.specs.Rows.{count_of}
+use Rattle.sx_forest.specs.Useful.{MayEnd, IsKidEnd, IsUseful, IsUsefulBy, useful_whole, useful_kid}
+use Rattle.sx_forest.specs.Useful.{level_at, IsProductionKept, IsMetAt, IsMet, row_in, numbers_at}
+use Rattle.sx_forest.specs.Useful.{row_by, levels_at, AreMetBy, AreMet, Keeps}
+use Rattle.sx_forest.specs.Rows.{symbol_count}
 use Rattle.sx_forest.proofs.Pushing.{got_before, got_last, got_cases, longer_pushed}
 
 -- where one way to be last brings another
@@ -27,7 +30,7 @@ may_end_as tokens (Some (literal text)) place f h = h
 may_end_as tokens (Some (lexical kind)) place f h = h
 may_end_as tokens (Some (part sort least)) place f h = h
 
-kept_from : (levels : List ℕ) (o : Option Production) (sort least : ℕ) → IsOfSort o sort least → level_at levels sort ≤ least → IsKept levels o
+kept_from : (levels : List ℕ) (o : Option Production) (sort least : ℕ) → IsOfSort o sort least → level_at levels sort ≤ least → IsProductionKept levels o
 kept_from levels None sort least h low = absurd h
 kept_from levels (Some p) sort least h low =
     let same : level_at levels p.sort ≡ level_at levels sort = ap (level_at levels) h.0 in let up = h.1 in omega arith
@@ -36,7 +39,7 @@ production_there : (o : Option Production) (dot : ℕ) (x : Symbol) → symbol_a
 production_there None dot x e = absurd (none-some x e)
 production_there (Some p) dot x e = (p, refl)
 
-kept_by_none : (o : Option Production) (p : Production) → o ≡ Some p → IsKept [] o
+kept_by_none : (o : Option Production) (p : Production) → o ≡ Some p → IsProductionKept [] o
 kept_by_none o p e = rw e (omega arith)
 
 none_past : {X : Type 0} (xs : List X) (place : ℕ) → length xs ≤ place → slice_get xs place ≡ None
@@ -58,7 +61,7 @@ module _ (g : Grammar) (tokens : List Token) (levels : Levels) (met : AreMet g t
   -- what is of use is kept
   pub useful_kept : length levels.numbers.items ≤ length tokens → (head : Head) (to : ℕ) → IsUseful g tokens head to → (p : Production) → production_of g head ≡ Some p → Keeps g levels head to
   useful_kept short head to useful_whole p is =
-      subst (λ l. IsKept l (production_of g head)) (sym (no_levels levels (length tokens) short)) (kept_by_none (production_of g head) p is)
+      subst (λ l. IsProductionKept l (production_of g head)) (sym (no_levels levels (length tokens) short)) (kept_by_none (production_of g head) p is)
   useful_kept short other end (useful_kid {head = head} {to = to} more k) p is =
       let q = production_there (production_of g head) k.dot (part k.sort k.least) k.is in
       kid_kept head other to end (useful_kept short head to more q.0 q.1) k
@@ -103,7 +106,7 @@ module _ (g : Grammar) (tokens : List Token) where
   useful_at_end (By head) to e = subst (λ t. IsUseful g tokens head t) (sym e) useful_whole
 
 -- a symbol after a dot is one of the head's
-pub dot_within : (o : Option Production) (dot : ℕ) (x : Symbol) → symbol_after o dot ≡ Some x → dot < count_of o
+pub dot_within : (o : Option Production) (dot : ℕ) (x : Symbol) → symbol_after o dot ≡ Some x → dot < symbol_count o
 dot_within None dot x e = absurd (none-some x e)
 dot_within (Some p) dot x e = slice_get_within p.symbols dot x e
 
@@ -131,7 +134,7 @@ may_end_like tokens P (Some (part sort least)) place other same h = h
 
 pub met_like : (g : Grammar) (tokens : List Token) (place other : ℕ) (levels : List ℕ) → slice_get tokens place ≡ slice_get tokens other → IsMet g tokens place levels → IsMet g tokens other levels
 met_like g tokens place other levels same met head dot sort least e may =
-    met head dot sort least e (may_end_like tokens (IsKept levels (production_of g head)) (next_symbol g head (suc dot)) place other same may)
+    met head dot sort least e (may_end_like tokens (IsProductionKept levels (production_of g head)) (next_symbol g head (suc dot)) place other same may)
 
 got_map : {X Y : Type 0} (f : X → Y) (xs : List X) (k : ℕ) → slice_get (map f xs) k ≡ option_map f (slice_get xs k)
 got_map f [] k = refl
@@ -141,14 +144,14 @@ got_map f (x ∷ xs) (suc k) = got_map f xs k
 -- where the same is shown, the same token stands
 pub shown_like : (d : GrammarData) (shown : List Shown) (place other : ℕ) → slice_get shown place ≡ slice_get shown other → slice_get (tokens_of d shown) place ≡ slice_get (tokens_of d shown) other
 shown_like d shown place other same =
-    got_map (token_of (texts d)) shown place ∙ (ap (option_map (token_of (texts d))) same ∙ sym (got_map (token_of (texts d)) shown other))
+    got_map (token_of (literal_texts d)) shown place ∙ (ap (option_map (token_of (literal_texts d))) same ∙ sym (got_map (token_of (literal_texts d)) shown other))
 
 -- the next place has the number of a row
 pub numbered_on : (g : Grammar) (tokens : List Token) (rows : List (Vec ℕ)) (numbers new : List ℕ) (n : ℕ) → new ≡ numbers ++ n ∷ [] → AreMetBy g tokens rows numbers →
-    n < length rows → IsMet g tokens (length numbers) (row_at rows n) → AreMetBy g tokens rows new
+    n < length rows → IsMet g tokens (length numbers) (numbers_at rows n) → AreMetBy g tokens rows new
 numbered_on g tokens rows numbers new n e met low here place number at =
     ⊎_elim (λ h. met place number h.1)
-    (λ h. (subst (λ m. m < length rows) h.1 low, subst (λ p. IsMet g tokens p (row_at rows number)) (sym h.0) (subst (λ m. IsMet g tokens (length numbers) (row_at rows m)) h.1 here)))
+    (λ h. (subst (λ m. m < length rows) h.1 low, subst (λ p. IsMet g tokens p (numbers_at rows number)) (sym h.0) (subst (λ m. IsMet g tokens (length numbers) (numbers_at rows m)) h.1 here)))
     (got_cases numbers n number place (subst (λ l. slice_get l place ≡ Some number) e at))
 
 -- there is a row more
@@ -158,7 +161,7 @@ row_pushed g tokens rows new numbers v e met place number at =
     let same : slice_get new number ≡ slice_get rows number = ap (λ l. slice_get l number) e ∙ got_before rows (v ∷ []) number h.0 in
     (omega (arith, longer_pushed rows new v e), subst (λ o. IsMet g tokens place (row_in o)) (sym same) h.1)
 
-pub last_row : (rows new : List (Vec ℕ)) (v : Vec ℕ) → new ≡ rows ++ v ∷ [] → row_at new (length rows) ≡ v.items
+pub last_row : (rows new : List (Vec ℕ)) (v : Vec ℕ) → new ≡ rows ++ v ∷ [] → numbers_at new (length rows) ≡ v.items
 last_row rows new v e = ap row_in (ap (λ l. slice_get l (length rows)) e ∙ got_last rows v)
 
 -- what places have by numbers, each place has

@@ -16,8 +16,10 @@ use Rattle.sx_forest.specs.declared.entry.Entry.{Entry}
 use Rattle.sx_forest.specs.declared.ways.Ways.{Ways}
 use Rattle.sx_forest.specs.declared.ways.Ways.TheVariants.{Nothing}
 use Rattle.sx_forest.specs.Tallies.{ways_at, ways_of}
-use Rattle.sx_forest.specs.Rows.{IsNext, IsIn, IsRow, Spreads, list_at, stretch_in, stretch_at, row_in, row_at, count_of, AreStretches, AreRows}
-use Rattle.sx_forest.specs.KeptRows.{symbols_by, IsKept, AllKept, IsReady, IsClear, front_of, IsJoined, IsWider, AreWider, IsLonger}
+use Rattle.sx_forest.specs.Rows.{IsNextRow, IsIn, IsStretchRow, Spreads, entries_at, stretch_in}
+use Rattle.sx_forest.specs.Rows.{stretch_at, row_in, tally_at, symbol_count, AreStretches, AreRows}
+use Rattle.sx_forest.specs.KeptRows.{symbols_by, AreStretchesKept, AllKept, AreRowsReady, IsClear}
+use Rattle.sx_forest.specs.KeptRows.{front_of, IsStretchJoined, IsWider, AreWider, IsLonger}
 use Rattle.sx_forest.proofs.Pushing.{got_before, got_last, got_cases, longer_pushed}
 use Rattle.sx_forest.proofs.RowWays.{none_after, way_there, empty_none}
 use Rattle.sx_forest.proofs.Filling.{stretches_on}
@@ -52,7 +54,7 @@ emptied_kept old new first (inl none) empty p after = empty_none new p empty ∙
 emptied_kept old new first (inr past) empty p after = empty_none new p empty ∙ sym (none_after old p (omega arith))
 
 module _ (g : Grammar) (tokens : List Token) (lists : List (Vec Entry)) (symbol : Option Symbol) (to : ℕ) (old_places new_places : Stretch) (wider : IsWider to old_places new_places)
-    (next grown : ℕ → Tally) (old new : Row) (made : IsRow g tokens lists symbol to old_places next (ways_of old))
+    (next grown : ℕ → Tally) (old new : Row) (made : IsStretchRow g tokens lists symbol to old_places next (ways_of old))
     (longer : IsLonger g tokens lists symbol grown (front_of old_places new_places) old new) where
   none_in_front : (p : ℕ) → p < new_places.first → p < old_places.first → ways_of new p ≡ no_way
   none_in_front p early before = longer.none p early before (made.outside p (λ low is. let h = is.0 in omega arith))
@@ -69,19 +71,19 @@ module _ (g : Grammar) (tokens : List Token) (lists : List (Vec Entry)) (symbol 
 
   -- and is the row of the wider stretch
   pub row_wider : (other : Stretch) → Spreads g tokens lists symbol to old_places other → ((p : ℕ) → IsIn other p → grown p ≡ next p) → ((p : ℕ) → to < p → grown p ≡ next p) →
-      IsRow g tokens lists symbol to new_places grown (ways_of new)
+      IsStretchRow g tokens lists symbol to new_places grown (ways_of new)
   row_wider other spread same past = record {
     each = λ p low is. by_place p low is (cases_lt p old_places.first);
     outside = λ p out. by_side p out (cases_lt p old_places.first) (cases_lt p new_places.first);
   }
     where
-      over : IsRow g tokens lists symbol to old_places grown (ways_of old)
+      over : IsStretchRow g tokens lists symbol to old_places grown (ways_of old)
       over = keeping.row_over g tokens symbol to old_places lists other next grown (ways_of old) spread same past made
 
-      by_place : (p : ℕ) → p ≤ to → IsIn new_places p → (p < old_places.first) ⊎ (old_places.first ≤ p) → IsNext g tokens (list_at lists p) symbol p grown (ways_of new p)
+      by_place : (p : ℕ) → p ≤ to → IsIn new_places p → (p < old_places.first) ⊎ (old_places.first ≤ p) → IsNextRow g tokens (entries_at lists p) symbol p grown (ways_of new p)
       by_place p low is (inl before) = longer.each p (is.0, before)
       by_place p low is (inr after) =
-          subst (λ t. IsNext g tokens (list_at lists p) symbol p grown t) (sym (longer.kept p after)) (over.each p low (after, subst (λ e. p < e) wider.end is.1))
+          subst (λ t. IsNextRow g tokens (entries_at lists p) symbol p grown t) (sym (longer.kept p after)) (over.each p low (after, subst (λ e. p < e) wider.end is.1))
 
       by_side : (p : ℕ) → (p ≤ to → IsIn new_places p → ⊥) → (p < old_places.first) ⊎ (old_places.first ≤ p) → (p < new_places.first) ⊎ (new_places.first ≤ p) → ways_of new p ≡ no_way
       by_side p out (inl before) (inl early) = none_in_front p early before
@@ -100,9 +102,9 @@ none_of_length (x ∷ xs) e = absurd (omega arith)
 pub record AreWideTo (g : Grammar) (tokens : List Token) (lists : List (Vec Entry)) (head : Head) (count to : ℕ) (old new : List Stretch) (rows wide left : List Row) : Type 0 where
   pub long : length wide + length left ≡ length rows
   pub rest : (i : ℕ) → slice_get left i ≡ slice_get rows (length wide + i)
-  pub first : 0 < length wide → row_at wide 0 ≡ row_at rows 0
-  pub each : (j : ℕ) → j + 1 < length wide → IsRow g tokens lists (next_symbol g head (count - j - 1)) to (stretch_at new (count - j - 1)) (row_at wide j) (row_at wide (j + 1))
-  pub kept : (j : ℕ) → j < length wide → (p : ℕ) → ((stretch_at old (count - j)).first ≤ p) ⊎ (to < p) → row_at wide j p ≡ row_at rows j p
+  pub first : 0 < length wide → tally_at wide 0 ≡ tally_at rows 0
+  pub each : (j : ℕ) → j + 1 < length wide → IsStretchRow g tokens lists (next_symbol g head (count - j - 1)) to (stretch_at new (count - j - 1)) (tally_at wide j) (tally_at wide (j + 1))
+  pub kept : (j : ℕ) → j < length wide → (p : ℕ) → ((stretch_at old (count - j)).first ≤ p) ⊎ (to < p) → tally_at wide j p ≡ tally_at rows j p
 
 pub wide_none : (g : Grammar) (tokens : List Token) (lists : List (Vec Entry)) (head : Head) (count to : ℕ) (old new : List Stretch) (rows : List Row) →
     AreWideTo g tokens lists head count to old new rows [] rows
@@ -114,7 +116,7 @@ wide_none g tokens lists head count to old new rows = record {
   kept = λ j low. absurd (omega arith);
 }
 
-module _ (g : Grammar) (tokens : List Token) (lists : List (Vec Entry)) (kept : Kept) (is : IsKept g tokens lists kept) (new : List Stretch)
+module _ (g : Grammar) (tokens : List Token) (lists : List (Vec Entry)) (kept : Kept) (is : AreStretchesKept g tokens lists kept) (new : List Stretch)
     (wider : (dot : ℕ) → 0 < dot → dot < symbols_by g kept.head → IsWider kept.to (stretch_at kept.stretches.items dot) (stretch_at new dot)) where
   abbrev count : ℕ
   count = symbols_by g kept.head
@@ -124,19 +126,19 @@ module _ (g : Grammar) (tokens : List Token) (lists : List (Vec Entry)) (kept : 
 
   module _ (wide rest more left : List Row) (x r : Row) (so : Wide wide rest) (taken : rest ≡ x ∷ left) (pushed : more ≡ wide ++ r ∷ [])
       (alone : length wide ≡ 0 → r ≡ x)
-      (longer : (n : ℕ) → length wide ≡ suc n → IsLonger g tokens lists (next_symbol g kept.head (count - n - 1)) (row_at wide n)
+      (longer : (n : ℕ) → length wide ≡ suc n → IsLonger g tokens lists (next_symbol g kept.head (count - n - 1)) (tally_at wide n)
       (front_of (stretch_at kept.stretches.items (count - n - 1)) (stretch_at new (count - n - 1))) x r) where
     here : slice_get kept.rows.items (length wide) ≡ Some x
     here = (let e : length wide ≡ length wide + 0 = omega arith in ap (slice_get kept.rows.items) e) ∙ (sym (so.rest 0) ∙ ap (λ l. slice_get l 0) taken)
 
-    before : (j : ℕ) → j < length wide → row_at more j ≡ row_at wide j
-    before j low = ap (λ l. row_at l j) pushed ∙ ap row_in (got_before wide (r ∷ []) j low)
+    before : (j : ℕ) → j < length wide → tally_at more j ≡ tally_at wide j
+    before j low = ap (λ l. tally_at l j) pushed ∙ ap row_in (got_before wide (r ∷ []) j low)
 
-    newest : (j : ℕ) → length wide ≡ j → row_at more j ≡ ways_of r
-    newest j e = ap (λ l. row_at l j) pushed ∙ (ap (λ k. row_at (wide ++ r ∷ []) k) (sym e) ∙ ap row_in (got_last wide r))
+    newest : (j : ℕ) → length wide ≡ j → tally_at more j ≡ ways_of r
+    newest j e = ap (λ l. tally_at l j) pushed ∙ (ap (λ k. tally_at (wide ++ r ∷ []) k) (sym e) ∙ ap row_in (got_last wide r))
 
-    old_row : (j : ℕ) → length wide ≡ j → row_at kept.rows.items j ≡ ways_of x
-    old_row j e = ap (λ k. row_at kept.rows.items k) (sym e) ∙ ap row_in here
+    old_row : (j : ℕ) → length wide ≡ j → tally_at kept.rows.items j ≡ ways_of x
+    old_row j e = ap (λ k. tally_at kept.rows.items k) (sym e) ∙ ap row_in here
 
     within : length wide < length kept.rows.items
     within = slice_get_within kept.rows.items (length wide) x here
@@ -148,23 +150,23 @@ module _ (g : Grammar) (tokens : List Token) (lists : List (Vec Entry)) (kept : 
       dot_wider : IsWider kept.to (stretch_at kept.stretches.items (count - n - 1)) (stretch_at new (count - n - 1))
       dot_wider = wider (count - n - 1) (omega (arith, low_here)) (omega (arith, low_here))
 
-      made : IsRow g tokens lists (next_symbol g kept.head (count - n - 1)) kept.to (stretch_at kept.stretches.items (count - n - 1)) (row_at kept.rows.items n) (ways_of x)
+      made : IsStretchRow g tokens lists (next_symbol g kept.head (count - n - 1)) kept.to (stretch_at kept.stretches.items (count - n - 1)) (tally_at kept.rows.items n) (ways_of x)
       made =
-          subst (λ w. IsRow g tokens lists (next_symbol g kept.head (count - n - 1)) kept.to (stretch_at kept.stretches.items (count - n - 1)) (row_at kept.rows.items n) w)
+          subst (λ w. IsStretchRow g tokens lists (next_symbol g kept.head (count - n - 1)) kept.to (stretch_at kept.stretches.items (count - n - 1)) (tally_at kept.rows.items n) w)
           (old_row (n + 1) (omega (arith, at))) (is.are.each n (omega (arith, low_here)))
 
-      past_same : (p : ℕ) → kept.to < p → row_at wide n p ≡ row_at kept.rows.items n p
+      past_same : (p : ℕ) → kept.to < p → tally_at wide n p ≡ tally_at kept.rows.items n p
       past_same p past = so.kept n (omega (arith, at)) p (inr past)
 
       abbrev Made : Type 0
-      Made = IsRow g tokens lists (next_symbol g kept.head (count - n - 1)) kept.to (stretch_at new (count - n - 1)) (row_at wide n) (ways_of r)
+      Made = IsStretchRow g tokens lists (next_symbol g kept.head (count - n - 1)) kept.to (stretch_at new (count - n - 1)) (tally_at wide n) (ways_of r)
 
       last_made : n ≡ 0 → Made
       last_made none =
           let all : Stretch = record { first = 0; end = kept.to + 1 } in
-          let same : row_at wide n ≡ row_at kept.rows.items n =
-          subst (λ m. row_at wide m ≡ row_at kept.rows.items m) (sym none) (so.first (omega (arith, at))) in
-          row_wider g tokens lists (next_symbol g kept.head (count - n - 1)) kept.to _ _ dot_wider (row_at kept.rows.items n) (row_at wide n) x r made (longer n at)
+          let same : tally_at wide n ≡ tally_at kept.rows.items n =
+          subst (λ m. tally_at wide m ≡ tally_at kept.rows.items m) (sym none) (so.first (omega (arith, at))) in
+          row_wider g tokens lists (next_symbol g kept.head (count - n - 1)) kept.to _ _ dot_wider (tally_at kept.rows.items n) (tally_at wide n) x r made (longer n at)
           all (λ place end there leads high. (omega arith, omega arith)) (λ p there. ap (λ f. f p) same) past_same
 
       inner_made : 0 < n → Made
@@ -173,7 +175,7 @@ module _ (g : Grammar) (tokens : List Token) (lists : List (Vec Entry)) (kept : 
           let spread : Spreads g tokens lists (next_symbol g kept.head (count - n - 1)) kept.to (stretch_at kept.stretches.items (count - n - 1)) (stretch_at kept.stretches.items (count - n)) =
           subst (λ m. Spreads g tokens lists (next_symbol g kept.head (count - n - 1)) kept.to (stretch_at kept.stretches.items (count - n - 1)) (stretch_at kept.stretches.items m))
           up (is.spread (count - n - 1) (omega (arith, low_here)) (omega (arith, low_here))) in
-          row_wider g tokens lists (next_symbol g kept.head (count - n - 1)) kept.to _ _ dot_wider (row_at kept.rows.items n) (row_at wide n) x r made (longer n at)
+          row_wider g tokens lists (next_symbol g kept.head (count - n - 1)) kept.to _ _ dot_wider (tally_at kept.rows.items n) (tally_at wide n) x r made (longer n at)
           (stretch_at kept.stretches.items (count - n)) spread (λ p there. so.kept n (omega (arith, at)) p (inl there.0)) past_same
 
       made_here : (n ≡ 0) ⊎ (0 < n) → Made
@@ -187,7 +189,7 @@ module _ (g : Grammar) (tokens : List Token) (lists : List (Vec Entry)) (kept : 
     more_long : length more ≡ length wide + 1
     more_long = longer_pushed wide more r pushed
 
-    first_on : (n : ℕ) → length wide ≡ n → row_at more 0 ≡ row_at kept.rows.items 0
+    first_on : (n : ℕ) → length wide ≡ n → tally_at more 0 ≡ tally_at kept.rows.items 0
     first_on zero at = newest 0 at ∙ (ap ways_of (alone at) ∙ sym (old_row 0 at))
     first_on (suc n) at = before 0 (omega (arith, at)) ∙ so.first (omega (arith, at))
 
@@ -195,18 +197,18 @@ module _ (g : Grammar) (tokens : List Token) (lists : List (Vec Entry)) (kept : 
     kept_last zero at p h = ap (λ y. ways_of y p) (alone at)
     kept_last (suc n) at p h =
         let e : count - suc n ≡ count - n - 1 = omega arith in
-        longer_kept g tokens lists (next_symbol g kept.head (count - n - 1)) kept.to _ _ (dot_wider n at) (row_at kept.rows.items n) (row_at wide n) x r (made n at) (longer n at) p
+        longer_kept g tokens lists (next_symbol g kept.head (count - n - 1)) kept.to _ _ (dot_wider n at) (tally_at kept.rows.items n) (tally_at wide n) x r (made n at) (longer n at) p
         (subst (λ m. ((stretch_at kept.stretches.items m).first ≤ p) ⊎ (kept.to < p)) e h)
 
     each_on : (j : ℕ) → (j + 1 < length wide) ⊎ (length wide ≤ j + 1) → j + 1 < length more →
-        IsRow g tokens lists (next_symbol g kept.head (count - j - 1)) kept.to (stretch_at new (count - j - 1)) (row_at more j) (row_at more (j + 1))
+        IsStretchRow g tokens lists (next_symbol g kept.head (count - j - 1)) kept.to (stretch_at new (count - j - 1)) (tally_at more j) (tally_at more (j + 1))
     each_on j (inl low) within = rw (before j (omega arith), before (j + 1) low) (so.each j low)
     each_on j (inr high) within =
         let at : length wide ≡ suc j = omega (arith, more_long) in
         rw (before j (omega (arith, at)), newest (j + 1) (omega (arith, at))) (made_here j at (none_or_some j))
 
     kept_on : (j : ℕ) → (j < length wide) ⊎ (length wide ≤ j) → j < length more → (p : ℕ) → ((stretch_at kept.stretches.items (count - j)).first ≤ p) ⊎ (kept.to < p) →
-        row_at more j p ≡ row_at kept.rows.items j p
+        tally_at more j p ≡ tally_at kept.rows.items j p
     kept_on j (inl low) within p h = ap (λ f. f p) (before j low) ∙ so.kept j low p h
     kept_on j (inr high) within p h =
         let at : length wide ≡ j = omega (arith, more_long) in
@@ -250,11 +252,11 @@ wider_first g tokens lists head from to old all new e alone = rw (alone, e) (rec
   new = λ p is. inl is;
 })
 
-module _ (g : Grammar) (tokens : List Token) (lists : List (Vec Entry)) (kept : Kept) (is : IsKept g tokens lists kept) (from n : ℕ) (low : suc n < symbols_by g kept.head)
+module _ (g : Grammar) (tokens : List Token) (lists : List (Vec Entry)) (kept : Kept) (is : AreStretchesKept g tokens lists kept) (from n : ℕ) (low : suc n < symbols_by g kept.head)
     (all more : List Stretch) (new reached own_reached own : Stretch) (so : AreWiderTo g tokens lists kept.head from kept.to kept.stretches.items (suc n) all new)
     (spread : Spreads g tokens lists (next_symbol g kept.head n) kept.to new reached) (end : own_reached.end ≤ kept.to + 1)
     (same : (p : ℕ) → p ≤ kept.to → IsIn reached p → IsIn own_reached p)
-    (joined : IsJoined (stretch_at kept.stretches.items (suc n)) own_reached own) (pushed : more ≡ all ++ own ∷ []) where
+    (joined : IsStretchJoined (stretch_at kept.stretches.items (suc n)) own_reached own) (pushed : more ≡ all ++ own ∷ []) where
   old_in : (p : ℕ) → IsIn (stretch_at kept.stretches.items (suc n)) p → IsIn own p
   old_in p there = let a = joined.first in let b = there.0 in (omega arith, subst (λ e. p < e) (sym joined.end) there.1)
 
@@ -309,12 +311,12 @@ module _ (g : Grammar) (tokens : List Token) (lists : List (Vec Entry)) (kept : 
   }
 
 -- what is ready is kept
-pub ready_kept : (g : Grammar) (tokens : List Token) (lists : List (Vec Entry)) (from : ℕ) (kept : Kept) → IsReady g tokens lists from kept → IsKept g tokens lists kept
+pub ready_kept : (g : Grammar) (tokens : List Token) (lists : List (Vec Entry)) (from : ℕ) (kept : Kept) → AreRowsReady g tokens lists from kept → AreStretchesKept g tokens lists kept
 ready_kept g tokens lists from kept ready = record { spread = λ dot some low. ready.spread.each dot low; are = ready.are }
 
 -- and stays so where an entry is put at a place that it does not have
-pub kept_put : (g : Grammar) (tokens : List Token) (old new : List (Vec Entry)) (place : ℕ) (kept : Kept) → ((p : ℕ) → (p ≡ place → ⊥) → list_at new p ≡ list_at old p) → IsClear place kept →
-    IsKept g tokens old kept → IsKept g tokens new kept
+pub kept_put : (g : Grammar) (tokens : List Token) (old new : List (Vec Entry)) (place : ℕ) (kept : Kept) → ((p : ℕ) → (p ≡ place → ⊥) → entries_at new p ≡ entries_at old p) → IsClear place kept →
+    AreStretchesKept g tokens old kept → AreStretchesKept g tokens new kept
 kept_put g tokens old new place kept others clear is = record {
   spread = λ dot some low. keeping.spreads_in g tokens (next_symbol g kept.head dot) kept.to (stretch_at kept.stretches.items dot) old new (stretch_at kept.stretches.items (suc dot))
       (same dot some) (is.spread dot some low);
@@ -322,12 +324,12 @@ kept_put g tokens old new place kept others clear is = record {
     long = is.are.long;
     last = is.are.last;
     each = λ k low. let n = symbols_by g kept.head - k - 1 in
-        keeping.row_in g tokens (next_symbol g kept.head n) kept.to (stretch_at kept.stretches.items n) old new (row_at kept.rows.items k) (row_at kept.rows.items (k + 1))
+        keeping.row_in g tokens (next_symbol g kept.head n) kept.to (stretch_at kept.stretches.items n) old new (tally_at kept.rows.items k) (tally_at kept.rows.items (k + 1))
         (same n (omega (arith, low))) (is.are.each k low);
   };
 }
   where
-    same : (dot : ℕ) → 0 < dot → (p : ℕ) → IsIn (stretch_at kept.stretches.items dot) p → list_at new p ≡ list_at old p
+    same : (dot : ℕ) → 0 < dot → (p : ℕ) → IsIn (stretch_at kept.stretches.items dot) p → entries_at new p ≡ entries_at old p
     same dot some p there = others p (λ e. clear dot some (subst (λ q. IsIn (stretch_at kept.stretches.items dot) q) e there))
 
 -- the stretches with another one at the first symbol
@@ -344,7 +346,7 @@ begun_later s xs zero low = absurd (omega arith)
 begun_later s [] (suc dot) low = refl
 begun_later s (x ∷ xs) (suc dot) low = refl
 
-module _ (g : Grammar) (tokens : List Token) (lists : List (Vec Entry)) (from : ℕ) (kept : Kept) (ready : IsReady g tokens lists from kept) where
+module _ (g : Grammar) (tokens : List Token) (lists : List (Vec Entry)) (from : ℕ) (kept : Kept) (ready : AreRowsReady g tokens lists from kept) where
   abbrev number : ℕ
   number = symbols_by g kept.head
 
@@ -375,7 +377,7 @@ module _ (g : Grammar) (tokens : List Token) (lists : List (Vec Entry)) (from : 
 pub no_symbols : (g : Grammar) (head : Head) → next_symbol g head 0 ≡ None → symbols_by g head ≡ 0
 no_symbols g head none = by_production (production_of g head) none
   where
-    by_production : (o : Option Production) → symbol_after o 0 ≡ None → count_of o ≡ 0
+    by_production : (o : Option Production) → symbol_after o 0 ≡ None → symbol_count o ≡ 0
     by_production None e = refl
     by_production (Some p) e = by_list p.symbols e
       where
@@ -387,7 +389,7 @@ no_symbols g head none = by_production (production_of g head) none
 pub some_symbols : (g : Grammar) (head : Head) → (next_symbol g head 0 ≡ None → ⊥) → 0 < symbols_by g head
 some_symbols g head some = by_production (production_of g head) some
   where
-    by_production : (o : Option Production) → (symbol_after o 0 ≡ None → ⊥) → 0 < count_of o
+    by_production : (o : Option Production) → (symbol_after o 0 ≡ None → ⊥) → 0 < symbol_count o
     by_production None e = absurd (e refl)
     by_production (Some p) e = by_list p.symbols e
       where
@@ -400,15 +402,15 @@ none_mapped f None e = refl
 none_mapped f (Some x) e = absurd (none-some (f x) (sym e))
 
 -- what is kept is still so after an entry is put
-pub all_kept_put : (g : Grammar) (tokens : List Token) (old new : List (Vec Entry)) (place : ℕ) (before after : List Kept) → ((p : ℕ) → (p ≡ place → ⊥) → list_at new p ≡ list_at old p) →
+pub all_kept_put : (g : Grammar) (tokens : List Token) (old new : List (Vec Entry)) (place : ℕ) (before after : List Kept) → ((p : ℕ) → (p ≡ place → ⊥) → entries_at new p ≡ entries_at old p) →
     ((i : ℕ) (k : Kept) → slice_get after i ≡ Some k → (slice_get before i ≡ Some k) × IsClear place k) → AllKept g tokens old before → AllKept g tokens new after
 all_kept_put g tokens old new place before after others left all i k at = let h = left i k at in kept_put g tokens old new place k others h.1 (all i k h.0)
 
 -- so is one more
 pub all_kept_more : (g : Grammar) (tokens : List Token) (lists : List (Vec Entry)) (before after : List Kept) (k : Kept) → after ≡ before ++ k ∷ [] → AllKept g tokens lists before →
-    IsKept g tokens lists k → AllKept g tokens lists after
+    AreStretchesKept g tokens lists k → AllKept g tokens lists after
 all_kept_more g tokens lists before after k e all is i x at =
-    ⊎_elim (λ h. all i x h.1) (λ h. subst (IsKept g tokens lists) h.1 is) (got_cases before k x i (subst (λ l. slice_get l i ≡ Some x) e at))
+    ⊎_elim (λ h. all i x h.1) (λ h. subst (AreStretchesKept g tokens lists) h.1 is) (got_cases before k x i (subst (λ l. slice_get l i ≡ Some x) e at))
 
 pub none_kept : (g : Grammar) (tokens : List Token) (lists : List (Vec Entry)) (all : List Kept) → all ≡ [] → AllKept g tokens lists all
 none_kept g tokens lists all e i k at = absurd (none-some k (subst (λ l. slice_get l i ≡ Some k) e at))
@@ -424,10 +426,10 @@ not_some None e = refl
 not_some (Some x) e = absurd (false≢true (sym e))
 
 -- one of them in place of another
-pub all_kept_set : (g : Grammar) (tokens : List Token) (lists : List (Vec Entry)) (before : List Kept) (i : ℕ) (k : Kept) → AllKept g tokens lists before → IsKept g tokens lists k →
+pub all_kept_set : (g : Grammar) (tokens : List Token) (lists : List (Vec Entry)) (before : List Kept) (i : ℕ) (k : Kept) → AllKept g tokens lists before → AreStretchesKept g tokens lists k →
     AllKept g tokens lists (set before i k)
 all_kept_set g tokens lists [] i k all is j x at = absurd (none-some x at)
-all_kept_set g tokens lists (y ∷ ys) zero k all is zero x at = subst (IsKept g tokens lists) (same_Some k x at) is
+all_kept_set g tokens lists (y ∷ ys) zero k all is zero x at = subst (AreStretchesKept g tokens lists) (same_Some k x at) is
 all_kept_set g tokens lists (y ∷ ys) zero k all is (suc j) x at = all (suc j) x at
 all_kept_set g tokens lists (y ∷ ys) (suc i) k all is zero x at = all 0 x at
 all_kept_set g tokens lists (y ∷ ys) (suc i) k all is (suc j) x at = all_kept_set g tokens lists ys i k (λ n z h. all (suc n) z h) is j x at

@@ -11,7 +11,7 @@ use Rattle.sx_grammar.specs.Reading.{ReadsAll, ReadsBy}
 use Rattle.sx_grammar.specs.Items.{ReadsToken, Makes, Item}
 use Rattle.sx_grammar.specs.Order.{IsRanking}
 use Rattle.sx_grammar.specs.Tally.{Tally, no_way, one_way, more_ways, times, IsVariableAt}
-use Rattle.sx_earley.specs.Shown.{plain, texts, tokens_of, AreBelow}
+use Rattle.sx_earley.specs.Shown.{plain, literal_texts, tokens_of, ShownBelow}
 use Rattle.sx_forest.specs.declared.entry.Maker.{Maker}
 use Rattle.sx_forest.specs.declared.entry.Maker.TheVariants.{Variable, By}
 use Rattle.sx_forest.specs.declared.entry.Entry.{Entry}
@@ -22,7 +22,7 @@ use Rattle.sx_forest.specs.declared.fork.Fork.TheVariants.{Apart, Inside}
 use Rattle.sx_forest.specs.declared.forest.Forest.{Forest}
 use Rattle.sx_forest.specs.declared.opened.Opened.{Opened}
 use Rattle.sx_forest.specs.Tallies.{tally_of}
-use Rattle.sx_forest.specs.Rows.{FitsPart, AreSpanRows, row_at, list_at}
+use Rattle.sx_forest.specs.Rows.{FitsPart, AreSpanRows, tally_at, entries_at}
 use Rattle.sx_forest.specs.Useful.{IsUseful, IsUsefulBy}
 use Rattle.sx_forest.specs.Table.{IsFull, IsSoundBy}
 use Rattle.sx_term.specs.Limits.{most_depth, most_tokens}
@@ -67,13 +67,14 @@ lists_in f = f.table.now.lists.items
 -- the table is that of the complete spans that are of use, by a grammar whose sorts have ranks
 pub record IsForest (f : Forest) : Type 0 where
   pub short : length f.shown.now ≤ most_tokens
-  pub below : AreBelow (length (texts f.grammar.now)) f.shown.now
+  pub below : ShownBelow (length (literal_texts f.grammar.now)) f.shown.now
   pub levels : HasLevels (grammar_in f)
   pub ranked : (rank : ℕ → ℕ) × IsRanking (grammar_in f) rank
   pub full : IsFull (grammar_in f) (tokens_in f) f.start (lists_in f)
 
 -- the entry's readings are counted, none is deeper than 1,000, and it is of use
-pub record IsShallow (g : Grammar) (tokens : List Token) (start from : ℕ) (e : Entry) : Type 0 where
+pub record IsShallowEntry (g : Grammar) (tokens : List Token) (start from : ℕ)
+    (e : Entry) : Type 0 where
   pub sound : IsSoundBy g tokens start e.maker from e.to (tally_of e.ways)
   pub low : depth_in (tally_of e.ways) ≤ most_depth
   pub useful : IsUsefulBy g tokens e.maker e.to
@@ -88,7 +89,7 @@ pub record IsOpened (g : Grammar) (tokens : List Token) (start : ℕ) (lists : L
 
 -- the row of the symbols from the dot on
 abbrev pub row_from : Grammar → Opened → ℕ → ℕ → Tally
-row_from g o dot = row_at o.rows.items (length (symbols_of g o.head) - dot)
+row_from g o dot = tally_at o.rows.items (length (symbols_of g o.head) - dot)
 
 -- an item has the symbols before the dot read up to the place, and those from it on can be read up
 -- to the end of the span
@@ -109,20 +110,20 @@ followed done others = others
 followed (kid ▸ kids) others = kid ▸ followed kids others
 
 -- the entry reads the part, and the row the rest
-abbrev pub IsUsable : Grammar → (sort least : ℕ) → (ℕ → Tally) → Entry → Type 0
-IsUsable g sort least next e = FitsPart g e.maker sort least ×
+abbrev pub IsUsableEntry : Grammar → (sort least : ℕ) → (ℕ → Tally) → Entry → Type 0
+IsUsableEntry g sort least next e = FitsPart g e.maker sort least ×
     (times (tally_of e.ways) (next e.to) ≢ no_way)
 
 -- the first usable entry from an index on, with its index
 abbrev pub IsFirstUsable : Grammar → (sort least : ℕ) → (ℕ → Tally) → List Entry →
     (first : ℕ) → Option (ℕ × Entry) → Type 0
 IsFirstUsable g sort least next entries first None = (i : ℕ) (e : Entry) → first ≤ i →
-    slice_get entries i ≡ Some e → ¬ (IsUsable g sort least next e)
+    slice_get entries i ≡ Some e → ¬ (IsUsableEntry g sort least next e)
 IsFirstUsable g sort least next entries first (Some found) =
     (first ≤ found.0) × (slice_get entries found.0 ≡ Some found.1) ×
-    IsUsable g sort least next found.1 ×
+    IsUsableEntry g sort least next found.1 ×
     ((i : ℕ) (e : Entry) → first ≤ i → i < found.0 → slice_get entries i ≡ Some e →
-    ¬ (IsUsable g sort least next e))
+    ¬ (IsUsableEntry g sort least next e))
 
 -- the place after the step
 abbrev pub end_of : Step → ℕ → ℕ
@@ -139,10 +140,10 @@ IsOver g tokens lists next place (lexical kind) step =
     (step ≡ steps.Token) × ReadsToken tokens (lexical kind) place
 IsOver g tokens lists next place (part sort least) step =
     (index : ℕ) × (e : Entry) × (step ≡ steps.Part index e) ×
-    IsFirstUsable g sort least next (list_at lists place) 0 (Some (index, e))
+    IsFirstUsable g sort least next (entries_at lists place) 0 (Some (index, e))
 
 -- the step goes over the symbol after the dot, and leaves the rest to be read
-pub record IsStep (g : Grammar) (tokens : List Token) (start : ℕ) (lists : List (Vec Entry))
+pub record IsItemStep (g : Grammar) (tokens : List Token) (start : ℕ) (lists : List (Vec Entry))
     (o : Opened) (dot place : ℕ) (step : Step) : Type 0 where
   pub symbol : Symbol
   pub is : slice_get (symbols_of g o.head) dot ≡ Some symbol
@@ -155,12 +156,12 @@ abbrev pub IsForkOf : Grammar → (sort least : ℕ) → (ℕ → Tally) → Lis
     (index : ℕ) → Entry → Option Fork → Type 0
 IsForkOf g sort least next entries index e (Some (Apart one other)) =
     (one ≡ e) × ((i : ℕ) × (index < i) × (slice_get entries i ≡ Some other) ×
-    IsUsable g sort least next other)
+    IsUsableEntry g sort least next other)
 IsForkOf g sort least next entries index e (Some (Inside entry)) =
     (entry ≡ e) × IsMore (tally_of e.ways)
 IsForkOf g sort least next entries index e None =
     ¬ (IsMore (tally_of e.ways)) × ((i : ℕ) (x : Entry) → index < i → slice_get entries i ≡ Some x →
-    ¬ (IsUsable g sort least next x))
+    ¬ (IsUsableEntry g sort least next x))
 
 -- the entries by which the two readings go
 abbrev pub one_of : Fork → Entry
@@ -181,8 +182,8 @@ pub record IsParting (g : Grammar) (tokens : List Token) (start place : ℕ)
     (fork : Fork) : Type 0 where
   pub sort : ℕ
   pub least : ℕ
-  pub one : IsShallow g tokens start place (one_of fork)
-  pub other : IsShallow g tokens start place (other_of fork)
+  pub one : IsShallowEntry g tokens start place (one_of fork)
+  pub other : IsShallowEntry g tokens start place (other_of fork)
   pub one_fits : FitsPart g (one_of fork).maker sort least
   pub other_fits : FitsPart g (other_of fork).maker sort least
   pub apart : IsApart fork
@@ -192,8 +193,8 @@ pub record IsParting (g : Grammar) (tokens : List Token) (start place : ℕ)
 pub record IsThere (g : Grammar) (lists : List (Vec Entry)) (o : Opened) (dot place sort least : ℕ)
     (e : Entry) : Type 0 where
   pub index : ℕ
-  pub at : slice_get (list_at lists place) index ≡ Some e
-  pub used : IsUsable g sort least (row_from g o (suc dot)) e
+  pub at : slice_get (entries_at lists place) index ≡ Some e
+  pub used : IsUsableEntry g sort least (row_from g o (suc dot)) e
 
 -- the readings part at the part at the dot
 pub record IsForkAt (g : Grammar) (lists : List (Vec Entry)) (o : Opened) (dot place : ℕ)
@@ -211,9 +212,9 @@ abbrev pub IsMoreAt : Grammar → Opened → (dot place : ℕ) → Type 0
 IsMoreAt g o dot place = IsMore (row_from g o dot place)
 
 -- the reading is by the head, with these kids
-abbrev pub IsMadeOf : Head → Readings → (from to : ℕ) → Reading → Type 0
-IsMadeOf (Labelled label) kids from to r = r ≡ branch label kids from to
-IsMadeOf (Bracketed sort) kids from to r = (inner : Reading) × (kids ≡ inner ▸ done) ×
+abbrev pub IsReadingMade : Head → Readings → (from to : ℕ) → Reading → Type 0
+IsReadingMade (Labelled label) kids from to r = r ≡ branch label kids from to
+IsReadingMade (Bracketed sort) kids from to r = (inner : Reading) × (kids ≡ inner ▸ done) ×
     (r ≡ bracket inner from to)
 
 -- a bracket pair has one kid

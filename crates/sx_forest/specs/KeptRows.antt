@@ -10,15 +10,15 @@ use Rattle.sx_forest.specs.declared.kept.Kept.{Kept}
 use Rattle.sx_forest.specs.declared.stretch.Stretch.{Stretch}
 use Rattle.sx_forest.specs.declared.entry.Entry.{Entry}
 use Rattle.sx_forest.specs.Tallies.{ways_of}
-use Rattle.sx_forest.specs.Rows.{IsNext, IsIn, Spreads, stretch_at, list_at, count_of}
+use Rattle.sx_forest.specs.Rows.{IsNextRow, IsIn, Spreads, stretch_at, entries_at, symbol_count}
 use Rattle.sx_forest.specs.Rows.{AreStretches, AreRows}
 
 -- how many symbols the head has
 abbrev pub symbols_by : Grammar → Head → ℕ
-symbols_by g head = count_of (production_of g head)
+symbols_by g head = symbol_count (production_of g head)
 
 -- the stretches lead on from the second symbol, and the rows are those after the first
-pub record IsKept (g : Grammar) (tokens : List Token) (lists : List (Vec Entry))
+pub record AreStretchesKept (g : Grammar) (tokens : List Token) (lists : List (Vec Entry))
     (kept : Kept) : Type 0 where
   pub spread : (dot : ℕ) → 0 < dot → suc dot < symbols_by g kept.head →
       Spreads g tokens lists (next_symbol g kept.head dot) kept.to
@@ -29,10 +29,10 @@ pub record IsKept (g : Grammar) (tokens : List Token) (lists : List (Vec Entry))
 -- so it is of each
 abbrev pub AllKept : Grammar → List Token → List (Vec Entry) → List Kept → Type 0
 AllKept g tokens lists all =
-    (i : ℕ) (kept : Kept) → slice_get all i ≡ Some kept → IsKept g tokens lists kept
+    (i : ℕ) (kept : Kept) → slice_get all i ≡ Some kept → AreStretchesKept g tokens lists kept
 
 -- they are those of a span from this place
-pub record IsReady (g : Grammar) (tokens : List Token) (lists : List (Vec Entry)) (from : ℕ)
+pub record AreRowsReady (g : Grammar) (tokens : List Token) (lists : List (Vec Entry)) (from : ℕ)
     (kept : Kept) : Type 0 where
   pub spread : AreStretches g tokens lists kept.head (symbols_by g kept.head) from kept.to
       kept.stretches.items
@@ -49,7 +49,7 @@ abbrev pub front_of : Stretch → Stretch → Stretch
 front_of old new = record { first = new.first; end = old.first }
 
 -- the new stretch has the places of the other one too, and what it has more is in front
-pub record IsJoined (old more new : Stretch) : Type 0 where
+pub record IsStretchJoined (old more new : Stretch) : Type 0 where
   pub first : new.first ≤ old.first
   pub end : new.end ≡ old.end
   pub other : (place : ℕ) → IsIn more place → IsIn new place
@@ -72,7 +72,7 @@ pub record AreWider (g : Grammar) (tokens : List Token) (lists : List (Vec Entry
 pub record IsLonger (g : Grammar) (tokens : List Token) (lists : List (Vec Entry))
     (symbol : Option Symbol) (next : ℕ → Tally) (places : Stretch) (old new : Row) : Type 0 where
   pub each : (place : ℕ) → IsIn places place →
-      IsNext g tokens (list_at lists place) symbol place next (ways_of new place)
+      IsNextRow g tokens (entries_at lists place) symbol place next (ways_of new place)
   pub kept : (place : ℕ) → places.end ≤ place → ways_of new place ≡ ways_of old place
   pub none : (place : ℕ) → place < places.first → place < places.end →
       ways_of old place ≡ no_way → ways_of new place ≡ no_way

@@ -7,7 +7,7 @@ use Rattle.sx_term.specs.Vars.{IsAdded, without_tilde}
 use Rattle.sx_token.specs.declared.token.Token.{Token}
 use Rattle.sx_grammar.specs.Grammar.{Text}
 use Rattle.sx_grammar.specs.Reading.{Reading, Readings, branch, bracket, leaf, variable, done, ◌▸◌}
-use Rattle.sx_forest.specs.Text.{texts}
+use Rattle.sx_forest.specs.Text.{token_texts}
 
 -- there is a token, and it is a lexeme
 abbrev pub IsLexeme : Option Token → Type 0
@@ -38,7 +38,8 @@ abbrev mutual
   names_in tokens (branch label kids from to) = names_of tokens kids
   names_in tokens (bracket inner from to) = names_in tokens inner
   names_in tokens (leaf token) = []
-  names_in tokens (variable token) = without_tilde (slice_index_or (texts tokens) token []) ∷ []
+  names_in tokens (variable token) = without_tilde (slice_index_or (token_texts tokens) token []) ∷
+      []
 
   pub names_of : List Token → Readings → List Text
   names_of tokens done = []

@@ -10,8 +10,8 @@ use Rattle.sx_earley.specs.declared.span.Span.{Span}
 use Rattle.sx_forest.specs.declared.ordered.Ordered.{Ordered}
 use Rattle.sx_forest.specs.declared.entry.Maker.TheVariants.{By}
 use Rattle.sx_forest.specs.declared.entry.Entry.{Entry}
-use Rattle.sx_forest.specs.Rows.{list_at}
-use Rattle.sx_forest.specs.Table.{HasEntry, IsTable}
+use Rattle.sx_forest.specs.Rows.{entries_at}
+use Rattle.sx_forest.specs.Table.{HasEntry, IsForestTable}
 
 -- the sort that a production makes
 abbrev pub sort_in : Option Production → ℕ
@@ -45,11 +45,12 @@ pub record AreOrdered (g : Grammar) (rank : ℕ → ℕ) (spans : List Span)
 -- the table has an entry for each of the first n spans of the list, and for no other
 pub record IsSoFar (g : Grammar) (tokens : List Token) (start : ℕ) (list : List Ordered) (n : ℕ)
     (lists : List (Vec Entry)) : Type 0 where
-  pub table : IsTable g tokens start lists
+  pub table : IsForestTable g tokens start lists
   pub long : length lists ≡ length tokens + 1
   pub has : (q : ℕ) (o : Ordered) → q < n → slice_get list q ≡ Some o →
       HasEntry lists o.span.from (By (head_of o.span.of)) o.span.to
-  pub only : (place i : ℕ) (e : Entry) (head : Head) → slice_get (list_at lists place) i ≡ Some e →
+  pub only : (place i : ℕ) (e : Entry) (head : Head) → slice_get
+      (entries_at lists place) i ≡ Some e →
       e.maker ≡ By head →
       (q : ℕ) × (o : Ordered) × (q < n) × (slice_get list q ≡ Some o) × (head_of o.span.of ≡ head) ×
       (o.span.from ≡ place) × (o.span.to ≡ e.to)

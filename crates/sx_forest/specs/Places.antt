@@ -7,16 +7,16 @@ use Rattle.sx_grammar.specs.Print.{term_of}
 use Rattle.sx_grammar.specs.Reading.{Reading, Readings, branch, bracket, leaf, variable, done, ◌▸◌}
 
 -- the readings in a list
-abbrev pub listed : Readings → List Reading
-listed done = []
-listed (kid ▸ kids) = kid ∷ listed kids
+abbrev pub listed_readings : Readings → List Reading
+listed_readings done = []
+listed_readings (kid ▸ kids) = kid ∷ listed_readings kids
 
 -- without the brackets that stand round it
-abbrev pub bare : Reading → Reading
-bare (branch label kids from to) = branch label kids from to
-bare (bracket inner from to) = bare inner
-bare (leaf token) = leaf token
-bare (variable token) = variable token
+abbrev pub unbracketed : Reading → Reading
+unbracketed (branch label kids from to) = branch label kids from to
+unbracketed (bracket inner from to) = unbracketed inner
+unbracketed (leaf token) = leaf token
+unbracketed (variable token) = variable token
 
 -- where it begins
 abbrev pub start_of : Reading → ℕ
@@ -27,7 +27,7 @@ start_of (variable token) = token
 
 -- the kids of a node, or none
 abbrev pub kids_of : Reading → List Reading
-kids_of (branch label kids from to) = listed kids
+kids_of (branch label kids from to) = listed_readings kids
 kids_of (bracket inner from to) = []
 kids_of (leaf token) = []
 kids_of (variable token) = []
@@ -35,8 +35,9 @@ kids_of (variable token) = []
 -- where the part begins to which the steps lead, each the number of a kid from 0; brackets are no
 -- step, and those round the part are none of it
 abbrev pub place_at : Reading → List ℕ → Option ℕ
-place_at r [] = Some (start_of (bare r))
-place_at r (i ∷ path) = option_and_then (λ kid. place_at kid path) (slice_get (kids_of (bare r)) i)
+place_at r [] = Some (start_of (unbracketed r))
+place_at r (i ∷ path) = option_and_then (λ kid. place_at kid path) (slice_get (kids_of
+    (unbracketed r)) i)
 
 -- there is no place exactly where the path leaves the term of the reading
 abbrev pub LeavesTogether : Type 0

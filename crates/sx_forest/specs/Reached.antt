@@ -4,7 +4,7 @@ use Rattle.std.specs.Global.{Vec}
 use Rattle.sx_forest.specs.declared.entry.Maker.{Maker}
 use Rattle.sx_forest.specs.declared.entry.Entry.{Entry}
 use Rattle.sx_forest.specs.declared.reach.Reach.{Reach}
-use Rattle.sx_forest.specs.Rows.{list_at, IsIn}
+use Rattle.sx_forest.specs.Rows.{entries_at, IsIn}
 
 -- the maker reaches the place
 abbrev pub HasReach : List Reach → Maker → (place : ℕ) → Type 0
@@ -21,7 +21,7 @@ reaches_at lists place = reaches_in (slice_get lists place)
 
 -- from the place of each entry its maker reaches its end, and backwards
 pub record AreReached (lists : List (Vec Entry)) (ends starts : List (Vec Reach)) : Type 0 where
-  pub onward : (place i : ℕ) (e : Entry) → slice_get (list_at lists place) i ≡ Some e →
+  pub onward : (place i : ℕ) (e : Entry) → slice_get (entries_at lists place) i ≡ Some e →
       HasReach (reaches_at ends place) e.maker e.to
-  pub back : (place i : ℕ) (e : Entry) → slice_get (list_at lists place) i ≡ Some e →
+  pub back : (place i : ℕ) (e : Entry) → slice_get (entries_at lists place) i ≡ Some e →
       HasReach (reaches_at starts e.to) e.maker place

@@ -17,7 +17,7 @@ use Rattle.sx_forest.specs.declared.entry.Maker.{Maker}
 use Rattle.sx_forest.specs.declared.entry.Maker.TheVariants.{Variable, By}
 use Rattle.sx_forest.specs.declared.entry.Entry.{Entry}
 use Rattle.sx_forest.specs.Tallies.{tally_of}
-use Rattle.sx_forest.specs.Rows.{list_at, AllSorted, IsSpanWays}
+use Rattle.sx_forest.specs.Rows.{entries_at, AllSorted, IsSpanWays}
 use Rattle.sx_forest.specs.Useful.{IsKidEnd, IsUseful}
 
 -- the readings by the maker between these places are counted
@@ -35,27 +35,27 @@ HasIn entries maker to = (i : ℕ) × (e : Entry) × (slice_get entries i ≡ So
 
 -- there is an entry for the maker between these places
 abbrev pub HasEntry : List (Vec Entry) → (place : ℕ) → Maker → (to : ℕ) → Type 0
-HasEntry lists place maker to = HasIn (list_at lists place) maker to
+HasEntry lists place maker to = HasIn (entries_at lists place) maker to
 
 -- each entry is counted and stands once, and each metavariable has one; from the second on they are
 -- by heads, in the order of their ends
-pub record IsTable (g : Grammar) (tokens : List Token) (start : ℕ)
+pub record IsForestTable (g : Grammar) (tokens : List Token) (start : ℕ)
     (lists : List (Vec Entry)) : Type 0 where
-  pub sound : (place i : ℕ) (e : Entry) → slice_get (list_at lists place) i ≡ Some e →
+  pub sound : (place i : ℕ) (e : Entry) → slice_get (entries_at lists place) i ≡ Some e →
       IsSoundBy g tokens start e.maker place e.to (tally_of e.ways)
-  pub once : (place i j : ℕ) (a b : Entry) → slice_get (list_at lists place) i ≡ Some a →
-      slice_get (list_at lists place) j ≡ Some b →
+  pub once : (place i j : ℕ) (a b : Entry) → slice_get (entries_at lists place) i ≡ Some a →
+      slice_get (entries_at lists place) j ≡ Some b →
       a.maker ≡ b.maker → a.to ≡ b.to → i ≡ j
   pub variables : (place sort : ℕ) → Marked tokens place (is_variable (of_sort sort)) →
       HasEntry lists place (Variable sort) (suc place)
-  pub heads : (place i : ℕ) (e : Entry) → 0 < i → slice_get (list_at lists place) i ≡ Some e →
+  pub heads : (place i : ℕ) (e : Entry) → 0 < i → slice_get (entries_at lists place) i ≡ Some e →
       (head : Head) × (e.maker ≡ By head)
   pub sorted : AllSorted lists
 
 -- the table has an entry for each complete span that is of use
 pub record IsFull (g : Grammar) (tokens : List Token) (start : ℕ)
     (lists : List (Vec Entry)) : Type 0 where
-  pub table : IsTable g tokens start lists
+  pub table : IsForestTable g tokens start lists
   pub has : (head : Head) (from to : ℕ) → Span g tokens start head from to →
       IsUseful g tokens head to → HasEntry lists from (By head) to
 
@@ -87,17 +87,17 @@ pub record IsFirstList (tokens : List Token) (place : ℕ) (entries : List Entry
 -- each of the first n lists has its metavariable
 pub record IsFirstTable (tokens : List Token) (n : ℕ) (lists : List (Vec Entry)) : Type 0 where
   pub long : length lists ≡ n
-  pub each : (place : ℕ) → place < length lists → IsFirstList tokens place (list_at lists place)
+  pub each : (place : ℕ) → place < length lists → IsFirstList tokens place (entries_at lists place)
 
 -- the list at the place has one entry more
-pub record IsPut (old new : List (Vec Entry)) (place : ℕ) (e : Entry) : Type 0 where
+pub record IsEntryPut (old new : List (Vec Entry)) (place : ℕ) (e : Entry) : Type 0 where
   pub same : length new ≡ length old
-  pub there : list_at new place ≡ list_at old place ++ e ∷ []
-  pub others : (p : ℕ) → (p ≡ place → ⊥) → list_at new p ≡ list_at old p
+  pub there : entries_at new place ≡ entries_at old place ++ e ∷ []
+  pub others : (p : ℕ) → (p ≡ place → ⊥) → entries_at new p ≡ entries_at old p
 
 -- the span has an entry more, with its ways
-pub record IsAdded (g : Grammar) (tokens : List Token) (old new : List (Vec Entry))
+pub record IsEntryAdded (g : Grammar) (tokens : List Token) (old new : List (Vec Entry))
     (s : completed.Span) : Type 0 where
   pub ways : Ways
   pub counted : IsSpanWays g tokens old (head_of s.of) s.from s.to (tally_of ways)
-  pub put : IsPut old new s.from (record { maker = By (head_of s.of); to = s.to; ways = ways })
+  pub put : IsEntryPut old new s.from (record { maker = By (head_of s.of); to = s.to; ways = ways })

@@ -10,10 +10,10 @@ abbrev pub ways_of : Row → ℕ → Tally
 ways_of r place = ways_at (Nothing ∷ r.ways) (r.end - place)
 
 -- one more fits a word
-abbrev pub IsSmall : Tally → Type 0
-IsSmall no_way = Unit {0}
-IsSmall (one_way d) = d < 2 ^ 63
-IsSmall (more_ways d) = d < 2 ^ 63
+abbrev pub IsSmallTally : Tally → Type 0
+IsSmallTally no_way = Unit {0}
+IsSmallTally (one_way d) = d < 2 ^ 63
+IsSmallTally (more_ways d) = d < 2 ^ 63
 
 -- one way at the end, and none elsewhere
 pub record IsLastRow (to : ℕ) (row : ℕ → Tally) : Type 0 where

@@ -5,8 +5,8 @@ use Rattle.sx_grammar.specs.Grammar.{Text}
 use Rattle.sx_grammar.specs.Reading.{Reading, Readings, branch, bracket, leaf, variable, done, ◌▸◌}
 
 -- the texts of the tokens
-abbrev pub texts : List Token → List Text
-texts tokens = map (λ t. t.text) tokens
+abbrev pub token_texts : List Token → List Text
+token_texts tokens = map (λ t. t.text) tokens
 
 abbrev mutual
   -- a label with the kids behind it, an inner reading between `[` and `]`, or the text of a token

@@ -51,15 +51,16 @@ abbrev pub level_at : List ℕ → (sort : ℕ) → ℕ
 level_at levels sort = level_in (slice_get levels sort)
 
 -- the production is kept
-abbrev pub IsKept : List ℕ → Option Production → Type 0
-IsKept levels None = ⊥
-IsKept levels (Some p) = level_at levels p.sort ≤ p.level
+abbrev pub IsProductionKept : List ℕ → Option Production → Type 0
+IsProductionKept levels None = ⊥
+IsProductionKept levels (Some p) = level_at levels p.sort ≤ p.level
 
 -- what the part after the dot asks for is kept, if it may end at the place
 abbrev pub IsMetAt : Grammar → List Token → (place : ℕ) → List ℕ → Head → (dot : ℕ) → Type 0
 IsMetAt g tokens place levels head dot = (sort least : ℕ) →
     next_symbol g head dot ≡ Some (part sort least) →
-    MayEnd tokens (next_symbol g head (suc dot)) place (IsKept levels (production_of g head)) →
+    MayEnd tokens (next_symbol g head (suc dot)) place (IsProductionKept levels
+    (production_of g head)) →
     level_at levels sort ≤ least
 
 -- so it is of each part of each head
@@ -71,13 +72,13 @@ abbrev pub row_in : Option (Vec ℕ) → List ℕ
 row_in None = []
 row_in (Some v) = v.items
 
-abbrev pub row_at : List (Vec ℕ) → (number : ℕ) → List ℕ
-row_at rows number = row_in (slice_get rows number)
+abbrev pub numbers_at : List (Vec ℕ) → (number : ℕ) → List ℕ
+numbers_at rows number = row_in (slice_get rows number)
 
 -- the row with the number that a place has
 abbrev pub row_by : List (Vec ℕ) → Option ℕ → List ℕ
 row_by rows None = []
-row_by rows (Some number) = row_at rows number
+row_by rows (Some number) = numbers_at rows number
 
 -- the levels at the place
 abbrev pub levels_at : Levels → (place : ℕ) → List ℕ
@@ -86,7 +87,7 @@ levels_at levels place = row_by levels.rows.items (slice_get levels.numbers.item
 -- the places have numbers of rows, and what is asked for at each is kept there
 abbrev pub AreMetBy : Grammar → List Token → List (Vec ℕ) → (numbers : List ℕ) → Type 0
 AreMetBy g tokens rows numbers = (place number : ℕ) → slice_get numbers place ≡ Some number →
-    (number < length rows) × IsMet g tokens place (row_at rows number)
+    (number < length rows) × IsMet g tokens place (numbers_at rows number)
 
 -- what is asked for at each place is kept there
 abbrev pub AreMet : Grammar → List Token → Levels → Type 0
@@ -94,7 +95,7 @@ AreMet g tokens levels = (place : ℕ) → IsMet g tokens place (levels_at level
 
 -- the head is kept up to the place
 abbrev pub Keeps : Grammar → Levels → Head → (place : ℕ) → Type 0
-Keeps g levels head place = IsKept (levels_at levels place) (production_of g head)
+Keeps g levels head place = IsProductionKept (levels_at levels place) (production_of g head)
 
 -- the spans are those complete ones that some levels keep, where these meet what is asked for
 pub record AreUseful (g : Grammar) (tokens : List Token) (start : ℕ)

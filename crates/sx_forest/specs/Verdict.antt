@@ -44,12 +44,13 @@ IsNotAfter one other = is_le (slice_cmp nat_cmp one other) ≡ true
 
 -- the refusal is the answer for the tokens, out of memory aside; labels and texts are those of the
 -- grammar and the tokens
-abbrev pub IsRefusal : (labels texts : List Text) → Grammar → List Token → ℕ → ReadError → Type 0
-IsRefusal labels texts g tokens start Memory = Unit {0}
-IsRefusal labels texts g tokens start TooHard = IsAnswer g tokens start too_hard
-IsRefusal labels texts g tokens start (NoReading end) = IsAnswer g tokens start (no_reading end)
-IsRefusal labels texts g tokens start (TooDeep depth) = IsAnswer g tokens start (too_deep depth)
-IsRefusal labels texts g tokens start (Ambiguous one other) =
+abbrev pub IsReadRefusal : (labels texts : List Text) → Grammar → List Token → ℕ → ReadError →
+    Type 0
+IsReadRefusal labels texts g tokens start Memory = Unit {0}
+IsReadRefusal labels texts g tokens start TooHard = IsAnswer g tokens start too_hard
+IsReadRefusal labels texts g tokens start (NoReading end) = IsAnswer g tokens start (no_reading end)
+IsReadRefusal labels texts g tokens start (TooDeep depth) = IsAnswer g tokens start (too_deep depth)
+IsReadRefusal labels texts g tokens start (Ambiguous one other) =
     IsAnswer g tokens start (ambiguous (plain_reading one) (plain_reading other)) ×
     IsNotAfter (tree_text labels texts (plain_reading one))
     (tree_text labels texts (plain_reading other))

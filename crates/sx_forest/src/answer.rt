@@ -6,10 +6,10 @@ ghost use Rattle.sx_grammar.specs.ReadOne.{IsAnswer, only};
 ghost use Rattle.sx_earley.specs.Shown.{plain};
 ghost use Rattle.sx_earley.specs.Tokens.{plain_tokens};
 ghost use Rattle.sx_earley.specs.Unknown.{HaveStems};
-ghost use Rattle.sx_earley.specs.Completed.{IsSort, number_of};
+ghost use Rattle.sx_earley.specs.Completed.{IsSort, sort_number};
 ghost use Rattle.sx_forest.specs.Readings.{plain_reading};
-ghost use Rattle.sx_forest.specs.Text.{texts};
-ghost use Rattle.sx_forest.specs.Verdict.{IsRefusal};
+ghost use Rattle.sx_forest.specs.Text.{token_texts};
+ghost use Rattle.sx_forest.specs.Verdict.{IsReadRefusal};
 ghost use Rattle.sx_term.specs.Limits.{most_tokens};
 
 use crate::ranked::read_ranked;
@@ -37,10 +37,11 @@ pub fn read_one(
     requires start { IsSort grammar.now.parts start }
     requires stems { HaveStems metas.now.stems.items tokens.now }
     ensures only { IfOk result (λ r. IsAnswer (plain grammar.now)
-        (plain_tokens metas.now.stems.items tokens.now) (number_of start)
+        (plain_tokens metas.now.stems.items tokens.now) (sort_number start)
         (only (plain_reading r))) }
-    ensures refused { IfErr result (IsRefusal (labels grammar.now.parts) (texts tokens.now)
-        (plain grammar.now) (plain_tokens metas.now.stems.items tokens.now) (number_of start)) }
+    ensures refused { IfErr result (IsReadRefusal (labels grammar.now.parts)
+        (token_texts tokens.now)
+        (plain grammar.now) (plain_tokens metas.now.stems.items tokens.now) (sort_number start)) }
 {
     let by = ReadyGrammar::new(alloc, grammar)?;
     let stems = Stems::new(alloc, metas)?;
@@ -60,9 +61,9 @@ pub fn read_one_by(
     requires start { IsSort by.now.parts start }
     requires stems { HaveStems stems.now tokens.now }
     ensures only { IfOk result (λ r. IsAnswer (plain by.now)
-        (plain_tokens stems.now tokens.now) (number_of start) (only (plain_reading r))) }
-    ensures refused { IfErr result (IsRefusal (labels by.now.parts) (texts tokens.now)
-        (plain by.now) (plain_tokens stems.now tokens.now) (number_of start)) }
+        (plain_tokens stems.now tokens.now) (sort_number start) (only (plain_reading r))) }
+    ensures refused { IfErr result (IsReadRefusal (labels by.now.parts) (token_texts tokens.now)
+        (plain by.now) (plain_tokens stems.now tokens.now) (sort_number start)) }
 {
     let grammar = by.grammar();
     read_ranked(alloc, by, grammar.ranks(), start, stems, tokens)

@@ -10,8 +10,8 @@ ghost use Rattle.sx_earley.specs.Shown.{tokens_of};
 ghost use Rattle.sx_grammar.specs.Items.{ReadsToken, Span};
 ghost use Rattle.sx_forest.specs.Readings.{plain_reading, plain_readings};
 ghost use Rattle.sx_forest.specs.Forests.{grammar_in, tokens_in, lists_in, symbols_of, end_of};
-ghost use Rattle.sx_forest.specs.Forests.{followed, IsBy, IsForest, IsShallow, IsOpened, IsAt};
-ghost use Rattle.sx_forest.specs.Forests.{IsStep, IsReadTo, HasKids, IsMadeOf};
+ghost use Rattle.sx_forest.specs.Forests.{followed, IsBy, IsForest, IsShallowEntry, IsOpened, IsAt};
+ghost use Rattle.sx_forest.specs.Forests.{IsItemStep, IsReadTo, HasKids, IsReadingMade};
 
 use crate::entry::{Entry, Maker};
 use crate::forest::Forest;
@@ -47,7 +47,7 @@ pub(crate) fn wrap(
     to: u32,
 ) -> Result<Reading, NoMemory>
     requires { HasKids head (plain_readings kids.items) }
-    ensures { IfOk result (λ r. IsMadeOf head (plain_readings kids.items) from to
+    ensures { IfOk result (λ r. IsReadingMade head (plain_readings kids.items) from to
         (plain_reading r)) }
 {
     match head {
@@ -115,7 +115,7 @@ pub(crate) fn build(
     from: u32,
 ) -> Result<Reading, NoMemory>
     requires forest { IsForest forest }
-    requires entry { IsShallow (grammar_in forest) (tokens_in forest) forest.start from entry }
+    requires entry { IsShallowEntry (grammar_in forest) (tokens_in forest) forest.start from entry }
     ensures { IfOk result (λ r. IsBy (grammar_in forest.entry)
         (tokens_in forest.entry) entry.maker from entry.to (plain_reading r)) }
 {
@@ -183,7 +183,7 @@ pub(crate) fn go_over(
         (lists_in forest) here.opened.now }
     requires read { IsReadTo (grammar_in forest) (tokens_in forest) forest.start here.opened.now
         here.dot here.place (plain_readings kids.old.items) }
-    requires step { IsStep (grammar_in forest) (tokens_in forest) forest.start
+    requires step { IsItemStep (grammar_in forest) (tokens_in forest) forest.start
         (lists_in forest) here.opened.now here.dot here.place step }
     ensures read { OnOk result (IsReadTo (grammar_in forest.entry)
         (tokens_in forest.entry) forest.entry.start here.entry.opened.now (suc here.entry.dot)

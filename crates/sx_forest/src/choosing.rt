@@ -4,7 +4,7 @@ ghost use Rattle.std.specs.Prelude.{◌≡◌, ◌≤◌, ◌<◌, ◌+◌, ◌�
 ghost use Rattle.sx_earley.specs.Shown.{plain};
 ghost use Rattle.sx_forest.specs.Tallies.{tally_of, ways_of};
 ghost use Rattle.sx_forest.specs.Rows.{AreSorted};
-ghost use Rattle.sx_forest.specs.Forests.{IsMore, IsUsable, IsFirstUsable, IsForkOf};
+ghost use Rattle.sx_forest.specs.Forests.{IsMore, IsUsableEntry, IsFirstUsable, IsForkOf};
 
 use crate::choice::Choice;
 use crate::ends::index_at;
@@ -23,7 +23,7 @@ pub(crate) fn is_more(ways: Ways) -> bool
 
 /// Whether the entry reads the part, and the row the rest.
 fn is_usable(choice: Choice, entry: Entry) -> bool
-    ensures { IsTrue result ↔ IsUsable (plain choice.entry.grammar.now) choice.entry.sort
+    ensures { IsTrue result ↔ IsUsableEntry (plain choice.entry.grammar.now) choice.entry.sort
         choice.entry.least (ways_of choice.entry.rest.now) entry }
 {
     is_some(both(entry.ways, at(choice.rest, entry.to)))

@@ -1,7 +1,7 @@
 //! The table of entries.
 
 ghost use Rattle.std.specs.Prelude.{◌≡◌, ◌≤◌, ◌<◌, ◌++◌, ◌∷◌, [], ℕ, IfErr, IfOk, OnOk, length};
-ghost use Rattle.sx_forest.specs.Rows.{list_at};
+ghost use Rattle.sx_forest.specs.Rows.{entries_at};
 ghost use Rattle.sx_forest.specs.Reached.{AreReached};
 ghost use Rattle.sx_term.specs.Limits.{most_tokens};
 
@@ -25,7 +25,7 @@ pub(crate) struct Entries {
 /// No entries from any of so many places.
 fn no_entries(alloc: Global, count: usize) -> Result<Vec<Vec<Entry>>, NoMemory>
     ensures long { IfOk result (λ v. length v.items ≡ count) }
-    ensures none { IfOk result (λ v. (place : ℕ) → list_at v.items place ≡ []) }
+    ensures none { IfOk result (λ v. (place : ℕ) → entries_at v.items place ≡ []) }
 {
     let mut lists = Vec::new(alloc);
     for _ in 0..count {
@@ -38,12 +38,12 @@ fn no_entries(alloc: Global, count: usize) -> Result<Vec<Vec<Entry>>, NoMemory>
 fn add(lists: &mut Vec<Vec<Entry>>, place: u32, entry: Entry) -> Result<(), NoMemory>
     requires { place < length lists.old.items }
     ensures same { length lists.new.items ≡ length lists.old.items }
-    ensures there { OnOk result (list_at lists.new.items place
-        ≡ list_at lists.old.items place ++ entry ∷ []) }
-    ensures failed { IfErr result (λ _. list_at lists.new.items place
-        ≡ list_at lists.old.items place) }
+    ensures there { OnOk result (entries_at lists.new.items place
+        ≡ entries_at lists.old.items place ++ entry ∷ []) }
+    ensures failed { IfErr result (λ _. entries_at lists.new.items place
+        ≡ entries_at lists.old.items place) }
     ensures others { (p : ℕ) → (p ≡ place → ⊥) →
-        list_at lists.new.items p ≡ list_at lists.old.items p }
+        entries_at lists.new.items p ≡ entries_at lists.old.items p }
 {
     match lists[place as usize].push(entry) {
         Ok(_) => Ok(()),
@@ -55,7 +55,7 @@ impl Entries {
     /// The table without an entry, of so many places.
     pub(crate) fn blank(alloc: Global, count: usize) -> Result<Self, NoMemory>
         ensures long { IfOk result (λ t. length t.lists.items ≡ count) }
-        ensures none { IfOk result (λ t. (place : ℕ) → list_at t.lists.items place ≡ []) }
+        ensures none { IfOk result (λ t. (place : ℕ) → entries_at t.lists.items place ≡ []) }
     {
         let lists = no_entries(alloc, count)?;
         let ends = Reaches::blank(alloc, count)?;
@@ -69,7 +69,7 @@ impl Entries {
 
     /// The entries from a place.
     pub(crate) fn from(&self, place: u32) -> &[Entry]
-        ensures { result.now ≡ list_at self.now.lists.items place }
+        ensures { result.now ≡ entries_at self.now.lists.items place }
     {
         match self.lists.get(place as usize) {
             None => &[],
@@ -83,10 +83,10 @@ impl Entries {
         requires inside { entry.to < length self.old.lists.items }
         requires short { entry.to ≤ most_tokens }
         ensures same { length self.new.lists.items ≡ length self.old.lists.items }
-        ensures there { OnOk result (list_at self.new.lists.items place
-            ≡ list_at self.old.lists.items place ++ entry ∷ []) }
+        ensures there { OnOk result (entries_at self.new.lists.items place
+            ≡ entries_at self.old.lists.items place ++ entry ∷ []) }
         ensures others { (p : ℕ) → (p ≡ place → ⊥) →
-            list_at self.new.lists.items p ≡ list_at self.old.lists.items p }
+            entries_at self.new.lists.items p ≡ entries_at self.old.lists.items p }
     {
         self.ends.put(place, entry.maker, entry.to)?;
         self.starts.put(entry.to, entry.maker, place)?;

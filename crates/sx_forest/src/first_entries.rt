@@ -5,7 +5,7 @@ ghost use Rattle.sx_grammar.specs.Grammar.{is_variable, of_sort};
 ghost use Rattle.sx_grammar.specs.Reading.{Marked};
 ghost use Rattle.sx_grammar.specs.Tables.{GrammarData};
 ghost use Rattle.sx_earley.specs.Shown.{tokens_of};
-ghost use Rattle.sx_forest.specs.Rows.{list_at};
+ghost use Rattle.sx_forest.specs.Rows.{entries_at};
 ghost use Rattle.sx_forest.specs.Table.{IsFirstList, IsFirstTable};
 ghost use Rattle.sx_term.specs.Limits.{most_tokens};
 
@@ -35,12 +35,12 @@ fn add_variable(table: &mut Entries, shown: &[Shown], place: usize) -> Result<()
     requires inside { place < length shown.now }
     requires short { length shown.now ≤ most_tokens }
     requires long { length table.old.lists.items ≡ length shown.now + 1 }
-    requires none { list_at table.old.lists.items place ≡ [] }
+    requires none { entries_at table.old.lists.items place ≡ [] }
     ensures same { length table.new.lists.items ≡ length table.old.lists.items }
     ensures there { OnOk result ((d : GrammarData) →
-        IsFirstList (tokens_of d shown.now) place (list_at table.new.lists.items place)) }
+        IsFirstList (tokens_of d shown.now) place (entries_at table.new.lists.items place)) }
     ensures others { (p : ℕ) → (p ≡ place → ⊥) →
-        list_at table.new.lists.items p ≡ list_at table.old.lists.items p }
+        entries_at table.new.lists.items p ≡ entries_at table.old.lists.items p }
 {
     match variable_at(shown, place) {
         Some(sort) => table.put(

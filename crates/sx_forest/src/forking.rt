@@ -5,8 +5,8 @@ ghost use Rattle.sx_grammar.specs.Reading.{ReadsAll};
 ghost use Rattle.sx_forest.specs.Readings.{plain_reading, plain_readings};
 ghost use Rattle.sx_forest.specs.Tallies.{tally_of};
 ghost use Rattle.sx_forest.specs.Forests.{grammar_in, tokens_in, lists_in, symbols_of, end_of};
-ghost use Rattle.sx_forest.specs.Forests.{one_of, other_of, IsBy, IsMore, IsForest, IsShallow};
-ghost use Rattle.sx_forest.specs.Forests.{IsOpened, IsAt, IsReadTo, IsStep, IsForkAt, IsMoreAt};
+ghost use Rattle.sx_forest.specs.Forests.{one_of, other_of, IsBy, IsMore, IsForest, IsShallowEntry};
+ghost use Rattle.sx_forest.specs.Forests.{IsOpened, IsAt, IsReadTo, IsItemStep, IsForkAt, IsMoreAt};
 ghost use Rattle.sx_forest.specs.Forests.{IsParting, AreKidsApart};
 
 use crate::building::{build, extend, go_over, wrap};
@@ -32,7 +32,7 @@ fn fork_at(forest: Forest, opened: &Opened, dot: usize, place: u32, step: Step) 
     requires opened { IsOpened (grammar_in forest) (tokens_in forest) forest.start
         (lists_in forest) opened.now }
     requires at { IsAt (grammar_in forest) (tokens_in forest) forest.start opened.now dot place }
-    requires step { IsStep (grammar_in forest) (tokens_in forest) forest.start
+    requires step { IsItemStep (grammar_in forest) (tokens_in forest) forest.start
         (lists_in forest) opened.now dot place step }
     ensures fork { IfSome result (IsForkAt (grammar_in forest.entry)
         (lists_in forest.entry) opened.now dot place) }
@@ -70,7 +70,7 @@ pub(crate) fn build_two(
     from: u32,
 ) -> Result<(Reading, Reading), NoMemory>
     requires forest { IsForest forest }
-    requires entry { IsShallow (grammar_in forest) (tokens_in forest) forest.start from entry }
+    requires entry { IsShallowEntry (grammar_in forest) (tokens_in forest) forest.start from entry }
     requires more { IsMore (tally_of entry.ways) }
     ensures one { IfOk result (λ r. IsBy (grammar_in forest.entry)
         (tokens_in forest.entry) entry.maker from entry.to (plain_reading r.0)) }

@@ -3,11 +3,11 @@
 ghost use Rattle.std.specs.Prelude.{◌≤◌, ◌<◌, OnOk, IfOk, length};
 ghost use Rattle.sx_grammar.specs.Order.{IsRanking, rank_at};
 ghost use Rattle.sx_grammar.specs.Tally.{EachOnce};
-ghost use Rattle.sx_earley.specs.Shown.{plain, texts, tokens_of, AreBelow};
+ghost use Rattle.sx_earley.specs.Shown.{plain, literal_texts, tokens_of, ShownBelow};
 ghost use Rattle.sx_earley.specs.Completed.{IsChart};
 ghost use Rattle.sx_forest.specs.Rows.{AllSorted};
 ghost use Rattle.sx_forest.specs.KeptRows.{AllKept};
-ghost use Rattle.sx_forest.specs.Table.{IsAdded, IsFull};
+ghost use Rattle.sx_forest.specs.Table.{IsEntryAdded, IsFull};
 ghost use Rattle.sx_term.specs.Limits.{most_tokens};
 
 use crate::basis::Basis;
@@ -36,11 +36,11 @@ fn add_span(
     requires short { span.to ≤ most_tokens }
     requires along { span.from ≤ span.to }
     requires inside { span.to < length table.old.lists.items }
-    requires shown { AreBelow (length (texts grammar.now)) shown.now }
+    requires shown { ShownBelow (length (literal_texts grammar.now)) shown.now }
     requires sorted { AllSorted table.old.lists.items }
     requires kept { AllKept (plain grammar.now) (tokens_of grammar.now shown.now)
         table.old.lists.items kept.old.items }
-    ensures added { OnOk result (IsAdded (plain grammar.now)
+    ensures added { OnOk result (IsEntryAdded (plain grammar.now)
         (tokens_of grammar.now shown.now) table.old.lists.items table.new.lists.items span) }
     ensures kept { OnOk result (AllKept (plain grammar.now) (tokens_of grammar.now shown.now)
         table.new.lists.items kept.new.items) }
@@ -74,7 +74,7 @@ pub(crate) fn fill(
     spans: &[Span],
 ) -> Result<Entries, NoMemory>
     requires short { length shown.now ≤ most_tokens }
-    requires below { AreBelow (length (texts grammar.now)) shown.now }
+    requires below { ShownBelow (length (literal_texts grammar.now)) shown.now }
     requires ranking { IsRanking (plain grammar.now) (rank_at ranks.now) }
     requires chart { IsChart (plain grammar.now)
         (tokens_of grammar.now shown.now) _start spans.now }

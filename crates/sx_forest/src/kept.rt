@@ -1,9 +1,9 @@
 //! Rows that are kept from one span for the next.
 
 ghost use Rattle.std.specs.Prelude.{◌≡◌, ◌≤◌, IfOk, length};
-ghost use Rattle.sx_earley.specs.Shown.{plain, texts, tokens_of, AreBelow};
+ghost use Rattle.sx_earley.specs.Shown.{plain, literal_texts, tokens_of, ShownBelow};
 ghost use Rattle.sx_forest.specs.Rows.{AllSorted};
-ghost use Rattle.sx_forest.specs.KeptRows.{IsReady};
+ghost use Rattle.sx_forest.specs.KeptRows.{AreRowsReady};
 ghost use Rattle.sx_term.specs.Limits.{most_tokens};
 
 use crate::basis::Basis;
@@ -35,9 +35,9 @@ pub(crate) fn rows_of(
 ) -> Result<Kept, NoMemory>
     requires short { to ≤ most_tokens }
     requires along { from ≤ to }
-    requires shown { AreBelow (length (texts basis.grammar.now)) basis.shown.now }
+    requires shown { ShownBelow (length (literal_texts basis.grammar.now)) basis.shown.now }
     requires sorted { AllSorted basis.table.now.lists.items }
-    ensures ready { IfOk result (IsReady (plain basis.entry.grammar.now)
+    ensures ready { IfOk result (AreRowsReady (plain basis.entry.grammar.now)
         (tokens_of basis.entry.grammar.now basis.entry.shown.now)
         basis.entry.table.now.lists.items from) }
     ensures same { IfOk result (λ k. (k.head ≡ head) × (k.to ≡ to)) }

@@ -2,7 +2,7 @@
 
 ghost use Rattle.std.specs.Prelude.{◌≡◌, ◌+◌, ◌<◌, ℕ, [], Some, IfOk, IfSome, IsTrue, OnOk, length};
 ghost use Rattle.std.specs.Prelude.{slice_get};
-ghost use Rattle.sx_earley.specs.Shown.{plain, texts, tokens_of, AreBelow};
+ghost use Rattle.sx_earley.specs.Shown.{plain, literal_texts, tokens_of, ShownBelow};
 ghost use Rattle.sx_forest.specs.Useful.{IsMet, AreMetBy, levels_at};
 ghost use Rattle.sx_term.specs.Limits.{most_tokens};
 
@@ -37,7 +37,7 @@ fn met_levels(
     place: u32,
     rounds: usize,
 ) -> Result<Vec<u8>, NoMemory>
-    requires shown { AreBelow (length (texts grammar.now)) shown.now }
+    requires shown { ShownBelow (length (literal_texts grammar.now)) shown.now }
     ensures { IfOk result (λ v. IsMet (plain grammar.now) (tokens_of grammar.now shown.now) place
         v.items) }
 {
@@ -127,7 +127,7 @@ impl Levels {
     ) -> Result<(), NoMemory>
         requires next { length self.old.numbers.items ≡ place }
         requires short { place < most_tokens }
-        requires shown { AreBelow (length (texts grammar.now)) shown.now }
+        requires shown { ShownBelow (length (literal_texts grammar.now)) shown.now }
         requires met { AreMetBy (plain grammar.now) (tokens_of grammar.now shown.now)
             self.old.rows.items self.old.numbers.items }
         ensures next { OnOk result (length self.new.numbers.items ≡ place + 1) }

@@ -5,9 +5,9 @@ ghost use Rattle.std.specs.Prelude.{option_map};
 ghost use Rattle.sx_grammar.specs.Grammar.{Token};
 ghost use Rattle.sx_grammar.specs.Numbered.{symbol};
 ghost use Rattle.sx_grammar.specs.Tally.{no_way};
-ghost use Rattle.sx_earley.specs.Shown.{plain, texts};
+ghost use Rattle.sx_earley.specs.Shown.{plain, literal_texts};
 ghost use Rattle.sx_forest.specs.Tallies.{ways_of};
-ghost use Rattle.sx_forest.specs.Rows.{FitsPart, IsIn, IsNext, list_at};
+ghost use Rattle.sx_forest.specs.Rows.{FitsPart, IsIn, IsNextRow, entries_at};
 ghost use Rattle.sx_term.specs.Limits.{most_tokens};
 
 use crate::entries::Entries;
@@ -46,7 +46,7 @@ fn before_token(next: &Row, to: u32) -> Stretch
 /// The places from which fitting makers reach where the row has ways.
 fn before_part(grammar: &Grammar, table: &Entries, sort: u32, least: u8, next: &Row) -> Stretch
     ensures { (place i : ℕ) (e : Entry) →
-        slice_get (list_at table.now.lists.items place) i ≡ Some e →
+        slice_get (entries_at table.now.lists.items place) i ≡ Some e →
         FitsPart (plain grammar.now) e.maker sort least → (IsIn result place → ⊥) →
         ways_of next.now e.to ≡ no_way }
 {
@@ -72,8 +72,8 @@ fn sources(
 ) -> Stretch
     requires short { to ≤ most_tokens }
     ensures { (tokens : List Token) (place : ℕ) → place ≤ to → (IsIn result place → ⊥) →
-        IsNext (plain grammar.now) tokens (list_at table.now.lists.items place)
-        (option_map (symbol (texts grammar.now)) expected) place (ways_of next.now) no_way }
+        IsNextRow (plain grammar.now) tokens (entries_at table.now.lists.items place)
+        (option_map (symbol (literal_texts grammar.now)) expected) place (ways_of next.now) no_way }
 {
     match expected {
         None => NOWHERE,
@@ -99,8 +99,8 @@ pub(crate) fn narrowed(
     ensures kept { (place : ℕ) → IsIn result place → IsIn stretch place }
     ensures none { (tokens : List Token) (place : ℕ) → place ≤ to → IsIn stretch place →
         (IsIn result place → ⊥) →
-        IsNext (plain grammar.now) tokens (list_at table.now.lists.items place)
-        (option_map (symbol (texts grammar.now)) expected) place (ways_of rest.now) no_way }
+        IsNextRow (plain grammar.now) tokens (entries_at table.now.lists.items place)
+        (option_map (symbol (literal_texts grammar.now)) expected) place (ways_of rest.now) no_way }
 {
     if stretch.end as usize <= stretch.first as usize + rest.ways.len() {
         return stretch;

@@ -2,7 +2,8 @@
 
 ghost use Rattle.std.specs.Prelude.{◌≡◌, IfOk};
 ghost use Rattle.sx_forest.specs.declared.entry.Maker.{Maker};
-ghost use Rattle.sx_forest.specs.Forests.{grammar_in, tokens_in, lists_in, IsForest, IsShallow};
+ghost use Rattle.sx_forest.specs.Forests.{grammar_in, tokens_in, lists_in, IsForest};
+ghost use Rattle.sx_forest.specs.Forests.{IsShallowEntry};
 ghost use Rattle.sx_forest.specs.Forests.{IsOpened};
 
 use crate::basis::Basis;
@@ -34,7 +35,7 @@ pub(crate) fn open(
     from: u32,
 ) -> Result<Opened, NoMemory>
     requires forest { IsForest forest }
-    requires entry { IsShallow (grammar_in forest) (tokens_in forest) forest.start from entry }
+    requires entry { IsShallowEntry (grammar_in forest) (tokens_in forest) forest.start from entry }
     requires by { entry.maker ≡ Maker.By head }
     ensures opened { IfOk result (IsOpened (grammar_in forest.entry)
         (tokens_in forest.entry) forest.entry.start (lists_in forest.entry)) }

@@ -2,14 +2,14 @@
 
 ghost use Rattle.std.specs.Prelude.{◌≡◌};
 ghost use Rattle.sx_forest.specs.Readings.{plain_reading};
-ghost use Rattle.sx_forest.specs.Places.{bare, start_of, place_at};
+ghost use Rattle.sx_forest.specs.Places.{unbracketed, start_of, place_at};
 
 use crate::reading::Reading;
 use sx_term::Path;
 
 /// The reading without the brackets that stand round it.
 fn unbracketed(reading: &Reading) -> &Reading
-    ensures { plain_reading result.now ≡ bare (plain_reading reading.now) }
+    ensures { plain_reading result.now ≡ unbracketed (plain_reading reading.now) }
 {
     let mut here = reading;
     while let Reading::Bracket {

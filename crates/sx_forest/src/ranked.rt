@@ -7,10 +7,10 @@ ghost use Rattle.sx_grammar.specs.ReadOne.{IsAnswer, only};
 ghost use Rattle.sx_earley.specs.Shown.{plain};
 ghost use Rattle.sx_earley.specs.Tokens.{plain_tokens};
 ghost use Rattle.sx_earley.specs.Unknown.{HaveStems};
-ghost use Rattle.sx_earley.specs.Completed.{IsSort, number_of};
+ghost use Rattle.sx_earley.specs.Completed.{IsSort, sort_number};
 ghost use Rattle.sx_forest.specs.Readings.{plain_reading};
-ghost use Rattle.sx_forest.specs.Text.{texts};
-ghost use Rattle.sx_forest.specs.Verdict.{IsRefusal};
+ghost use Rattle.sx_forest.specs.Text.{token_texts};
+ghost use Rattle.sx_forest.specs.Verdict.{IsReadRefusal};
 ghost use Rattle.sx_term.specs.Limits.{most_tokens};
 
 use crate::found::Found;
@@ -37,9 +37,9 @@ pub(crate) fn read_ranked(
     requires stems { HaveStems stems.now tokens.now }
     requires ranking { IsRanking (plain by.now) (rank_at ranks.now) }
     ensures only { IfOk result (λ r. IsAnswer (plain by.now)
-        (plain_tokens stems.now tokens.now) (number_of start) (only (plain_reading r))) }
-    ensures refused { IfErr result (IsRefusal (labels by.now.parts) (texts tokens.now)
-        (plain by.now) (plain_tokens stems.now tokens.now) (number_of start)) }
+        (plain_tokens stems.now tokens.now) (sort_number start) (only (plain_reading r))) }
+    ensures refused { IfErr result (IsReadRefusal (labels by.now.parts) (token_texts tokens.now)
+        (plain by.now) (plain_tokens stems.now tokens.now) (sort_number start)) }
 {
     let grammar = by.grammar();
     grammar.facts();

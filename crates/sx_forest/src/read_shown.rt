@@ -6,9 +6,9 @@ ghost use Rattle.sx_grammar.specs.Tally.{EachOnce};
 ghost use Rattle.sx_grammar.specs.Reading as plain;
 ghost use Rattle.sx_grammar.specs.Reading.{ReadsWhole};
 ghost use Rattle.sx_grammar.specs.ReadOne.{MoreHold};
-ghost use Rattle.sx_earley.specs.Shown.{plain, texts, tokens_of, AreBelow};
+ghost use Rattle.sx_earley.specs.Shown.{plain, literal_texts, tokens_of, ShownBelow};
 ghost use Rattle.sx_earley.specs.Completed.{IsChart};
-ghost use Rattle.sx_forest.specs.Verdict.{IsFound, IsRefusal};
+ghost use Rattle.sx_forest.specs.Verdict.{IsFound, IsReadRefusal};
 ghost use Rattle.sx_grammar.specs.ReadOne.{most_items};
 ghost use Rattle.sx_term.specs.Limits.{most_tokens};
 
@@ -36,7 +36,7 @@ fn read_spans(
     spans: &[Span],
 ) -> Result<Found, ReadError>
     requires short { length shown.now ≤ most_tokens }
-    requires below { AreBelow (length (texts grammar.now)) shown.now }
+    requires below { ShownBelow (length (literal_texts grammar.now)) shown.now }
     requires ranking { IsRanking (plain grammar.now) (rank_at ranks.now) }
     requires chart { IsChart (plain grammar.now) (tokens_of grammar.now shown.now) start spans.now }
     requires once { EachOnce spans.now }
@@ -47,7 +47,7 @@ fn read_spans(
     ensures found { IfOk result (IsFound (plain grammar.now)
         (tokens_of grammar.now shown.now) start) }
     ensures refused { IfErr result (λ e. (labels texts : List (List ℕ)) →
-        IsRefusal labels texts (plain grammar.now) (tokens_of grammar.now shown.now) start e) }
+        IsReadRefusal labels texts (plain grammar.now) (tokens_of grammar.now shown.now) start e) }
 {
     grammar.facts();
     let table = fill(alloc, grammar, ranks, start, shown, spans)?;
@@ -80,11 +80,11 @@ pub(crate) fn read_shown(
     shown: &[Shown],
 ) -> Result<Found, ReadError>
     requires short { length shown.now ≤ most_tokens }
-    requires below { AreBelow (length (texts by.now)) shown.now }
+    requires below { ShownBelow (length (literal_texts by.now)) shown.now }
     requires ranking { IsRanking (plain by.now) (rank_at ranks.now) }
     ensures found { IfOk result (IsFound (plain by.now) (tokens_of by.now shown.now) start) }
     ensures refused { IfErr result (λ e. (labels texts : List (List ℕ)) →
-        IsRefusal labels texts (plain by.now) (tokens_of by.now shown.now) start e) }
+        IsReadRefusal labels texts (plain by.now) (tokens_of by.now shown.now) start e) }
 {
     let chart = chart_of(alloc, by, start, shown)?;
     let grammar = by.grammar();

@@ -5,9 +5,11 @@ ghost use Rattle.std.specs.Prelude.{option_map};
 ghost use Rattle.sx_grammar.specs.Numbered.{symbol};
 ghost use Rattle.sx_grammar.specs.Grammar.{production_of};
 ghost use Rattle.sx_grammar.specs.Tally.{no_way};
-ghost use Rattle.sx_earley.specs.Shown.{plain, texts, tokens_of, IsBelow, AreBelow};
+ghost use Rattle.sx_earley.specs.Shown.{plain, literal_texts, tokens_of, IsLiteralBelow};
+ghost use Rattle.sx_earley.specs.Shown.{ShownBelow};
 ghost use Rattle.sx_forest.specs.Tallies.{tally_of, ways_of};
-ghost use Rattle.sx_forest.specs.Rows.{AllSorted, IsRow, IsExtended, count_of, row_at, AreRows};
+ghost use Rattle.sx_forest.specs.Rows.{AllSorted, IsStretchRow, IsRowExtended, symbol_count};
+ghost use Rattle.sx_forest.specs.Rows.{tally_at, AreRows};
 ghost use Rattle.sx_forest.specs.Rows.{AreSpanRows};
 ghost use Rattle.sx_term.specs.Limits.{most_tokens};
 
@@ -41,14 +43,15 @@ pub(crate) fn extend(
     places: Stretch,
 ) -> Result<(), NoMemory>
     requires short { places.end ≤ 10001 }
-    requires below { IfSome expected (IsBelow (length (texts basis.grammar.now))) }
-    requires shown { AreBelow (length (texts basis.grammar.now)) basis.shown.now }
+    requires below { IfSome expected (IsLiteralBelow (length (literal_texts basis.grammar.now))) }
+    requires shown { ShownBelow (length (literal_texts basis.grammar.now)) basis.shown.now }
     requires sorted { AllSorted basis.table.now.lists.items }
     requires joins { row.old.end ≡ places.end + length row.old.ways }
-    ensures { OnOk result (IsExtended (plain basis.entry.grammar.now)
+    ensures { OnOk result (IsRowExtended (plain basis.entry.grammar.now)
         (tokens_of basis.entry.grammar.now basis.entry.shown.now)
         basis.entry.table.now.lists.items
-        (option_map (symbol (texts basis.entry.grammar.now)) expected) (ways_of next.now) places
+        (option_map (symbol (literal_texts basis.entry.grammar.now)) expected)
+        (ways_of next.now) places
         row.old row.new) }
 {
     let mut place = places.end;
@@ -76,13 +79,13 @@ pub(crate) fn row_before(
     stretch: Stretch,
 ) -> Result<Row, NoMemory>
     requires short { to ≤ most_tokens }
-    requires below { IfSome expected (IsBelow (length (texts basis.grammar.now))) }
-    requires shown { AreBelow (length (texts basis.grammar.now)) basis.shown.now }
+    requires below { IfSome expected (IsLiteralBelow (length (literal_texts basis.grammar.now))) }
+    requires shown { ShownBelow (length (literal_texts basis.grammar.now)) basis.shown.now }
     requires sorted { AllSorted basis.table.now.lists.items }
-    ensures { IfOk result (λ r. IsRow (plain basis.entry.grammar.now)
+    ensures { IfOk result (λ r. IsStretchRow (plain basis.entry.grammar.now)
         (tokens_of basis.entry.grammar.now basis.entry.shown.now)
         basis.entry.table.now.lists.items
-        (option_map (symbol (texts basis.entry.grammar.now)) expected) to stretch
+        (option_map (symbol (literal_texts basis.entry.grammar.now)) expected) to stretch
         (ways_of next.entry.now) (ways_of r)) }
 {
     let some = narrowed(basis.grammar, basis.table, expected, next, to, stretch);
@@ -97,7 +100,7 @@ pub(crate) fn row_before(
 
 /// How many symbols the head's production has.
 pub(crate) fn symbol_count(grammar: &Grammar, head: Head) -> usize
-    ensures { result ≡ count_of (production_of (plain grammar.now) head) }
+    ensures { result ≡ symbol_count (production_of (plain grammar.now) head) }
 {
     match head {
         Head::Labelled(label) => match production_at(grammar, label) {
@@ -114,7 +117,7 @@ pub(crate) fn symbol_count(grammar: &Grammar, head: Head) -> usize
 /// The row at a place.
 pub(crate) fn row_of(rows: &[Row], place: usize) -> &Row
     requires { place < length rows.now }
-    ensures { ways_of result.now ≡ row_at rows.now place }
+    ensures { ways_of result.now ≡ tally_at rows.now place }
 {
     &rows[place]
 }
@@ -130,13 +133,13 @@ pub(crate) fn last_rows(
     to: u32,
 ) -> Result<Vec<Row>, NoMemory>
     requires short { to ≤ most_tokens }
-    requires shown { AreBelow (length (texts basis.grammar.now)) basis.shown.now }
+    requires shown { ShownBelow (length (literal_texts basis.grammar.now)) basis.shown.now }
     requires sorted { AllSorted basis.table.now.lists.items }
-    requires few { number ≤ count_of (production_of (plain basis.grammar.now) head) }
+    requires few { number ≤ symbol_count (production_of (plain basis.grammar.now) head) }
     ensures { IfOk result (λ v. AreRows (plain basis.entry.grammar.now)
         (tokens_of basis.entry.grammar.now basis.entry.shown.now)
         basis.entry.table.now.lists.items head
-        (count_of (production_of (plain basis.entry.grammar.now) head)) number to stretches.now
+        (symbol_count (production_of (plain basis.entry.grammar.now) head)) number to stretches.now
         v.items) }
 {
     let count = symbol_count(basis.grammar, head);
@@ -163,7 +166,7 @@ pub(crate) fn all_rows(
 ) -> Result<Vec<Row>, NoMemory>
     requires short { to ≤ most_tokens }
     requires along { from ≤ to }
-    requires shown { AreBelow (length (texts basis.grammar.now)) basis.shown.now }
+    requires shown { ShownBelow (length (literal_texts basis.grammar.now)) basis.shown.now }
     requires sorted { AllSorted basis.table.now.lists.items }
     ensures { IfOk result (λ v. AreSpanRows (plain basis.entry.grammar.now)
         (tokens_of basis.entry.grammar.now basis.entry.shown.now)

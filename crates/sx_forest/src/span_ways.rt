@@ -3,12 +3,12 @@
 ghost use Rattle.std.specs.Prelude.{◌≡◌, ◌≤◌, ◌<◌, ℕ, IsTrue, IsFalse, Some, IfOk, IfSome};
 ghost use Rattle.std.specs.Prelude.{length, slice_get};
 ghost use Rattle.sx_grammar.specs.Grammar.{production_of};
-ghost use Rattle.sx_earley.specs.Shown.{plain, texts, tokens_of, AreBelow};
+ghost use Rattle.sx_earley.specs.Shown.{plain, literal_texts, tokens_of, ShownBelow};
 ghost use Rattle.sx_forest.specs.declared.kept.Kept.{Kept};
 ghost use Rattle.sx_forest.specs.Tallies.{tally_of, ways_of};
 ghost use Rattle.sx_forest.specs.Rows.{AllSorted, IsIn, IsSpanWays, IsFirstWays, stretch_at};
-ghost use Rattle.sx_forest.specs.Rows.{count_of};
-ghost use Rattle.sx_forest.specs.KeptRows.{IsKept, AllKept, IsReady, IsClear};
+ghost use Rattle.sx_forest.specs.Rows.{symbol_count};
+ghost use Rattle.sx_forest.specs.KeptRows.{AreStretchesKept, AllKept, AreRowsReady, IsClear};
 ghost use Rattle.sx_term.specs.Limits.{most_tokens};
 
 use crate::basis::Basis;
@@ -87,7 +87,7 @@ pub(crate) fn leave(kept: &mut Vec<Kept>, place: u32)
 /// The ways by the first symbol of the head, if it has one, and then those of the row.
 fn first_ways(basis: Basis, head: Head, next: &Row, from: u32) -> Ways
     requires short { from ≤ most_tokens }
-    requires shown { AreBelow (length (texts basis.grammar.now)) basis.shown.now }
+    requires shown { ShownBelow (length (literal_texts basis.grammar.now)) basis.shown.now }
     requires sorted { AllSorted basis.table.now.lists.items }
     ensures { IsFirstWays (plain basis.entry.grammar.now)
         (tokens_of basis.entry.grammar.now basis.entry.shown.now)
@@ -108,8 +108,8 @@ fn first_ways(basis: Basis, head: Head, next: &Row, from: u32) -> Ways
 fn leaf_ways(alloc: Global, basis: Basis, head: Head, from: u32, to: u32) -> Ways
     requires short { to ≤ most_tokens }
     requires along { from ≤ to }
-    requires leaf { count_of (production_of (plain basis.grammar.now) head) ≤ 1 }
-    requires shown { AreBelow (length (texts basis.grammar.now)) basis.shown.now }
+    requires leaf { symbol_count (production_of (plain basis.grammar.now) head) ≤ 1 }
+    requires shown { ShownBelow (length (literal_texts basis.grammar.now)) basis.shown.now }
     requires sorted { AllSorted basis.table.now.lists.items }
     ensures { IsSpanWays (plain basis.entry.grammar.now)
         (tokens_of basis.entry.grammar.now basis.entry.shown.now)
@@ -123,9 +123,9 @@ fn leaf_ways(alloc: Global, basis: Basis, head: Head, from: u32, to: u32) -> Way
 fn kept_ways(basis: Basis, kept: &Kept, from: u32) -> Ways
     requires short { kept.now.to ≤ most_tokens }
     requires along { from ≤ kept.now.to }
-    requires shown { AreBelow (length (texts basis.grammar.now)) basis.shown.now }
+    requires shown { ShownBelow (length (literal_texts basis.grammar.now)) basis.shown.now }
     requires sorted { AllSorted basis.table.now.lists.items }
-    requires ready { IsReady (plain basis.grammar.now)
+    requires ready { AreRowsReady (plain basis.grammar.now)
         (tokens_of basis.grammar.now basis.shown.now) basis.table.now.lists.items from
         kept.now }
     ensures { IsSpanWays (plain basis.entry.grammar.now)
@@ -140,11 +140,11 @@ fn kept_ways(basis: Basis, kept: &Kept, from: u32) -> Ways
 fn wider_ways(alloc: Global, basis: Basis, kept: &mut Kept, from: u32) -> Result<Ways, NoMemory>
     requires short { kept.old.to ≤ most_tokens }
     requires along { from ≤ kept.old.to }
-    requires shown { AreBelow (length (texts basis.grammar.now)) basis.shown.now }
+    requires shown { ShownBelow (length (literal_texts basis.grammar.now)) basis.shown.now }
     requires sorted { AllSorted basis.table.now.lists.items }
-    requires kept { IsKept (plain basis.grammar.now)
+    requires kept { AreStretchesKept (plain basis.grammar.now)
         (tokens_of basis.grammar.now basis.shown.now) basis.table.now.lists.items kept.old }
-    ensures kept { IfOk result (λ _. IsKept (plain basis.entry.grammar.now)
+    ensures kept { IfOk result (λ _. AreStretchesKept (plain basis.entry.grammar.now)
         (tokens_of basis.entry.grammar.now basis.entry.shown.now)
         basis.entry.table.now.lists.items kept.new) }
     ensures ways { IfOk result (λ w. IsSpanWays (plain basis.entry.grammar.now)
@@ -168,7 +168,7 @@ pub(crate) fn span_ways(
 ) -> Result<Ways, NoMemory>
     requires short { to ≤ most_tokens }
     requires along { from ≤ to }
-    requires shown { AreBelow (length (texts basis.grammar.now)) basis.shown.now }
+    requires shown { ShownBelow (length (literal_texts basis.grammar.now)) basis.shown.now }
     requires sorted { AllSorted basis.table.now.lists.items }
     requires kept { AllKept (plain basis.grammar.now)
         (tokens_of basis.grammar.now basis.shown.now) basis.table.now.lists.items

@@ -3,8 +3,8 @@
 ghost use Rattle.std.specs.Prelude.{◌≡◌, ◌≤◌, ℕ, List, Some, IfOk, slice_get, option_map};
 ghost use Rattle.sx_grammar.specs.Grammar.{Token};
 ghost use Rattle.sx_grammar.specs.Numbered.{symbol};
-ghost use Rattle.sx_earley.specs.Shown.{plain, texts};
-ghost use Rattle.sx_forest.specs.Rows.{FitsPart, IsIn, Spreads, AreStretches, list_at};
+ghost use Rattle.sx_earley.specs.Shown.{plain, literal_texts};
+ghost use Rattle.sx_forest.specs.Rows.{FitsPart, IsIn, Spreads, AreStretches, entries_at};
 ghost use Rattle.sx_forest.specs.Rows.{stretch_at};
 ghost use Rattle.sx_forest.specs.Reached.{HasReach};
 ghost use Rattle.sx_term.specs.Limits.{most_tokens};
@@ -44,7 +44,7 @@ pub(crate) fn over_reaches(
 /// A stretch with the ends of the parts from the places of a stretch.
 fn over_part(grammar: &Grammar, table: &Entries, sort: u32, least: u8, stretch: Stretch) -> Stretch
     ensures { (place i : ℕ) (e : Entry) → IsIn stretch place →
-        slice_get (list_at table.now.lists.items place) i ≡ Some e →
+        slice_get (entries_at table.now.lists.items place) i ≡ Some e →
         FitsPart (plain grammar.now) e.maker sort least → IsIn result e.to }
 {
     let mut grown = NOWHERE;
@@ -65,7 +65,7 @@ pub(crate) fn spread(
 ) -> Stretch
     requires short { to ≤ most_tokens }
     ensures { (tokens : List Token) → Spreads (plain grammar.now) tokens table.now.lists.items
-        (option_map (symbol (texts grammar.now)) expected) to stretch result }
+        (option_map (symbol (literal_texts grammar.now)) expected) to stretch result }
 {
     match expected {
         None => NOWHERE,

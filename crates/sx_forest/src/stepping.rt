@@ -2,7 +2,7 @@
 
 ghost use Rattle.std.specs.Prelude.{◌≤◌, ◌<◌, length};
 ghost use Rattle.sx_forest.specs.Forests.{grammar_in, tokens_in, lists_in, symbols_of, IsForest};
-ghost use Rattle.sx_forest.specs.Forests.{IsOpened, IsAt, IsStep};
+ghost use Rattle.sx_forest.specs.Forests.{IsOpened, IsAt, IsItemStep};
 
 use crate::choice::Choice;
 use crate::choosing::first_usable;
@@ -21,7 +21,7 @@ pub(crate) fn step_at(forest: Forest, opened: &Opened, dot: usize, place: u32) -
         (lists_in forest) opened.now }
     requires at { IsAt (grammar_in forest) (tokens_in forest) forest.start opened.now dot place }
     requires within { dot < length (symbols_of (grammar_in forest) opened.now.head) }
-    ensures { IsStep (grammar_in forest.entry) (tokens_in forest.entry) forest.entry.start
+    ensures { IsItemStep (grammar_in forest.entry) (tokens_in forest.entry) forest.entry.start
         (lists_in forest.entry) opened.now dot place result }
 {
     let count = symbol_count(forest.grammar, opened.head);

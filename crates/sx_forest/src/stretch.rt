@@ -2,7 +2,7 @@
 
 ghost use Rattle.std.specs.Prelude.{ℕ, suc, ◌+◌, ◌<◌, ◌≤◌, ◌^◌, ◌↔◌, IfSome};
 ghost use Rattle.sx_forest.specs.Rows.{IsIn};
-ghost use Rattle.sx_forest.specs.KeptRows.{IsJoined};
+ghost use Rattle.sx_forest.specs.KeptRows.{IsStretchJoined};
 ghost use Rattle.sx_term.specs.Limits.{most_tokens};
 
 /// The places from the first on and before the end; none where the end is not after the first.
@@ -69,7 +69,7 @@ pub(crate) fn joined(one: Stretch, other: Stretch) -> Stretch
 /// The stretch with the places of another too, where those that it has more are in front of it and
 /// join it, or there are none.
 pub(crate) fn joined_in_front(stretch: Stretch, other: Stretch) -> Option<Stretch>
-    ensures { IfSome result (IsJoined stretch other) }
+    ensures { IfSome result (IsStretchJoined stretch other) }
 {
     if other.end <= other.first {
         return Some(stretch);

@@ -3,9 +3,10 @@
 ghost use Rattle.std.specs.Prelude.{◌≡◌, ◌≤◌, ◌<◌, ◌^◌, ℕ, Some, IfSome, length, slice_get};
 ghost use Rattle.std.specs.Prelude.{option_map};
 ghost use Rattle.sx_grammar.specs.Numbered.{symbol};
-ghost use Rattle.sx_earley.specs.Shown.{plain, texts, tokens_of, IsBelow, AreBelow};
+ghost use Rattle.sx_earley.specs.Shown.{plain, literal_texts, tokens_of, IsLiteralBelow};
+ghost use Rattle.sx_earley.specs.Shown.{ShownBelow};
 ghost use Rattle.sx_forest.specs.Tallies.{tally_of, ways_of};
-ghost use Rattle.sx_forest.specs.Rows.{AreSorted, IsPlace, IsNext};
+ghost use Rattle.sx_forest.specs.Rows.{AreSorted, IsPlaceRow, IsNextRow};
 ghost use Rattle.sx_term.specs.Limits.{most_tokens};
 
 use crate::entry::Entry;
@@ -25,11 +26,11 @@ pub(crate) fn symbol_ways(
     place: u32,
 ) -> Ways
     requires short { place ≤ most_tokens }
-    requires below { IsBelow (length (texts grammar.now)) expected }
-    requires shown { AreBelow (length (texts grammar.now)) shown.now }
+    requires below { IsLiteralBelow (length (literal_texts grammar.now)) expected }
+    requires shown { ShownBelow (length (literal_texts grammar.now)) shown.now }
     requires sorted { AreSorted entries.now }
-    ensures { IsPlace (plain grammar.now) (tokens_of grammar.now shown.now) entries.now
-        (symbol (texts grammar.now) expected) place
+    ensures { IsPlaceRow (plain grammar.now) (tokens_of grammar.now shown.now) entries.now
+        (symbol (literal_texts grammar.now) expected) place
         (ways_of rest.now) (tally_of result) }
 {
     match expected {
@@ -61,11 +62,11 @@ pub(crate) fn next_ways(
     place: u32,
 ) -> Ways
     requires short { place ≤ most_tokens }
-    requires below { IfSome expected (IsBelow (length (texts grammar.now))) }
-    requires shown { AreBelow (length (texts grammar.now)) shown.now }
+    requires below { IfSome expected (IsLiteralBelow (length (literal_texts grammar.now))) }
+    requires shown { ShownBelow (length (literal_texts grammar.now)) shown.now }
     requires sorted { AreSorted entries.now }
-    ensures { IsNext (plain grammar.now) (tokens_of grammar.now shown.now) entries.now
-        (option_map (symbol (texts grammar.now)) expected) place
+    ensures { IsNextRow (plain grammar.now) (tokens_of grammar.now shown.now) entries.now
+        (option_map (symbol (literal_texts grammar.now)) expected) place
         (ways_of rest.now) (tally_of result) }
 {
     match expected {

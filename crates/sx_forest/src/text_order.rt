@@ -4,7 +4,7 @@ ghost use Rattle.std.specs.Prelude.{◌≡◌, ◌≤◌, ◌⊎◌, true, false
 ghost use Rattle.sx_grammar.specs.Parts.{labels};
 ghost use Rattle.sx_grammar.specs.Reading.{reading_depth};
 ghost use Rattle.sx_forest.specs.Readings.{plain_reading};
-ghost use Rattle.sx_forest.specs.Text.{texts, tree_text, IsWithin};
+ghost use Rattle.sx_forest.specs.Text.{token_texts, tree_text, IsWithin};
 ghost use Rattle.sx_forest.specs.Verdict.{IsNotAfter};
 ghost use Rattle.sx_term.specs.Limits.{most_depth};
 
@@ -39,11 +39,12 @@ fn text_is_after(
     requires other_within { IsWithin (length grammar.now.parts.productions) (length tokens.now)
         (plain_reading other.now) }
     ensures not_after { IfOk result (λ b. b ≡ false →
-        IsNotAfter (tree_text (labels grammar.now.parts) (texts tokens.now) (plain_reading one.now))
-        (tree_text (labels grammar.now.parts) (texts tokens.now) (plain_reading other.now))) }
+        IsNotAfter (tree_text (labels grammar.now.parts) (token_texts tokens.now)
+        (plain_reading one.now))
+        (tree_text (labels grammar.now.parts) (token_texts tokens.now) (plain_reading other.now))) }
     ensures after { IfOk result (λ b. b ≡ true →
-        IsNotAfter (tree_text (labels grammar.now.parts) (texts tokens.now)
-        (plain_reading other.now)) (tree_text (labels grammar.now.parts) (texts tokens.now)
+        IsNotAfter (tree_text (labels grammar.now.parts) (token_texts tokens.now)
+        (plain_reading other.now)) (tree_text (labels grammar.now.parts) (token_texts tokens.now)
         (plain_reading one.now))) }
 {
     let mut first = Vec::new(alloc);
@@ -70,8 +71,8 @@ pub(crate) fn in_text_order(
     ensures pair { IfOk result (λ p. ((p.0 ≡ one) × (p.1 ≡ other)) ⊎
         ((p.0 ≡ other) × (p.1 ≡ one))) }
     ensures order { IfOk result (λ p. IsNotAfter
-        (tree_text (labels grammar.now.parts) (texts tokens.now) (plain_reading p.0))
-        (tree_text (labels grammar.now.parts) (texts tokens.now) (plain_reading p.1))) }
+        (tree_text (labels grammar.now.parts) (token_texts tokens.now) (plain_reading p.0))
+        (tree_text (labels grammar.now.parts) (token_texts tokens.now) (plain_reading p.1))) }
 {
     if text_is_after(alloc, grammar, tokens, &one, &other)? {
         Ok((other, one))

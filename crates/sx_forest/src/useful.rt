@@ -2,7 +2,7 @@
 
 ghost use Rattle.std.specs.Prelude.{◌≡◌, ◌≤◌, IfOk, length};
 ghost use Rattle.sx_grammar.specs.Tally.{EachOnce};
-ghost use Rattle.sx_earley.specs.Shown.{plain, texts, tokens_of, AreBelow};
+ghost use Rattle.sx_earley.specs.Shown.{plain, literal_texts, tokens_of, ShownBelow};
 ghost use Rattle.sx_earley.specs.Completed.{IsChart};
 ghost use Rattle.sx_forest.specs.Useful.{AreMetBy, AreUseful};
 ghost use Rattle.sx_term.specs.Limits.{most_tokens};
@@ -23,7 +23,7 @@ fn all_levels(
     spans: usize,
 ) -> Result<Levels, NoMemory>
     requires short { length shown.now ≤ most_tokens }
-    requires shown { AreBelow (length (texts grammar.now)) shown.now }
+    requires shown { ShownBelow (length (literal_texts grammar.now)) shown.now }
     ensures met { IfOk result (λ l. AreMetBy (plain grammar.now)
         (tokens_of grammar.now shown.now) l.rows.items l.numbers.items) }
     ensures short { IfOk result (λ l. length l.numbers.items ≤ length shown.now) }
@@ -48,7 +48,7 @@ pub(crate) fn useful_spans(
     spans: &[Span],
 ) -> Result<Vec<Span>, NoMemory>
     requires short { length shown.now ≤ most_tokens }
-    requires shown { AreBelow (length (texts grammar.now)) shown.now }
+    requires shown { ShownBelow (length (literal_texts grammar.now)) shown.now }
     requires chart { IsChart (plain grammar.now)
         (tokens_of grammar.now shown.now) _start spans.now }
     requires once { EachOnce spans.now }

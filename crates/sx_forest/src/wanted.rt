@@ -4,9 +4,10 @@ ghost use Rattle.std.specs.Prelude.{suc, ◌≡◌, ◌↔◌, ℕ, IsTrue, IfSo
 ghost use Rattle.sx_grammar.specs.Grammar.{part, production_of};
 ghost use Rattle.sx_grammar.specs.Numbered.{symbol};
 ghost use Rattle.sx_grammar.specs.declared.head.Head.TheVariants.{Labelled, Bracketed};
-ghost use Rattle.sx_earley.specs.Shown.{plain, texts, tokens_of, IsBelow, AreBelow};
+ghost use Rattle.sx_earley.specs.Shown.{plain, literal_texts, tokens_of, IsLiteralBelow};
+ghost use Rattle.sx_earley.specs.Shown.{ShownBelow};
 ghost use Rattle.sx_earley.specs.Chart.{next_symbol};
-ghost use Rattle.sx_forest.specs.Useful.{level_at, IsKept, MayEnd, IsMetAt, IsMet};
+ghost use Rattle.sx_forest.specs.Useful.{level_at, IsProductionKept, MayEnd, IsMetAt, IsMet};
 
 use crate::span_rows::symbol_count;
 use sx_earley::{Shown, makes, reads, sort_of, symbol_of};
@@ -24,7 +25,7 @@ fn level_at(levels: &[u8], sort: u32) -> u8
 
 /// Whether the head is kept.
 pub(crate) fn keeps(grammar: &Grammar, levels: &[u8], head: Head) -> bool
-    ensures { IsTrue result ↔ IsKept levels.now (production_of (plain grammar.now) head) }
+    ensures { IsTrue result ↔ IsProductionKept levels.now (production_of (plain grammar.now) head) }
 {
     match sort_of(grammar, head) {
         None => false,
@@ -41,10 +42,10 @@ fn may_end(
     next: Option<NumberedSymbol>,
     may_be_last: bool,
 ) -> bool
-    requires next { IfSome next (IsBelow (length (texts grammar.now))) }
-    requires shown { AreBelow (length (texts grammar.now)) shown.now }
+    requires next { IfSome next (IsLiteralBelow (length (literal_texts grammar.now))) }
+    requires shown { ShownBelow (length (literal_texts grammar.now)) shown.now }
     ensures { IsTrue result ↔ MayEnd (tokens_of grammar.now shown.now)
-        (option_map (symbol (texts grammar.now)) next) place (IsTrue may_be_last) }
+        (option_map (symbol (literal_texts grammar.now)) next) place (IsTrue may_be_last) }
 {
     match next {
         None => may_be_last,
@@ -65,11 +66,11 @@ fn asked_at(
     head: Head,
     dot: usize,
 ) -> Option<(u32, u8)>
-    requires shown { AreBelow (length (texts grammar.now)) shown.now }
+    requires shown { ShownBelow (length (literal_texts grammar.now)) shown.now }
     ensures { (sort least : ℕ) → next_symbol (plain grammar.now) head dot
         ≡ Some (part sort least) → MayEnd (tokens_of grammar.now shown.now)
         (next_symbol (plain grammar.now) head (suc dot)) place
-        (IsKept levels.now (production_of (plain grammar.now) head)) →
+        (IsProductionKept levels.now (production_of (plain grammar.now) head)) →
         result ≡ Some (sort, least) }
 {
     match symbol_of(grammar, head, dot) {
@@ -94,7 +95,7 @@ fn is_met_at(
     head: Head,
     dot: usize,
 ) -> bool
-    requires shown { AreBelow (length (texts grammar.now)) shown.now }
+    requires shown { ShownBelow (length (literal_texts grammar.now)) shown.now }
     ensures { IsTrue result → IsMetAt (plain grammar.now) (tokens_of grammar.now shown.now) place
         levels.now head dot }
 {
@@ -106,7 +107,7 @@ fn is_met_at(
 
 /// Whether it is so of each part of the head.
 fn is_met_by(grammar: &Grammar, shown: &[Shown], place: u32, levels: &[u8], head: Head) -> bool
-    requires shown { AreBelow (length (texts grammar.now)) shown.now }
+    requires shown { ShownBelow (length (literal_texts grammar.now)) shown.now }
     ensures { IsTrue result → (dot : ℕ) → IsMetAt (plain grammar.now)
         (tokens_of grammar.now shown.now) place levels.now head dot }
 {
@@ -120,7 +121,7 @@ fn is_met_by(grammar: &Grammar, shown: &[Shown], place: u32, levels: &[u8], head
 
 /// Whether it is so of each labelled production.
 fn is_met_by_labelled(grammar: &Grammar, shown: &[Shown], place: u32, levels: &[u8]) -> bool
-    requires shown { AreBelow (length (texts grammar.now)) shown.now }
+    requires shown { ShownBelow (length (literal_texts grammar.now)) shown.now }
     ensures { IsTrue result → (label dot : ℕ) → IsMetAt (plain grammar.now)
         (tokens_of grammar.now shown.now) place levels.now (Labelled label) dot }
 {
@@ -135,7 +136,7 @@ fn is_met_by_labelled(grammar: &Grammar, shown: &[Shown], place: u32, levels: &[
 
 /// Whether it is so of each bracket pair.
 fn is_met_by_bracketed(grammar: &Grammar, shown: &[Shown], place: u32, levels: &[u8]) -> bool
-    requires shown { AreBelow (length (texts grammar.now)) shown.now }
+    requires shown { ShownBelow (length (literal_texts grammar.now)) shown.now }
     ensures { IsTrue result → (sort dot : ℕ) → IsMetAt (plain grammar.now)
         (tokens_of grammar.now shown.now) place levels.now (Bracketed sort) dot }
 {
@@ -150,7 +151,7 @@ fn is_met_by_bracketed(grammar: &Grammar, shown: &[Shown], place: u32, levels: &
 
 /// Whether it is so of each head.
 pub(crate) fn is_met(grammar: &Grammar, shown: &[Shown], place: u32, levels: &[u8]) -> bool
-    requires shown { AreBelow (length (texts grammar.now)) shown.now }
+    requires shown { ShownBelow (length (literal_texts grammar.now)) shown.now }
     ensures { IsTrue result → IsMet (plain grammar.now) (tokens_of grammar.now shown.now) place
         levels.now }
 {
@@ -169,7 +170,7 @@ fn lower(levels: &mut [u8], sort: u32, least: u8) {
 
 /// Keeps what the parts of the head ask for.
 fn lower_by(grammar: &Grammar, shown: &[Shown], place: u32, levels: &mut [u8], head: Head)
-    requires shown { AreBelow (length (texts grammar.now)) shown.now }
+    requires shown { ShownBelow (length (literal_texts grammar.now)) shown.now }
 {
     for dot in 0..symbol_count(grammar, head) {
         if let Some((sort, least)) = asked_at(grammar, shown, place, levels, head, dot) {
@@ -180,7 +181,7 @@ fn lower_by(grammar: &Grammar, shown: &[Shown], place: u32, levels: &mut [u8], h
 
 /// Keeps what the parts of all heads ask for.
 pub(crate) fn lower_all(grammar: &Grammar, shown: &[Shown], place: u32, levels: &mut [u8])
-    requires shown { AreBelow (length (texts grammar.now)) shown.now }
+    requires shown { ShownBelow (length (literal_texts grammar.now)) shown.now }
 {
     grammar.facts();
     for label in 0..grammar.productions().len() {

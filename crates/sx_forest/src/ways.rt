@@ -2,7 +2,7 @@
 
 ghost use Rattle.std.specs.Prelude.{◌≡◌, ◌+◌, ◌-◌, ◌<◌, ◌≤◌, ◌^◌, max};
 ghost use Rattle.sx_grammar.specs.Tally.{plus, times, deeper};
-ghost use Rattle.sx_forest.specs.Tallies.{tally_of, IsSmall};
+ghost use Rattle.sx_forest.specs.Tallies.{tally_of, IsSmallTally};
 
 /// How many readings there are, none, one or more, and the greatest depth of them.
 #[derive(Clone, Copy)]
@@ -56,7 +56,7 @@ fn one_more(depth: u64) -> u64
 
 /// The ways inside a node or a bracket pair.
 pub(crate) fn inside(a: Ways) -> Ways
-    ensures { IsSmall (tally_of a) → tally_of result ≡ deeper (tally_of a) }
+    ensures { IsSmallTally (tally_of a) → tally_of result ≡ deeper (tally_of a) }
 {
     match a {
         Ways::Nothing => Ways::Nothing,

@@ -4,10 +4,12 @@ ghost use Rattle.std.specs.Prelude.{◌≡◌, ◌≤◌, ◌<◌, ◌+◌, ◌-
 ghost use Rattle.std.specs.Prelude.{option_map};
 ghost use Rattle.sx_grammar.specs.Numbered.{symbol};
 ghost use Rattle.sx_earley.specs.Chart.{next_symbol};
-ghost use Rattle.sx_earley.specs.Shown.{plain, texts, tokens_of, IsBelow, AreBelow};
+ghost use Rattle.sx_earley.specs.Shown.{plain, literal_texts, tokens_of, IsLiteralBelow};
+ghost use Rattle.sx_earley.specs.Shown.{ShownBelow};
 ghost use Rattle.sx_forest.specs.Tallies.{ways_of};
-ghost use Rattle.sx_forest.specs.Rows.{AllSorted, row_at, stretch_at, AreRows};
-ghost use Rattle.sx_forest.specs.KeptRows.{symbols_by, IsKept, IsReady, front_of, IsWider};
+ghost use Rattle.sx_forest.specs.Rows.{AllSorted, tally_at, stretch_at, AreRows};
+ghost use Rattle.sx_forest.specs.KeptRows.{symbols_by, AreStretchesKept, AreRowsReady, front_of};
+ghost use Rattle.sx_forest.specs.KeptRows.{IsWider};
 ghost use Rattle.sx_forest.specs.KeptRows.{AreWider, IsLonger};
 ghost use Rattle.sx_term.specs.Limits.{most_tokens};
 
@@ -33,7 +35,7 @@ fn wider(
 ) -> Result<Option<Vec<Stretch>>, NoMemory>
     requires short { kept.now.to ≤ most_tokens }
     requires along { from ≤ kept.now.to }
-    requires kept { IsKept (plain basis.grammar.now)
+    requires kept { AreStretchesKept (plain basis.grammar.now)
         (tokens_of basis.grammar.now basis.shown.now) basis.table.now.lists.items kept.now }
     ensures { IfOk result (λ o. IfSome o (λ v. AreWider (plain basis.entry.grammar.now)
         (tokens_of basis.entry.grammar.now basis.entry.shown.now)
@@ -74,13 +76,14 @@ fn lengthen(
     places: Stretch,
 ) -> Result<(), NoMemory>
     requires short { places.first < places.end → places.end ≤ 10001 }
-    requires below { IfSome expected (IsBelow (length (texts basis.grammar.now))) }
-    requires shown { AreBelow (length (texts basis.grammar.now)) basis.shown.now }
+    requires below { IfSome expected (IsLiteralBelow (length (literal_texts basis.grammar.now))) }
+    requires shown { ShownBelow (length (literal_texts basis.grammar.now)) basis.shown.now }
     requires sorted { AllSorted basis.table.now.lists.items }
     ensures { OnOk result (IsLonger (plain basis.entry.grammar.now)
         (tokens_of basis.entry.grammar.now basis.entry.shown.now)
         basis.entry.table.now.lists.items
-        (option_map (symbol (texts basis.entry.grammar.now)) expected) (ways_of next.now) places
+        (option_map (symbol (literal_texts basis.entry.grammar.now)) expected)
+        (ways_of next.now) places
         row.old row.new) }
 {
     if places.first < places.end {
@@ -104,7 +107,7 @@ fn wider_row(
         IsWider kept.now.to (stretch_at kept.now.stretches.items dot)
         (stretch_at stretches.now dot) }
     requires few { length wide.now ≤ symbols_by (plain basis.grammar.now) kept.now.head - 1 }
-    requires shown { AreBelow (length (texts basis.grammar.now)) basis.shown.now }
+    requires shown { ShownBelow (length (literal_texts basis.grammar.now)) basis.shown.now }
     requires sorted { AllSorted basis.table.now.lists.items }
     ensures first { length wide.now ≡ 0 → IfOk result (λ r. r ≡ row) }
     ensures more { (n : ℕ) → length wide.now ≡ suc n →
@@ -112,7 +115,7 @@ fn wider_row(
         (tokens_of basis.entry.grammar.now basis.entry.shown.now)
         basis.entry.table.now.lists.items (next_symbol (plain basis.entry.grammar.now)
         kept.now.head (symbols_by (plain basis.entry.grammar.now) kept.now.head - n - 1))
-        (row_at wide.now n) (front_of
+        (tally_at wide.now n) (front_of
         (stretch_at kept.now.stretches.items
         (symbols_by (plain basis.entry.grammar.now) kept.now.head - n - 1))
         (stretch_at stretches.now
@@ -142,7 +145,7 @@ fn wider_rows(
     rows: Vec<Row>,
 ) -> Result<Vec<Row>, NoMemory>
     requires short { kept.now.to ≤ most_tokens }
-    requires kept { IsKept (plain basis.grammar.now)
+    requires kept { AreStretchesKept (plain basis.grammar.now)
         (tokens_of basis.grammar.now basis.shown.now) basis.table.now.lists.items
         (record {
           head = kept.now.head;
@@ -154,7 +157,7 @@ fn wider_rows(
         dot < symbols_by (plain basis.grammar.now) kept.now.head →
         IsWider kept.now.to (stretch_at kept.now.stretches.items dot)
         (stretch_at stretches.now dot) }
-    requires shown { AreBelow (length (texts basis.grammar.now)) basis.shown.now }
+    requires shown { ShownBelow (length (literal_texts basis.grammar.now)) basis.shown.now }
     requires sorted { AllSorted basis.table.now.lists.items }
     ensures { IfOk result (λ v. AreRows (plain basis.entry.grammar.now)
         (tokens_of basis.entry.grammar.now basis.entry.shown.now)
@@ -175,11 +178,11 @@ fn wider_rows(
 pub(crate) fn widen(alloc: Global, basis: Basis, kept: &mut Kept, from: u32) -> Result<(), NoMemory>
     requires short { kept.old.to ≤ most_tokens }
     requires along { from ≤ kept.old.to }
-    requires shown { AreBelow (length (texts basis.grammar.now)) basis.shown.now }
+    requires shown { ShownBelow (length (literal_texts basis.grammar.now)) basis.shown.now }
     requires sorted { AllSorted basis.table.now.lists.items }
-    requires kept { IsKept (plain basis.grammar.now)
+    requires kept { AreStretchesKept (plain basis.grammar.now)
         (tokens_of basis.grammar.now basis.shown.now) basis.table.now.lists.items kept.old }
-    ensures ready { OnOk result (IsReady (plain basis.entry.grammar.now)
+    ensures ready { OnOk result (AreRowsReady (plain basis.entry.grammar.now)
         (tokens_of basis.entry.grammar.now basis.entry.shown.now)
         basis.entry.table.now.lists.items from kept.new) }
     ensures same { OnOk result ((kept.new.head ≡ kept.old.head) × (kept.new.to ≡ kept.old.to)) }

@@ -5,7 +5,7 @@ ghost use Rattle.std.specs.Prelude.{OnOk, OnErr};
 ghost use Rattle.sx_grammar.specs.Parts.{labels};
 ghost use Rattle.sx_grammar.specs.Reading.{reading_depth, readings_depth};
 ghost use Rattle.sx_forest.specs.Readings.{plain_reading, plain_readings};
-ghost use Rattle.sx_forest.specs.Text.{texts, tree_text, kids_text, IsWithin, AreWithin};
+ghost use Rattle.sx_forest.specs.Text.{token_texts, tree_text, kids_text, IsWithin, AreWithin};
 ghost use Rattle.sx_term.specs.Limits.{most_depth};
 
 use crate::reading::Reading;
@@ -28,7 +28,8 @@ pub fn write_tree(
     requires within { IsWithin (length grammar.now.parts.productions) (length tokens.now)
         (plain_reading reading.now) }
     ensures ok { OnOk result (into.new.items ≡ into.old.items
-        ++ tree_text (labels grammar.now.parts) (texts tokens.now) (plain_reading reading.now)) }
+        ++ tree_text (labels grammar.now.parts) (token_texts tokens.now)
+        (plain_reading reading.now)) }
     ensures err { OnErr result (into.new.items ≡ into.old.items) }
 {
     let before = into.len();
@@ -53,7 +54,8 @@ fn put_reading(
     requires within { IsWithin (length grammar.now.parts.productions) (length tokens.now)
         (plain_reading reading.now) }
     ensures ok { OnOk result (into.new.items ≡ into.old.items
-        ++ tree_text (labels grammar.now.parts) (texts tokens.now) (plain_reading reading.now)) }
+        ++ tree_text (labels grammar.now.parts) (token_texts tokens.now)
+        (plain_reading reading.now)) }
     ensures appends { (more : List ℕ) × (into.new.items ≡ into.old.items ++ more) }
 {
     match reading {
@@ -94,7 +96,8 @@ fn put_kids(
     requires within { AreWithin (length grammar.now.parts.productions) (length tokens.now)
         (plain_readings kids.now) }
     ensures ok { OnOk result (into.new.items ≡ into.old.items
-        ++ kids_text (labels grammar.now.parts) (texts tokens.now) (plain_readings kids.now)) }
+        ++ kids_text (labels grammar.now.parts) (token_texts tokens.now)
+        (plain_readings kids.now)) }
     ensures appends { (more : List ℕ) × (into.new.items ≡ into.old.items ++ more) }
 {
     match kids.split_first() {
@@ -129,7 +132,7 @@ fn put_label(grammar: &Grammar, label: u32, into: &mut Vec<u8>) -> Result<(), No
 fn put_token(tokens: &[Token], token: u32, into: &mut Vec<u8>) -> Result<(), NoMemory>
     requires { token < length tokens.now }
     ensures ok { OnOk result (into.new.items ≡ into.old.items
-        ++ slice_index_or (texts tokens.now) token []) }
+        ++ slice_index_or (token_texts tokens.now) token []) }
     ensures err { OnErr result (into.new.items ≡ into.old.items) }
 {
     let text = &tokens[token as usize].text;

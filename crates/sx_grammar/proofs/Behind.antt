@@ -10,13 +10,15 @@ use Rattle.sx_grammar.specs.declared.numbered.NumberedProduction.{NumberedProduc
 use Rattle.sx_grammar.specs.declared.sort_line.SortLine.{SortLine}
 use Rattle.sx_grammar.specs.Grammar as plain
 use Rattle.sx_grammar.specs.Grammar.{Text, Brackets}
-use Rattle.sx_grammar.specs.Parts.{Line, Parts, names, literals, numbered, numbered_line, numbered_pair, numbered_sort}
+use Rattle.sx_grammar.specs.Parts.{Line, Parts, names, literals, numbered, numbered_line}
+use Rattle.sx_grammar.specs.Parts.{numbered_pair, numbered_sort}
 use Rattle.sx_grammar.specs.Numbered.{Bare, bare, symbol, production}
 use Rattle.sx_grammar.specs.Distinct.{distinct}
 use Rattle.sx_grammar.specs.Standing.{literals_in}
-use Rattle.sx_grammar.specs.Extended.{grown, listed, LacksPair, blank, Grows}
+use Rattle.sx_grammar.specs.Extended.{grown, listed_sort, LacksPair, blank, GrammarGrows}
 use Rattle.sx_grammar.specs.Made.{HasKnownSorts}
-use Rattle.sx_grammar.specs.Tables.{literals_of, AreNumbered, HaveLiteralsBelow, IsNumberedPair, AreNumberedPairs}
+use Rattle.sx_grammar.specs.Tables.{literals_of, AreNumbered, HaveLiteralsBelow, IsNumberedPair}
+use Rattle.sx_grammar.specs.Tables.{AreNumberedPairs}
 use Rattle.sx_grammar.proofs.Finding.{mapped_at}
 use Rattle.sx_grammar.proofs.DistinctLaws.{distinct_goes_on}
 use Rattle.sx_grammar.proofs.NumberLaws.{pairs_push}
@@ -61,25 +63,25 @@ below_by_bare bound ps qs same low label p k n at here =
     low label found.0 k n found.1 (ap (λ b. slice_get b.symbols k) found.2 ∙ here)
 
 -- the literals of the grammar stand first among those of the parts with more behind its parts
-pub texts_behind : (p : Parts) (more : List Line) (whole : Parts) → Grows p more whole → (rest : List Text) × (literals_of whole ≡ literals_of p ++ rest)
+pub texts_behind : (p : Parts) (more : List Line) (whole : Parts) → GrammarGrows p more whole → (rest : List Text) × (literals_of whole ≡ literals_of p ++ rest)
 texts_behind p more whole grows =
     let on = distinct_goes_on (literals p) (literals_in more) in
     (on.0, ap distinct (literals_grown p more whole grows ∙ literals_more p more) ∙ on.1)
 
 -- the productions of the grammar, and more productions behind these, with numbers
-pub numbered_both : (p : Parts) (more : List Line) (whole : Parts) → Grows p more whole → HasKnownSorts p → (texts ns : List Text) (ps qs all : List NumberedProduction) → AreNumbered p ps → HaveLiteralsBelow (length (literals_of p)) ps
+pub numbered_both : (p : Parts) (more : List Line) (whole : Parts) → GrammarGrows p more whole → HasKnownSorts p → (texts ns : List Text) (ps qs all : List NumberedProduction) → AreNumbered p ps → HaveLiteralsBelow (length (literals_of p)) ps
     → texts ≡ literals_of whole → ns ≡ names whole → map (production texts) qs ≡ map (numbered_line ns) more → map bare all ≡ map bare (ps ++ qs) → AreNumbered whole all
 numbered_both p more whole grows known texts ns ps qs all own low same named new bares =
     let lits = literals_of whole in
-    let parts = grown p (listed grows.sort) more in
+    let parts = grown p (listed_sort grows.sort) more in
     let longer = texts_behind p more whole grows in
     let first : map (production lits) ps ≡ (numbered p).productions = ap (λ l. map (production l) ps) longer.1 ∙ productions_kept (literals_of p) longer.0 ps low ∙ own in
     let second : map (production lits) qs ≡ map (numbered_line (names parts)) more =
     subst (λ l. map (production l) qs ≡ map (numbered_line (names parts)) more) same (subst (λ l. map (production texts) qs ≡ map (numbered_line l) more) (named ∙ ap names grows.is) new) in
     same_by_bare lits all (ps ++ qs) bares ∙ map-append (production lits) ps qs ∙ (λ i. first i ++ second i)
-    ∙ sym (productions_grown p (listed grows.sort) more known) ∙ ap (λ w. (numbered w).productions) (sym grows.is)
+    ∙ sym (productions_grown p (listed_sort grows.sort) more known) ∙ ap (λ w. (numbered w).productions) (sym grows.is)
 
-pub below_both : (p : Parts) (more : List Line) (whole : Parts) → Grows p more whole → (texts : List Text) (ps qs all : List NumberedProduction) → HaveLiteralsBelow (length (literals_of p)) ps → texts ≡ literals_of whole
+pub below_both : (p : Parts) (more : List Line) (whole : Parts) → GrammarGrows p more whole → (texts : List Text) (ps qs all : List NumberedProduction) → HaveLiteralsBelow (length (literals_of p)) ps → texts ≡ literals_of whole
     → HaveLiteralsBelow (length texts) qs → map bare all ≡ map bare (ps ++ qs) → HaveLiteralsBelow (length texts) all
 below_both p more whole grows texts ps qs all low same new bares =
     let longer = texts_behind p more whole grows in
@@ -103,14 +105,14 @@ pairs_kept texts rest (s ∷ ss) [] are = absurd are
 pairs_kept texts rest (s ∷ ss) (b ∷ bs) are = (pair_kept texts rest (numbered_sort s).brackets b are.0, pairs_kept texts rest ss bs are.1)
 
 -- one more sort has no brackets
-pairs_listed : (texts : List Text) (ss : List SortLine) (sort : Option SortLine) (bs : List (Option (ℕ × ℕ))) (wider : Bool) → LacksPair sort → (IsTrue wider ↔ (length ss < length (ss ++ listed sort))) → AreNumberedPairs texts ss bs
-    → AreNumberedPairs texts (ss ++ listed sort) (bs ++ blank wider)
+pairs_listed : (texts : List Text) (ss : List SortLine) (sort : Option SortLine) (bs : List (Option (ℕ × ℕ))) (wider : Bool) → LacksPair sort → (IsTrue wider ↔ (length ss < length (ss ++ listed_sort sort))) → AreNumberedPairs texts ss bs
+    → AreNumberedPairs texts (ss ++ listed_sort sort) (bs ++ blank wider)
 pairs_listed texts ss None bs true lacks is are = absurd (omega (arith, is.0 refl, ap length (append-nil ss)))
 pairs_listed texts ss None bs false lacks is are = subst (λ l. AreNumberedPairs texts l (bs ++ [])) (sym (append-nil ss)) (subst (AreNumberedPairs texts ss) (sym (append-nil bs)) are)
 pairs_listed texts ss (Some s) bs true lacks is are = pairs_push texts ss bs s None are (subst (λ b. IsNumberedPair texts (numbered_pair b) None) (sym lacks) tt)
 pairs_listed texts ss (Some s) bs false lacks is are = absurd (false≢true (is.1 (omega (arith, length-append ss (s ∷ [])))))
 
-pub pairs_behind : (p : Parts) (more : List Line) (whole : Parts) → Grows p more whole → (texts known : List Text) (bs all : List (Option (ℕ × ℕ))) (wider : Bool) → texts ≡ literals_of p → known ≡ literals_of whole
+pub pairs_behind : (p : Parts) (more : List Line) (whole : Parts) → GrammarGrows p more whole → (texts known : List Text) (bs all : List (Option (ℕ × ℕ))) (wider : Bool) → texts ≡ literals_of p → known ≡ literals_of whole
     → AreNumberedPairs texts p.sorts bs → (IsTrue wider ↔ (length p.sorts < length whole.sorts)) → all ≡ bs ++ blank wider → AreNumberedPairs known whole.sorts all
 pairs_behind p more whole grows texts known bs all wider own same are is made =
     let longer = texts_behind p more whole grows in

@@ -8,10 +8,11 @@ use Rattle.std.proofs.lemmas.Option.{slice_get-map}
 use Rattle.sx_term.specs.Cutting.{AreDistinct}
 use Rattle.sx_grammar.specs.declared.production.Production.{Production}
 use Rattle.sx_grammar.specs.Grammar.{Text}
-use Rattle.sx_grammar.specs.Parts.{Line, Parts, line, names, labels, literals, sorts_named, symbol_literals, symbol_sorts, bracket_literals}
+use Rattle.sx_grammar.specs.Parts.{Line, Parts, line, names, labels, literals, sorts_named}
+use Rattle.sx_grammar.specs.Parts.{symbol_literals, symbol_sorts, bracket_literals}
 use Rattle.sx_grammar.specs.Standing.{labels_in, literals_in, sorts_in}
-use Rattle.sx_grammar.specs.Extended.{extended, listed, Grows}
-use Rattle.sx_grammar.specs.Made.{HasNone, HasLabels, IsBadLiteral, IsUnknown}
+use Rattle.sx_grammar.specs.Extended.{extended, listed_sort, GrammarGrows}
+use Rattle.sx_grammar.specs.Made.{HasNone, HasLabels, IsBadLiteral, IsUnknownSort}
 use Rattle.sx_grammar.proofs.Finding.{contains_place, is_head, past_head}
 use Rattle.sx_grammar.proofs.FirstLaws.{distinct_push}
 use Rattle.sx_grammar.proofs.Widening.{still_known, literals_grown}
@@ -50,16 +51,16 @@ literals_more p more =
     ∙ sym (append_assoc (flat_map (λ s. bracket_literals s.brackets) p.sorts) (literals_in p.productions) (literals_in more))
 
 -- the literals and names of parts with more behind them are good
-pub well_named : (p : Parts) (more : List Line) (whole : Parts) → Grows p more whole → HasLabels p → HasNone IsBadLiteral (literals_in more) → AreDistinct (names whole)
-    → HasNone (IsUnknown (names whole)) (sorts_in more) → AreDistinct (labels_in p.productions ++ labels_in more) → HasLabels whole
+pub well_named : (p : Parts) (more : List Line) (whole : Parts) → GrammarGrows p more whole → HasLabels p → HasNone IsBadLiteral (literals_in more) → AreDistinct (names whole)
+    → HasNone (IsUnknownSort (names whole)) (sorts_in more) → AreDistinct (labels_in p.productions ++ labels_in more) → HasLabels whole
 well_named p more whole grows has good apart known distinct =
-    let new = listed grows.sort in
+    let new = listed_sort grows.sort in
     let all = literals_grown p more whole grows ∙ literals_more p more in
-    let old = subst (λ w. HasNone (IsUnknown (names w)) (sorts_in p.productions)) (sym grows.is) (still_known p new more (sorts_in p.productions) has.0.1) in (
+    let old = subst (λ w. HasNone (IsUnknownSort (names w)) (sorts_in p.productions)) (sym grows.is) (still_known p new more (sorts_in p.productions) has.0.1) in (
       (
         (subst (HasNone IsBadLiteral) (sym all) (none_in_both IsBadLiteral (literals p) (literals_in more) has.0.0.0 good), apart),
-        subst (HasNone (IsUnknown (names whole))) (sym (ap sorts_named grows.is ∙ flat_map-append (λ r. r.sort ∷ flat_map symbol_sorts r.symbols) p.productions more))
-            (none_in_both (IsUnknown (names whole)) (sorts_in p.productions) (sorts_in more) old known),
+        subst (HasNone (IsUnknownSort (names whole))) (sym (ap sorts_named grows.is ∙ flat_map-append (λ r. r.sort ∷ flat_map symbol_sorts r.symbols) p.productions more))
+            (none_in_both (IsUnknownSort (names whole)) (sorts_in p.productions) (sorts_in more) old known),
       ),
       subst AreDistinct (sym (ap labels grows.is ∙ map-append (λ r. r.label) p.productions more)) distinct,
     )

@@ -9,7 +9,7 @@ use Rattle.std.proofs.lemmas.List.Elements.{Contains-push_cases}
 use Rattle.sx_term.specs.Cutting.{AreDistinct}
 use Rattle.sx_grammar.specs.Grammar.{Text}
 use Rattle.sx_grammar.specs.Parts.{texts}
-use Rattle.sx_grammar.specs.Made.{IsFirst, HasNone, IsFirstAgain, IsLexical, IsUnknown}
+use Rattle.sx_grammar.specs.Made.{IsFirstWith, HasNone, IsFirstAgain, IsLexical, IsUnknownSort}
 
 -- what stands before an element, the element, and what stands after it
 pub seam : {X : Type 0} (xs : List X) (i : ℕ) (x : X) → slice_get xs i ≡ Some x → xs ≡ take i xs ++ x ∷ drop (suc i) xs
@@ -35,7 +35,7 @@ none_more P xs i x at none not y has is =
 pub none_all : {X : Type 0} (P : X → Type 0) (xs : List X) (i : ℕ) → length xs ≤ i → HasNone P (take i xs) → HasNone P xs
 none_all P xs i whole none = subst (HasNone P) (take_all i xs whole) none
 
-pub first_here : {X : Type 0} (P : X → Type 0) (xs : List X) (i : ℕ) (x : X) → slice_get xs i ≡ Some x → HasNone P (take i xs) → P x → IsFirst P xs x
+pub first_here : {X : Type 0} (P : X → Type 0) (xs : List X) (i : ℕ) (x : X) → slice_get xs i ≡ Some x → HasNone P (take i xs) → P x → IsFirstWith P xs x
 first_here P xs i x at none is = (take i xs, drop (suc i) xs, seam xs i x at, is, none)
 
 pub text_at : (refs : List (Bor Text)) (i : ℕ) (r : Bor Text) → i < length refs → r ≡ get_or refs i r → slice_get (texts refs) i ≡ Some r.now
@@ -73,7 +73,7 @@ new_here x names (Some i) exact some = absurd (false≢true (sym some))
 
 -- where the name is not that of a lexical sort, it is unknown exactly if none is found
 pub unknown_if : (names : List Text) (t : Text) (found : Option ℕ) → MatchOption found (¬ (Contains names t)) (λ i. slice_get names i ≡ Some t) → ¬ (IsLexical t)
-    → (is_none found ≡ true → IsUnknown names t) × (IsUnknown names t → is_none found ≡ true)
+    → (is_none found ≡ true → IsUnknownSort names t) × (IsUnknownSort names t → is_none found ≡ true)
 unknown_if names t None exact plain = (λ _. inl exact, λ _. refl)
 unknown_if names t (Some i) exact plain =
     (λ none. absurd (false≢true none), λ unknown. ⊎_elim (λ new. absurd (new (contains_at names i t exact))) (λ lexical. absurd (plain lexical)) unknown)

@@ -8,8 +8,9 @@ use Rattle.sx_grammar.specs.declared.symbol.Symbol.TheVariants.{Lit, Lex, Part}
 use Rattle.sx_grammar.specs.declared.sort_line.SortLine.{SortLine}
 use Rattle.sx_grammar.specs.Grammar as plain
 use Rattle.sx_grammar.specs.Grammar.{Text, Production, part, pair_of, HasLevels}
-use Rattle.sx_grammar.specs.Parts.{Line, Parts, names, sorts_named, number_of, symbol_sorts, numbered, numbered_symbol, numbered_line, numbered_sort}
-use Rattle.sx_grammar.specs.Made.{IsGrammar, HasNone, IsUnknown, LacksBrackets}
+use Rattle.sx_grammar.specs.Parts.{Line, Parts, names, sorts_named, number_of, symbol_sorts}
+use Rattle.sx_grammar.specs.Parts.{numbered, numbered_symbol, numbered_line, numbered_sort}
+use Rattle.sx_grammar.specs.Made.{IsGrammar, HasNone, IsUnknownSort, LacksBrackets}
 use Rattle.sx_grammar.specs.Print.{BracketsWhereAsked}
 use Rattle.sx_grammar.specs.Tables.{HasGoodLevels}
 
@@ -31,11 +32,11 @@ levels_asked p good label r place sort least at here =
     good.asked line.0 named.0 least (at_contains p.productions label line.0 line.1) (at_contains line.0.symbols place (Part named.0 least) (symbol.1 ∙ ap Some named.1))
 
 -- a sort that a production names is at its number among the names
-pub own_place : (p : Parts) → HasNone (IsUnknown (names p)) (sorts_named p) → (r : Line) → Contains p.productions r → slice_get (names p) (number_of (names p) r.sort) ≡ Some r.sort
+pub own_place : (p : Parts) → HasNone (IsUnknownSort (names p)) (sorts_named p) → (r : Line) → Contains p.productions r → slice_get (names p) (number_of (names p) r.sort) ≡ Some r.sort
 own_place p known r has = named_at (names p) r.sort
     (λ new. known r.sort (in_flat_map (λ q. q.sort ∷ flat_map symbol_sorts q.symbols) p.productions r r.sort has (is_head r.sort (flat_map symbol_sorts r.symbols))) (inl new))
 
-pub part_place : (p : Parts) → HasNone (IsUnknown (names p)) (sorts_named p) → (r : Line) (name : Text) (least : ℕ) → Contains p.productions r → Contains r.symbols (Part name least)
+pub part_place : (p : Parts) → HasNone (IsUnknownSort (names p)) (sorts_named p) → (r : Line) (name : Text) (least : ℕ) → Contains p.productions r → Contains r.symbols (Part name least)
     → slice_get (names p) (number_of (names p) name) ≡ Some name
 part_place p known r name least has part_has = named_at (names p) name
     (λ new. known name (in_flat_map (λ q. q.sort ∷ flat_map symbol_sorts q.symbols) p.productions r name has
@@ -53,7 +54,7 @@ pair_where_asked p sort s at has = go s.brackets refl
     go (Some pair) e = (record { opening = pair.0; closing = pair.1 }, there ∙ ap (option_map (λ q. record { opening = q.0; closing = q.1 })) e)
 
 -- each sort of a grammar has the brackets that are asked for
-pub brackets_asked : (p : Parts) → HasNone (IsUnknown (names p)) (sorts_named p) → HasNone (LacksBrackets p) p.sorts → BracketsWhereAsked (numbered p)
+pub brackets_asked : (p : Parts) → HasNone (IsUnknownSort (names p)) (sorts_named p) → HasNone (LacksBrackets p) p.sorts → BracketsWhereAsked (numbered p)
 brackets_asked p known brackets label r place sort least at here label' r' at' same below =
     let asks = mapped_at (numbered_line (names p)) p.productions label r at in
     let symbol = mapped_at (numbered_symbol (names p)) asks.0.symbols place (part sort least) (ap (λ q. slice_get q.symbols place) asks.2 ∙ here) in

@@ -9,10 +9,11 @@ use Rattle.sx_grammar.specs.declared.symbol.Symbol.TheVariants.{Lit, Lex, Part}
 use Rattle.sx_grammar.specs.declared.production.Production.{Production}
 use Rattle.sx_grammar.specs.declared.sort_line.SortLine.{SortLine}
 use Rattle.sx_grammar.specs.Grammar.{Text}
-use Rattle.sx_grammar.specs.Parts.{Line, Parts, line, names, literals, symbol_literals, symbol_sorts, bracket_literals}
+use Rattle.sx_grammar.specs.Parts.{Line, Parts, line, names, literals, symbol_literals}
+use Rattle.sx_grammar.specs.Parts.{symbol_sorts, bracket_literals}
 use Rattle.sx_grammar.specs.Made.{HasKnownSorts}
 use Rattle.sx_grammar.specs.Tables.{literals_of}
-use Rattle.sx_grammar.specs.Known.{IsAmong, IsKnown, IsKnownLine, IsKnownPair}
+use Rattle.sx_grammar.specs.Known.{IsTextAmong, IsKnown, IsKnownLine, IsKnownPair}
 use Rattle.sx_grammar.proofs.Finding.{at_contains, contains_place, is_head, past_head, in_flat_map}
 use Rattle.sx_grammar.proofs.DistinctLaws.{distinct_has}
 use Rattle.sx_grammar.proofs.TableLaws.{distinct_short}
@@ -45,7 +46,7 @@ line_known p rs ns texts known of same_names same_texts r has =
 
 pub pair_known : (p : Parts) (texts : List Text) → texts ≡ literals_of p → (s : SortLine) → Contains p.sorts s → IsKnownPair texts s.brackets
 pair_known p texts same s has text there =
-    subst (λ l. IsAmong l text) (sym same) (distinct_has (literals p) text
+    subst (λ l. IsTextAmong l text) (sym same) (distinct_has (literals p) text
     (Contains-append_left (flat_map (λ s. bracket_literals s.brackets) p.sorts) (flat_map (λ q. flat_map symbol_literals q.symbols) p.productions) text
     (in_flat_map (λ s. bracket_literals s.brackets) p.sorts s text has there)))
 

@@ -9,7 +9,7 @@ use Rattle.sx_grammar.specs.declared.sort_line.SortLine.{SortLine}
 use Rattle.sx_grammar.specs.Grammar.{Text}
 use Rattle.sx_grammar.specs.Parts.{numbered_pair}
 use Rattle.sx_grammar.specs.Tables.{HaveLiteralsBelow, IsNumberedPair, AreNumberedPairs}
-use Rattle.sx_grammar.specs.Known.{AreBelow}
+use Rattle.sx_grammar.specs.Known.{LiteralsAreBelow}
 use Rattle.sx_grammar.proofs.FirstLaws.{take_seam, slice_get_push}
 
 pub item_in : {X : Type 0} (xs : List X) (i : ℕ) (x : X) → i < length xs → x ≡ get_or xs i x → Contains xs x
@@ -28,10 +28,10 @@ module _ {X Y Z W : Type 0} where
       map-append f out (x ∷ []) ∙ (λ i. same i ++ here i ∷ []) ∙ sym (map-append g (map h (take n xs)) (h y ∷ []))
       ∙ ap (map g) (sym (map-append h (take n xs) (y ∷ [])) ∙ ap (map h) (sym (take_seam xs n y at)))
 
-pub below_push : (bound : ℕ) (xs : List NumberedSymbol) (x : NumberedSymbol) → AreBelow bound xs → AreBelow bound (x ∷ []) → AreBelow bound (xs ++ x ∷ [])
+pub below_push : (bound : ℕ) (xs : List NumberedSymbol) (x : NumberedSymbol) → LiteralsAreBelow bound xs → LiteralsAreBelow bound (x ∷ []) → LiteralsAreBelow bound (xs ++ x ∷ [])
 below_push bound xs x below one k n at = ⊎_elim (λ old. below k n old) (λ last. one zero n (ap Some last.1)) (slice_get_push xs x k (Lit n) at)
 
-pub lines_push : (bound : ℕ) (ps : List NumberedProduction) (q : NumberedProduction) → HaveLiteralsBelow bound ps → AreBelow bound q.symbols.items → HaveLiteralsBelow bound (ps ++ q ∷ [])
+pub lines_push : (bound : ℕ) (ps : List NumberedProduction) (q : NumberedProduction) → HaveLiteralsBelow bound ps → LiteralsAreBelow bound q.symbols.items → HaveLiteralsBelow bound (ps ++ q ∷ [])
 lines_push bound ps q below one label p k n at here = ⊎_elim
     (λ old. below label p k n old here)
     (λ last. one k n (subst (λ r. slice_get r.symbols.items k ≡ Some (Lit n)) (sym last.1) here))

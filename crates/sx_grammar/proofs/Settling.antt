@@ -10,8 +10,10 @@ use Rattle.std.proofs.lemmas.Option.{slice_get_within, slice_get-get_or, get_or_
 use Rattle.sx_grammar.specs.declared.rule.Rule.{Rule}
 use Rattle.sx_grammar.specs.declared.progress.Waiting.{Waiting}
 use Rattle.sx_grammar.specs.declared.progress.Progress.{Progress}
-use Rattle.sx_grammar.specs.Ranks.{rank_in, HasRank, AreRankedTo, IsComplete, HasRanksBelow, waiting_at, IsBlank, IsLearnt, IsPut, IsTaken}
-use Rattle.sx_grammar.specs.Settled.{IsWaiting, IsSound, IsSoundAt, IsSettled, Keeps, Settles, SettlesTo, Goes}
+use Rattle.sx_grammar.specs.Ranks.{rank_in, HasRank, AreRankedTo, IsComplete, HasRanksBelow}
+use Rattle.sx_grammar.specs.Ranks.{waiting_at, IsBlank, IsLearnt, IsWaitingPut, IsWaitingTaken}
+use Rattle.sx_grammar.specs.Settled.{IsWaiting, IsSound, IsSoundAt, IsSettled, Keeps, Settles}
+use Rattle.sx_grammar.specs.Settled.{SettlesTo, Goes}
 use Rattle.sx_grammar.proofs.Stepping.{same_at}
 use Rattle.sx_grammar.proofs.Places.{got_push, got_kept, got_last}
 
@@ -113,7 +115,7 @@ learn_settles rules old new i r h at all within (same, inr news) = record {
 
 -- a rule waits for a number without a rank
 pub put_settles : (rules : List Rule) (old new : Progress) (i number place : ℕ) (r : Rule) → IsSoundAt rules old → slice_get rules i ≡ Some r → slice_get r.needs.items place ≡ Some number
-    → AreRankedTo old.ranks.items r.needs.items place → ¬ (HasRank old.ranks.items number) → IsPut old new number (record { rule = i; place = place }) → Settles rules i old new
+    → AreRankedTo old.ranks.items r.needs.items place → ¬ (HasRank old.ranks.items number) → IsWaitingPut old new number (record { rule = i; place = place }) → Settles rules i old new
 put_settles rules old new i number place r h at need before none put =
     let here : Waiting = record { rule = i; place = place } in
     let stay : (x : ℕ) (w : Waiting) → Contains (waiting_at old.waiting.items x) w → Contains (waiting_at new.waiting.items x) w =
@@ -204,7 +206,7 @@ goes_first rules p h = record {
 }
 
 -- with a rule less that waits, rules still wait for what they need
-pub taken_sound : (rules : List Rule) (old new : Progress) (number : ℕ) (w : Waiting) → IsSoundAt rules old → IsTaken old new number (Some w) → IsSoundAt rules new
+pub taken_sound : (rules : List Rule) (old new : Progress) (number : ℕ) (w : Waiting) → IsSoundAt rules old → IsWaitingTaken old new number (Some w) → IsSoundAt rules new
 taken_sound rules old new number w h taken =
     sound_by rules old.ranks.items new.ranks.items old.order.items new.order.items new.waiting.items new.waiting.items taken.0.ranks taken.0.order refl (record {
       ordered = h.ordered;
@@ -220,11 +222,11 @@ taken_sound rules old new number w h taken =
     })
 
 -- the rule that was taken waited
-pub taken_waits : (rules : List Rule) (old new : Progress) (number : ℕ) (w : Waiting) → IsSoundAt rules old → IsTaken old new number (Some w) → IsWaiting rules old.ranks.items number w
+pub taken_waits : (rules : List Rule) (old new : Progress) (number : ℕ) (w : Waiting) → IsSoundAt rules old → IsWaitingTaken old new number (Some w) → IsWaiting rules old.ranks.items number w
 taken_waits rules old new number w h taken = h.waits number w (subst (λ l. Contains l w) (sym taken.1) (Contains-push (waiting_at new.waiting.items number) w))
 
 -- rules stay settled where one is taken and settled
-settled_taken : (rules : List Rule) (old middle new : Progress) (number i : ℕ) (w : Waiting) → IsTaken old middle number (Some w) → Settles rules w.rule middle new
+settled_taken : (rules : List Rule) (old middle new : Progress) (number i : ℕ) (w : Waiting) → IsWaitingTaken old middle number (Some w) → Settles rules w.rule middle new
     → IsSettled rules old.ranks.items old.waiting.items i → IsSettled rules new.ranks.items new.waiting.items i
 settled_taken rules old middle new number i w taken step is r at = by_cases (is r at)
   where
@@ -242,7 +244,7 @@ settled_taken rules old middle new number i w taken step is r at = by_cases (is 
     by_cases (inr waits) = waits_on waits.0 waits.1 waits.2 waits.3 (cases_eq waits.0 number)
 
 -- a rule is taken and settled
-pub goes_more : (rules : List Rule) (start old middle new : Progress) (number : ℕ) (w : Waiting) → HasRank start.ranks.items number → Goes rules start old → IsTaken old middle number (Some w)
+pub goes_more : (rules : List Rule) (start old middle new : Progress) (number : ℕ) (w : Waiting) → HasRank start.ranks.items number → Goes rules start old → IsWaitingTaken old middle number (Some w)
     → Settles rules w.rule middle new → Goes rules start new
 goes_more rules start old middle new number w has before taken step = record {
   sound = step.sound;
@@ -259,14 +261,14 @@ goes_more rules start old middle new number w has before taken step = record {
 }
 
 -- the rules that wait for the number get fewer
-pub fewer_wait : (rules : List Rule) (start old middle new : Progress) (number : ℕ) (w : Waiting) → HasRank start.ranks.items number → Goes rules start old → IsTaken old middle number (Some w)
+pub fewer_wait : (rules : List Rule) (start old middle new : Progress) (number : ℕ) (w : Waiting) → HasRank start.ranks.items number → Goes rules start old → IsWaitingTaken old middle number (Some w)
     → Settles rules w.rule middle new → length (waiting_at new.waiting.items number) < length (waiting_at old.waiting.items number)
 fewer_wait rules start old middle new number w has before taken step =
     let same = ap length (step.same number (has.0, ap (λ l. rank_in l number) taken.0.ranks ∙ before.kept number has.0 has.1)) in
     omega (arith, same, ap length taken.1, length-append (waiting_at middle.waiting.items number) (w ∷ []))
 
 -- what the rule that was taken needs before has ranks
-pub taken_place : (rules : List Rule) (old new : Progress) (number : ℕ) (w : Waiting) → IsSoundAt rules old → IsTaken old new number (Some w)
+pub taken_place : (rules : List Rule) (old new : Progress) (number : ℕ) (w : Waiting) → IsSoundAt rules old → IsWaitingTaken old new number (Some w)
     → (r : Rule) → slice_get rules w.rule ≡ Some r → AreRankedTo new.ranks.items r.needs.items w.place
 taken_place rules old new number w h taken r at =
     let waits = taken_waits rules old new number w h taken in
@@ -275,7 +277,7 @@ taken_place rules old new number w h taken r at =
     (ranked_on old.ranks.items new.ranks.items waits.0.needs.items w.place (λ x n e. ap (λ l. rank_in l x) taken.0.ranks ∙ e) waits.3)
 
 -- none was left to take
-pub goes_last : (rules : List Rule) (start old new : Progress) (number : ℕ) → Goes rules start old → IsTaken old new number None → Goes rules start new
+pub goes_last : (rules : List Rule) (start old new : Progress) (number : ℕ) → Goes rules start old → IsWaitingTaken old new number None → Goes rules start new
 goes_last rules start old new number before taken =
     let lists : (x : ℕ) → waiting_at new.waiting.items x ≡ waiting_at old.waiting.items x =
     λ x. elim (cases_eq x number) [

@@ -6,7 +6,7 @@ use Rattle.std.proofs.lemmas.Bool.{cases_lt}
 use Rattle.sx_grammar.specs.declared.numbered.NumberedSymbol.{NumberedSymbol}
 use Rattle.sx_grammar.specs.declared.numbered.NumberedProduction.{NumberedProduction}
 use Rattle.sx_grammar.specs.declared.numbered.NumberedSymbol.TheVariants.{Part}
-use Rattle.sx_grammar.specs.Cycles.{list_at, unmarked, IsOpen, IsTarget, HasStep}
+use Rattle.sx_grammar.specs.Cycles.{list_at, unmarked, IsPartOpen, IsTarget, HasStep}
 
 -- the same element at a place
 pub same_at : {X : Type 0} (xs : List X) (i j : ℕ) (x y : X) → i ≡ j → slice_get xs i ≡ Some x → slice_get xs j ≡ Some y → x ≡ y
@@ -18,30 +18,30 @@ same_at xs i j x y e at there =
 pub record FiledBefore (marks : List Bool) (count sort : ℕ) (symbols : List NumberedSymbol) (old new : List (Vec ℕ Global)) (n : ℕ) : Type 0 where
   pub same : length new ≡ length old
   pub kept : (p x : ℕ) → Contains (list_at old p) x → Contains (list_at new p) x
-  pub only : (p x : ℕ) → Contains (list_at new p) x → Contains (list_at old p) x ⊎ ((p ≡ sort) × ((k : ℕ) × (s : NumberedSymbol) × (slice_get symbols k ≡ Some s) × IsOpen marks count s x))
-  pub all : (k x : ℕ) (s : NumberedSymbol) → k < n → slice_get symbols k ≡ Some s → IsOpen marks count s x → Contains (list_at new sort) x
+  pub only : (p x : ℕ) → Contains (list_at new p) x → Contains (list_at old p) x ⊎ ((p ≡ sort) × ((k : ℕ) × (s : NumberedSymbol) × (slice_get symbols k ≡ Some s) × IsPartOpen marks count s x))
+  pub all : (k x : ℕ) (s : NumberedSymbol) → k < n → slice_get symbols k ≡ Some s → IsPartOpen marks count s x → Contains (list_at new sort) x
 
 pub filed_more : (marks : List Bool) (count sort n item : ℕ) (symbols : List NumberedSymbol) (old new later : List (Vec ℕ Global)) (s : NumberedSymbol)
-    → FiledBefore marks count sort symbols old new n → slice_get symbols n ≡ Some s → IsOpen marks count s item
+    → FiledBefore marks count sort symbols old new n → slice_get symbols n ≡ Some s → IsPartOpen marks count s item
     → length later ≡ length new → Contains (list_at later sort) item
     → ((p x : ℕ) → Contains (list_at new p) x → Contains (list_at later p) x)
     → ((p x : ℕ) → Contains (list_at later p) x → Contains (list_at new p) x ⊎ ((p ≡ sort) × (x ≡ item)))
-    → ((x : ℕ) → IsOpen marks count s x → x ≡ item)
+    → ((x : ℕ) → IsPartOpen marks count s x → x ≡ item)
     → FiledBefore marks count sort symbols old later (n + 1)
 filed_more marks count sort n item symbols old new later s before at is same there kept only one = record {
   same = same ∙ before.same;
   kept = λ p x has. kept p x (before.kept p x has);
-  only = λ p x has. ⊎_elim (λ was. before.only p x was) (λ e. inr (e.0, (n, s, at, subst (IsOpen marks count s) (sym e.1) is))) (only p x has);
+  only = λ p x has. ⊎_elim (λ was. before.only p x was) (λ e. inr (e.0, (n, s, at, subst (IsPartOpen marks count s) (sym e.1) is))) (only p x has);
   all = λ k x r lt here this. elim (cases_lt k n) [
     | inl below ↦ kept sort x (before.all k x r below here this)
     | inr above ↦ (
         let same : r ≡ s = same_at symbols k n r s (omega (arith, lt, above)) here at in
-        subst (λ x. Contains (list_at later sort) x) (sym (one x (subst (λ r. IsOpen marks count r x) same this))) there)
+        subst (λ x. Contains (list_at later sort) x) (sym (one x (subst (λ r. IsPartOpen marks count r x) same this))) there)
   ];
 }
 
 pub filed_kept : (marks : List Bool) (count sort n : ℕ) (symbols : List NumberedSymbol) (old new : List (Vec ℕ Global)) (s : NumberedSymbol)
-    → FiledBefore marks count sort symbols old new n → slice_get symbols n ≡ Some s → ((x : ℕ) → ¬ (IsOpen marks count s x)) → FiledBefore marks count sort symbols old new (n + 1)
+    → FiledBefore marks count sort symbols old new n → slice_get symbols n ≡ Some s → ((x : ℕ) → ¬ (IsPartOpen marks count s x)) → FiledBefore marks count sort symbols old new (n + 1)
 filed_kept marks count sort n symbols old new s before at none = record {
   same = before.same;
   kept = before.kept;
@@ -50,7 +50,7 @@ filed_kept marks count sort n symbols old new s before at none = record {
     | inl below ↦ before.all k x r below here this
     | inr above ↦ (
         let same : r ≡ s = same_at symbols k n r s (omega (arith, lt, above)) here at in
-        absurd (none x (subst (λ r. IsOpen marks count r x) same this)))
+        absurd (none x (subst (λ r. IsPartOpen marks count r x) same this)))
   ];
 }
 
@@ -79,21 +79,21 @@ steps_more marks ps sorts n lists later q before at same kept only all = record 
 }
 
 -- a symbol is a part of one sort
-pub one_sort : (marks : List Bool) (count item x : ℕ) (s : NumberedSymbol) → IsOpen marks count s item → IsOpen marks count s x → x ≡ item
+pub one_sort : (marks : List Bool) (count item x : ℕ) (s : NumberedSymbol) → IsPartOpen marks count s item → IsPartOpen marks count s x → x ≡ item
 one_sort marks count item x s is other =
     let same : Part item is.0 ≡ Part x other.0 = sym is.1 ∙ other.1 in
     cc
 
 -- a part among the symbols that were seen is a target, and the other way round
 pub target_of : (marks : List Bool) (count x : ℕ) (seen symbols : List NumberedSymbol) → seen ≡ symbols → count ≡ unmarked marks symbols
-    → (k : ℕ) × (s : NumberedSymbol) × (slice_get seen k ≡ Some s) × IsOpen marks count s x → IsTarget marks symbols x
+    → (k : ℕ) × (s : NumberedSymbol) × (slice_get seen k ≡ Some s) × IsPartOpen marks count s x → IsTarget marks symbols x
 target_of marks count x seen symbols e size is =
-    (is.0, is.1, ap (λ t. slice_get t is.0) (sym e) ∙ is.2, subst (λ n. IsOpen marks n is.1 x) size is.3)
+    (is.0, is.1, ap (λ t. slice_get t is.0) (sym e) ∙ is.2, subst (λ n. IsPartOpen marks n is.1 x) size is.3)
 
 pub target_seen : (marks : List Bool) (count x : ℕ) (seen symbols : List NumberedSymbol) → seen ≡ symbols → count ≡ unmarked marks symbols → IsTarget marks symbols x
-    → (k : ℕ) × (s : NumberedSymbol) × (slice_get seen k ≡ Some s) × IsOpen marks count s x
+    → (k : ℕ) × (s : NumberedSymbol) × (slice_get seen k ≡ Some s) × IsPartOpen marks count s x
 target_seen marks count x seen symbols e size is =
-    (is.0, is.1, ap (λ t. slice_get t is.0) e ∙ is.2, subst (λ n. IsOpen marks n is.1 x) (sym size) is.3)
+    (is.0, is.1, ap (λ t. slice_get t is.0) e ∙ is.2, subst (λ n. IsPartOpen marks n is.1 x) (sym size) is.3)
 
 -- one more list without elements
 pub none_push : (lists : List (Vec ℕ Global)) (v : Vec ℕ Global) → v.items ≡ [] → ((p x : ℕ) → Contains (list_at lists p) x → ⊥) → (p x : ℕ) → Contains (list_at (lists ++ v ∷ []) p) x → ⊥

@@ -11,8 +11,9 @@ use Rattle.sx_term.specs.Cutting.{AreDistinct}
 use Rattle.sx_grammar.specs.Grammar.{Text, Symbol, literal, lexical, part, Production}
 use Rattle.sx_grammar.specs.Cyclic.{Vanishes, no_symbols, empty_part, StepsTo}
 use Rattle.sx_grammar.specs.Order.{AreRanks, rank_at}
-use Rattle.sx_grammar.specs.Parts.{Line, Parts, line, names, numbered, numbered_symbol, numbered_line}
-use Rattle.sx_grammar.specs.Extended.{grown, listed, is_token, LacksTokens, Grows}
+use Rattle.sx_grammar.specs.Parts.{Line, Parts, line, names, numbered, numbered_symbol}
+use Rattle.sx_grammar.specs.Parts.{numbered_line}
+use Rattle.sx_grammar.specs.Extended.{grown, listed_sort, is_token, LacksTokens, GrammarGrows}
 use Rattle.sx_grammar.specs.Made.{HasNone, HasKnownSorts, MixesSorts}
 use Rattle.sx_grammar.proofs.Finding.{at_contains, mapped_at}
 use Rattle.sx_grammar.proofs.Widening.{got_cases, productions_grown, mixed_before}
@@ -79,20 +80,20 @@ rank_pushed (n ∷ ranks) zero = refl
 rank_pushed (n ∷ ranks) (suc sort) = rank_pushed ranks sort
 
 -- the ranks stay
-pub ranks_kept : (p : Parts) (more : List Line) (whole : Parts) → Grows p more whole → HasKnownSorts p → HasNone LacksTokens more → (ranks all : List ℕ) → ((sort : ℕ) → rank_at all sort ≡ rank_at ranks sort) → AreRanks (numbered p) ranks
+pub ranks_kept : (p : Parts) (more : List Line) (whole : Parts) → GrammarGrows p more whole → HasKnownSorts p → HasNone LacksTokens more → (ranks all : List ℕ) → ((sort : ℕ) → rank_at all sort ≡ rank_at ranks sort) → AreRanks (numbered p) ranks
     → AreRanks (numbered whole) all
 ranks_kept p more whole grows known none ranks all same are = subst (λ (w : Parts). AreRanks (numbered w) all) (sym grows.is) (
   λ sort other step.
-      let less = are.0 sort other (step_kept p (listed grows.sort) more known none sort other step) in
+      let less = are.0 sort other (step_kept p (listed_sort grows.sort) more known none sort other step) in
       omega (arith, less, same sort, same other),
   λ sort. let low = are.1 sort in omega (arith, low, same sort),
 )
 
 -- none of the productions of the grammar is plain and has a typed part
-pub none_mixed : (p : Parts) (more : List Line) (whole : Parts) → Grows p more whole → HasKnownSorts p → AreDistinct (names whole) → (own : List NamedProduction) (n : ℕ) → p.productions ≡ map line own → n ≡ length own
+pub none_mixed : (p : Parts) (more : List Line) (whole : Parts) → GrammarGrows p more whole → HasKnownSorts p → AreDistinct (names whole) → (own : List NamedProduction) (n : ℕ) → p.productions ≡ map line own → n ≡ length own
     → HasNone (MixesSorts p) p.productions → HasNone (MixesSorts whole) (take n whole.productions)
 none_mixed p more whole grows known apart own n of count none =
-    let new = listed grows.sort in
+    let new = listed_sort grows.sort in
     let front : take n (p.productions ++ more) ≡ p.productions = take_at p.productions more n (ap length of ∙ length-map own line ∙ sym count) in
     subst (λ (w : Parts). HasNone (MixesSorts w) (take n w.productions)) (sym grows.is)
     (subst (HasNone (MixesSorts (grown p new more))) (sym front)

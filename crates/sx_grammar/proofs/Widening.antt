@@ -1,6 +1,7 @@
 -- The sorts and productions of a grammar, where sorts and productions stand behind them.
 use Rattle.std.proofs.Common.{IsTrue, ◌↔◌, ◌≡◌, ℕ, zero, suc, ◌+◌, ◌<◌, ◌≤◌, Bool, true, false, cond, List, [], ◌∷◌, ◌++◌, length, length-append, map, Some, sym, refl, ap, ◌∙◌, subst, arith, Contains, ◌⊎◌, inl, inr, ⊎_elim}
-use Rattle.std.specs.Prelude.{Option, None, is_some, MatchOption, slice_get, option_map, unwrap_or, not, flat_map}
+use Rattle.std.specs.Prelude.{Option, None, is_some, MatchOption, slice_get, option_map, unwrap_or}
+use Rattle.std.specs.Prelude.{not, flat_map}
 use Rattle.std.specs.Str.{bytes_eq}
 use Rattle.std.specs.List.{position_or_len}
 use Rattle.std.proofs.lemmas.Option.{slice_get_within, slice_get-map}
@@ -13,10 +14,12 @@ use Rattle.sx_grammar.specs.declared.symbol.Symbol.TheVariants.{Lit, Lex, Part}
 use Rattle.sx_grammar.specs.declared.sort_line.SortLine.{SortLine}
 use Rattle.sx_grammar.specs.Grammar as plain
 use Rattle.sx_grammar.specs.Grammar.{Text}
-use Rattle.sx_grammar.specs.Parts.{Line, Parts, names, literals, number_of, symbol_sorts, bracket_literals, symbol_literals, numbered, numbered_symbol, numbered_line}
+use Rattle.sx_grammar.specs.Parts.{Line, Parts, names, literals, number_of, symbol_sorts}
+use Rattle.sx_grammar.specs.Parts.{bracket_literals, symbol_literals, numbered, numbered_symbol}
+use Rattle.sx_grammar.specs.Parts.{numbered_line}
 use Rattle.sx_grammar.specs.Standing.{sorts_in}
-use Rattle.sx_grammar.specs.Extended.{extended, grown, listed, LacksPair, Grows}
-use Rattle.sx_grammar.specs.Made.{HasNone, HasKnownSorts, IsUnknown, IsTyped, MixesSorts}
+use Rattle.sx_grammar.specs.Extended.{extended, grown, listed_sort, LacksPair, GrammarGrows}
+use Rattle.sx_grammar.specs.Made.{HasNone, HasKnownSorts, IsUnknownSort, IsTyped, MixesSorts}
 use Rattle.sx_grammar.proofs.Finding.{named_at, contains_place, at_contains, is_head, past_head, in_flat_map}
 
 module _ {X : Type 0} where
@@ -72,7 +75,7 @@ number_stays xs ys name known =
     number_is (xs ++ ys) name more ∙ same ∙ sym (number_is xs name lt)
 
 -- what is known among the names keeps its numbers
-symbols_stay : (ns ms : List Text) (ss : List Symbol) → HasNone (IsUnknown ns) (flat_map symbol_sorts ss) → map (numbered_symbol (ns ++ ms)) ss ≡ map (numbered_symbol ns) ss
+symbols_stay : (ns ms : List Text) (ss : List Symbol) → HasNone (IsUnknownSort ns) (flat_map symbol_sorts ss) → map (numbered_symbol (ns ++ ms)) ss ≡ map (numbered_symbol ns) ss
 symbols_stay ns ms [] known = refl
 symbols_stay ns ms (Lit text ∷ ss) known = ap (λ l. plain.literal text ∷ l) (symbols_stay ns ms ss known)
 symbols_stay ns ms (Lex kind ∷ ss) known = ap (λ l. plain.lexical kind ∷ l) (symbols_stay ns ms ss known)
@@ -81,13 +84,13 @@ symbols_stay ns ms (Part name least ∷ ss) known =
     let rest = symbols_stay ns ms ss (λ x has. known x (past_head name (flat_map symbol_sorts ss) x has)) in
     λ i. plain.part (here i) least ∷ rest i
 
-line_stays : (ns ms : List Text) (r : Line) → HasNone (IsUnknown ns) (r.sort ∷ flat_map symbol_sorts r.symbols) → numbered_line (ns ++ ms) r ≡ numbered_line ns r
+line_stays : (ns ms : List Text) (r : Line) → HasNone (IsUnknownSort ns) (r.sort ∷ flat_map symbol_sorts r.symbols) → numbered_line (ns ++ ms) r ≡ numbered_line ns r
 line_stays ns ms r known =
     let own = number_stays ns ms r.sort (λ new. known r.sort (is_head r.sort (flat_map symbol_sorts r.symbols)) (inl new)) in
     let symbols = symbols_stay ns ms r.symbols (λ x has. known x (past_head r.sort (flat_map symbol_sorts r.symbols) x has)) in
     λ i. record { sort = own i; level = r.level; symbols = symbols i }
 
-lines_stay : (ns ms : List Text) (rs : List Line) → HasNone (IsUnknown ns) (sorts_in rs) → map (numbered_line (ns ++ ms)) rs ≡ map (numbered_line ns) rs
+lines_stay : (ns ms : List Text) (rs : List Line) → HasNone (IsUnknownSort ns) (sorts_in rs) → map (numbered_line (ns ++ ms)) rs ≡ map (numbered_line ns) rs
 lines_stay ns ms [] known = refl
 lines_stay ns ms (r ∷ rs) known =
     let own = r.sort ∷ flat_map symbol_sorts r.symbols in
@@ -117,7 +120,7 @@ module _ (p : Parts) (new : List SortLine) (more : List Line) where
       ∙ ap (λ l. l ++ map (numbered_line (names (grown p new more))) more) (lines_kept known)
 
   -- a name that was known is still known
-  pub still_known : (xs : List Text) → HasNone (IsUnknown (names p)) xs → HasNone (IsUnknown (names (grown p new more))) xs
+  pub still_known : (xs : List Text) → HasNone (IsUnknownSort (names p)) xs → HasNone (IsUnknownSort (names (grown p new more))) xs
   still_known xs known x has unknown = known x has (⊎_elim
       (λ missing. inl (λ there. missing (subst (λ ns. Contains ns x) (sym names_grown) (Contains-append_left (names p) (map (λ s. s.name) new) x there))))
       (λ lexical. inr lexical)
@@ -148,7 +151,7 @@ module _ (p : Parts) (new : List SortLine) (more : List Line) where
       (typed_before apart r.sort false own mixed.0, (name, least, mixed.1.2, typed_before apart name true part mixed.1.3))
 
 -- a sort without brackets has no literals
-literals_listed : (p : Parts) (more : List Line) (sort : Option SortLine) → LacksPair sort → literals (grown p (listed sort) more) ≡ literals (extended p more)
+literals_listed : (p : Parts) (more : List Line) (sort : Option SortLine) → LacksPair sort → literals (grown p (listed_sort sort) more) ≡ literals (extended p more)
 literals_listed p more None lacks = ap (λ ss. literals (record { sorts = ss; productions = p.productions ++ more })) (append-nil p.sorts)
 literals_listed p more (Some s) lacks = ap (λ l. l ++ flat_map (λ r. flat_map symbol_literals r.symbols) (p.productions ++ more)) (pairless p.sorts)
   where
@@ -156,22 +159,22 @@ literals_listed p more (Some s) lacks = ap (λ l. l ++ flat_map (λ r. flat_map 
     pairless [] = ap (λ b. bracket_literals b ++ []) lacks
     pairless (q ∷ ss) = ap (λ l. bracket_literals q.brackets ++ l) (pairless ss)
 
-pub literals_grown : (p : Parts) (more : List Line) (whole : Parts) → Grows p more whole → literals whole ≡ literals (extended p more)
+pub literals_grown : (p : Parts) (more : List Line) (whole : Parts) → GrammarGrows p more whole → literals whole ≡ literals (extended p more)
 literals_grown p more whole grows = ap literals grows.is ∙ literals_listed p more grows.sort grows.plain
 
 pub extended_is : (p : Parts) (more : List Line) → extended p more ≡ grown p [] more
 extended_is p more = λ i. record { sorts = sym (append-nil p.sorts) i; productions = p.productions ++ more }
 
 -- what stands behind the sorts of the grammar
-pub sort_behind : (ss : List SortLine) (sort : Option SortLine) → slice_get (ss ++ listed sort) (length ss) ≡ sort
+pub sort_behind : (ss : List SortLine) (sort : Option SortLine) → slice_get (ss ++ listed_sort sort) (length ss) ≡ sort
 sort_behind ss None = got_behind ss [] (length ss) 0 (omega arith)
 sort_behind ss (Some s) = got_behind ss (s ∷ []) (length ss) 0 (omega arith)
 
-pub sort_is : (p : Parts) (more : List Line) (whole : Parts) (sort : Option SortLine) (n : ℕ) (s : SortLine) → whole ≡ grown p (listed sort) more → n ≡ length p.sorts → slice_get whole.sorts n ≡ Some s → sort ≡ Some s
+pub sort_is : (p : Parts) (more : List Line) (whole : Parts) (sort : Option SortLine) (n : ℕ) (s : SortLine) → whole ≡ grown p (listed_sort sort) more → n ≡ length p.sorts → slice_get whole.sorts n ≡ Some s → sort ≡ Some s
 sort_is p more whole sort n s is count at =
-    sym (sort_behind p.sorts sort) ∙ ap (slice_get (p.sorts ++ listed sort)) (sym count) ∙ ap (λ (w : Parts). slice_get w.sorts n) (sym is) ∙ at
+    sym (sort_behind p.sorts sort) ∙ ap (slice_get (p.sorts ++ listed_sort sort)) (sym count) ∙ ap (λ (w : Parts). slice_get w.sorts n) (sym is) ∙ at
 
-pub sort_is_none : (p : Parts) (more : List Line) (whole : Parts) (sort : Option SortLine) → whole ≡ grown p (listed sort) more → length whole.sorts ≤ length p.sorts → sort ≡ None
+pub sort_is_none : (p : Parts) (more : List Line) (whole : Parts) (sort : Option SortLine) → whole ≡ grown p (listed_sort sort) more → length whole.sorts ≤ length p.sorts → sort ≡ None
 sort_is_none p more whole None is few = refl
 sort_is_none p more whole (Some s) is few = absurd (omega (arith, few, ap (λ (w : Parts). length w.sorts) is, length-append p.sorts (s ∷ [])))
 
@@ -180,9 +183,9 @@ pub no_more : (n m : ℕ) (more : Bool) → (IsTrue more ↔ (n < m)) → more �
 no_more n m more same is = ⊎_elim (λ lt. absurd (false≢true (sym is ∙ same.1 lt))) (λ le. le) (cases_lt n m)
 
 -- the names of all sorts
-pub names_listed : (p : Parts) (more : List Line) (whole : Parts) (sort other : Option SortLine) → whole ≡ grown p (listed sort) more → sort ≡ other → names whole ≡ names p ++ map (λ s. s.name) (listed other)
+pub names_listed : (p : Parts) (more : List Line) (whole : Parts) (sort other : Option SortLine) → whole ≡ grown p (listed_sort sort) more → sort ≡ other → names whole ≡ names p ++ map (λ s. s.name) (listed_sort other)
 names_listed p more whole sort other is same =
-    ap names is ∙ names_grown p (listed sort) more ∙ ap (λ (o : Option SortLine). names p ++ map (λ s. s.name) (listed o)) same
+    ap names is ∙ names_grown p (listed_sort sort) more ∙ ap (λ (o : Option SortLine). names p ++ map (λ s. s.name) (listed_sort o)) same
 
 pub match_weaker : {X : Type 0} (r : Option X) (U : Type 0) (P Q : X → Type 0) → ((x : X) → P x → Q x) → MatchOption r U P → MatchOption r U Q
 match_weaker None U P Q on h = h

@@ -56,14 +56,14 @@ list_at (v ∷ vs) (suc place) = list_at vs place
 
 -- the symbol is a part of the sort, and all other symbols are parts of marked sorts, where so many
 -- symbols are not
-abbrev pub IsOpen : List Bool → ℕ → NumberedSymbol → ℕ → Type 0
-IsOpen marks count s sort = (least : ℕ) × (s ≡ Part sort least) ×
+abbrev pub IsPartOpen : List Bool → ℕ → NumberedSymbol → ℕ → Type 0
+IsPartOpen marks count s sort = (least : ℕ) × (s ≡ Part sort least) ×
     (count ≡ unmarked marks (Part sort least ∷ []))
 
 -- a symbol is a part of the sort, and all others are parts of marked sorts
 abbrev pub IsTarget : List Bool → List NumberedSymbol → ℕ → Type 0
 IsTarget marks symbols sort = (k : ℕ) × (s : NumberedSymbol) × (slice_get symbols k ≡ Some s) ×
-    IsOpen marks (unmarked marks symbols) s sort
+    IsPartOpen marks (unmarked marks symbols) s sort
 
 -- a production of the sort leads to the other sort, where these sorts are marked
 abbrev pub HasStep : List Bool → List NumberedProduction → (sort other : ℕ) → Type 0

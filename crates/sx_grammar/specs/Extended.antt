@@ -8,7 +8,7 @@ use Rattle.sx_grammar.specs.declared.sort_line.SortLine.{SortLine}
 use Rattle.sx_grammar.specs.declared.grammar_error.GrammarError.{GrammarError}
 use Rattle.sx_grammar.specs.Parts.{Line, Parts}
 use Rattle.sx_grammar.specs.Tables.{GrammarData}
-use Rattle.sx_grammar.specs.Made.{IsGrammar, IsRefused}
+use Rattle.sx_grammar.specs.Made.{IsGrammar, IsGrammarRefused}
 
 -- the parts with more productions behind theirs
 abbrev pub extended : Parts → List Line → Parts
@@ -23,9 +23,9 @@ abbrev pub widened : Parts → SortLine → List Line → Parts
 widened p sort more = grown p (sort ∷ []) more
 
 -- the one sort, or none
-abbrev pub listed : Option SortLine → List SortLine
-listed None = []
-listed (Some sort) = sort ∷ []
+abbrev pub listed_sort : Option SortLine → List SortLine
+listed_sort None = []
+listed_sort (Some sort) = sort ∷ []
 
 -- the one sort, where there is one, has no brackets
 abbrev pub LacksPair : Option SortLine → Type 0
@@ -39,10 +39,10 @@ blank false = []
 
 -- the parts are these with more productions behind theirs, and with one sort, which has no
 -- brackets, or none
-pub record Grows (p : Parts) (more : List Line) (whole : Parts) : Type 0 where
+pub record GrammarGrows (p : Parts) (more : List Line) (whole : Parts) : Type 0 where
   pub sort : Option SortLine
   pub plain : LacksPair sort
-  pub is : whole ≡ grown p (listed sort) more
+  pub is : whole ≡ grown p (listed_sort sort) more
 
 -- whether the symbol is a literal or a lexical kind
 abbrev pub is_token : Symbol → Bool
@@ -59,4 +59,4 @@ LacksTokens r = list_any is_token r.symbols ≡ false
 abbrev pub IsExtended : GrammarData → List Line → Result GrammarData GrammarError → Type 0
 IsExtended base more (Ok g) = (g ≡ record { parts = extended base.parts more; base = base.base }) ×
     IsGrammar (extended base.parts more)
-IsExtended base more (Err e) = IsRefused (extended base.parts more) e
+IsExtended base more (Err e) = IsGrammarRefused (extended base.parts more) e

@@ -9,25 +9,25 @@ use Rattle.sx_grammar.specs.Grammar.{Text}
 use Rattle.sx_grammar.specs.Parts.{bracket_literals}
 
 -- the text is among the texts
-abbrev pub IsAmong : List Text → Text → Type 0
-IsAmong all text = ¬ (¬ (Contains all text))
+abbrev pub IsTextAmong : List Text → Text → Type 0
+IsTextAmong all text = ¬ (¬ (Contains all text))
 
 -- the symbol's sort is among the names, and its literal among the literals
 abbrev pub IsKnown : (names literals : List Text) → Symbol → Type 0
-IsKnown names literals (Lit text) = IsAmong literals text
+IsKnown names literals (Lit text) = IsTextAmong literals text
 IsKnown names literals (Lex kind) = Unit {0}
-IsKnown names literals (Part name least) = IsAmong names name
+IsKnown names literals (Part name least) = IsTextAmong names name
 
 -- so it is of the production's sort and of all its symbols
 abbrev pub IsKnownLine : (names literals : List Text) → Production → Type 0
-IsKnownLine names literals p = IsAmong names p.sort ×
+IsKnownLine names literals p = IsTextAmong names p.sort ×
     ((s : Symbol) → Contains p.symbols.items s → IsKnown names literals s)
 
 -- the brackets are among the literals
 abbrev pub IsKnownPair : List Text → Option (Text × Text) → Type 0
 IsKnownPair literals pair = (text : Text) → Contains (bracket_literals pair) text →
-    IsAmong literals text
+    IsTextAmong literals text
 
 -- the numbers of literals among the symbols are below the bound
-abbrev pub AreBelow : ℕ → List NumberedSymbol → Type 0
-AreBelow bound symbols = (k n : ℕ) → slice_get symbols k ≡ Some (NumberedLit n) → n < bound
+abbrev pub LiteralsAreBelow : ℕ → List NumberedSymbol → Type 0
+LiteralsAreBelow bound symbols = (k n : ℕ) → slice_get symbols k ≡ Some (NumberedLit n) → n < bound

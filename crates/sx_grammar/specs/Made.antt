@@ -16,8 +16,9 @@ use Rattle.sx_grammar.specs.Cyclic.{IsCyclic, IsNotCyclic}
 use Rattle.sx_grammar.specs.Parts.{Line, Parts, names, labels, literals, sorts_named, numbered}
 
 -- the first of the list with the property
-abbrev pub IsFirst : {X : Type 0} → (X → Type 0) → List X → X → Type 0
-IsFirst {X = X} P xs x = (before : List X) × (after : List X) × (xs ≡ before ++ x ∷ after) × P x ×
+abbrev pub IsFirstWith : {X : Type 0} → (X → Type 0) → List X → X → Type 0
+IsFirstWith {X = X} P xs x = (before : List X) × (after : List X) × (xs ≡ before ++ x ∷ after) ×
+    P x ×
     ((y : X) → Contains before y → ¬ (P y))
 
 -- none of the list has the property
@@ -38,8 +39,8 @@ abbrev pub IsLexical : Text → Type 0
 IsLexical name = (name ≡ codes "id") ⊎ ((name ≡ codes "num") ⊎ (name ≡ codes "str"))
 
 -- no sort line has the name, where these are their names, or it is that of a lexical sort
-abbrev pub IsUnknown : List Text → Text → Type 0
-IsUnknown sorts name = ¬ (Contains sorts name) ⊎ IsLexical name
+abbrev pub IsUnknownSort : List Text → Text → Type 0
+IsUnknownSort sorts name = ¬ (Contains sorts name) ⊎ IsLexical name
 
 -- the sort with this name is typed, or is not
 abbrev pub IsTyped : Parts → Text → Bool → Type 0
@@ -66,7 +67,7 @@ HasSorts p = HasLiterals p × AreDistinct (names p)
 
 -- and each sort that is named is known
 abbrev pub HasKnownSorts : Parts → Type 0
-HasKnownSorts p = HasSorts p × HasNone (IsUnknown (names p)) (sorts_named p)
+HasKnownSorts p = HasSorts p × HasNone (IsUnknownSort (names p)) (sorts_named p)
 
 -- and the labels are distinct
 abbrev pub HasLabels : Parts → Type 0
@@ -90,14 +91,15 @@ IsFirstCyclic p name = (sort : ℕ) × (slice_get (names p) sort ≡ Some name) 
     IsCyclic (numbered p) sort × ((other : ℕ) → other < sort → ¬ (IsCyclic (numbered p) other))
 
 -- why the parts are no grammar: the first refusal that holds of them, where the earlier do not
-abbrev pub IsRefused : Parts → GrammarError → Type 0
-IsRefused p Memory = Unit {0}
-IsRefused p (BadLiteral text) = IsFirst IsBadLiteral (literals p) text
-IsRefused p (SameSort name) = HasLiterals p × IsFirstAgain (names p) name
-IsRefused p (UnknownSort name) = HasSorts p × IsFirst (IsUnknown (names p)) (sorts_named p) name
-IsRefused p (SameLabel label) = HasKnownSorts p × IsFirstAgain (labels p) label
-IsRefused p (PlainHasTyped label) = HasLabels p ×
-    ((r : Line) × IsFirst (MixesSorts p) p.productions r × (r.label ≡ label))
-IsRefused p (NoBrackets sort) = KeepsSorts p ×
-    ((s : SortLine) × IsFirst (LacksBrackets p) p.sorts s × (s.name ≡ sort))
-IsRefused p (Cyclic sort) = HasBrackets p × IsFirstCyclic p sort
+abbrev pub IsGrammarRefused : Parts → GrammarError → Type 0
+IsGrammarRefused p Memory = Unit {0}
+IsGrammarRefused p (BadLiteral text) = IsFirstWith IsBadLiteral (literals p) text
+IsGrammarRefused p (SameSort name) = HasLiterals p × IsFirstAgain (names p) name
+IsGrammarRefused p (UnknownSort name) = HasSorts p × IsFirstWith (IsUnknownSort (names p))
+    (sorts_named p) name
+IsGrammarRefused p (SameLabel label) = HasKnownSorts p × IsFirstAgain (labels p) label
+IsGrammarRefused p (PlainHasTyped label) = HasLabels p ×
+    ((r : Line) × IsFirstWith (MixesSorts p) p.productions r × (r.label ≡ label))
+IsGrammarRefused p (NoBrackets sort) = KeepsSorts p ×
+    ((s : SortLine) × IsFirstWith (LacksBrackets p) p.sorts s × (s.name ≡ sort))
+IsGrammarRefused p (Cyclic sort) = HasBrackets p × IsFirstCyclic p sort

@@ -75,8 +75,8 @@ pub record IsSameBut (number : ℕ) (old new : Progress) : Type 0 where
       ≡ waiting_at old.waiting.items x
 
 -- one rule more waits for the number
-abbrev pub IsPut : Progress → Progress → ℕ → Waiting → Type 0
-IsPut old new number w = IsSameBut number old new ×
+abbrev pub IsWaitingPut : Progress → Progress → ℕ → Waiting → Type 0
+IsWaitingPut old new number w = IsSameBut number old new ×
     (waiting_at new.waiting.items number ≡ waiting_at old.waiting.items number ++ w ∷ [])
 
 -- the last of a list, and what is left; or the list has none
@@ -85,6 +85,6 @@ IsPopped old new None = (old ≡ []) × (new ≡ [])
 IsPopped old new (Some w) = old ≡ new ++ w ∷ []
 
 -- one rule less waits for the number, or none did
-abbrev pub IsTaken : Progress → Progress → ℕ → Option Waiting → Type 0
-IsTaken old new number w = IsSameBut number old new ×
+abbrev pub IsWaitingTaken : Progress → Progress → ℕ → Option Waiting → Type 0
+IsWaitingTaken old new number w = IsSameBut number old new ×
     IsPopped (waiting_at old.waiting.items number) (waiting_at new.waiting.items number) w

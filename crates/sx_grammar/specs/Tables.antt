@@ -12,7 +12,7 @@ use Rattle.sx_grammar.specs.Numbered.{production}
 use Rattle.sx_grammar.specs.Distinct.{distinct}
 use Rattle.sx_grammar.specs.Order.{AreRanks}
 use Rattle.sx_grammar.specs.Print.{BracketsWhereAsked}
-use Rattle.sx_grammar.specs.Made.{IsGrammar, IsRefused}
+use Rattle.sx_grammar.specs.Made.{IsGrammar, IsGrammarRefused}
 
 -- a grammar as plain data: what it is made of, and how many of its productions, the first ones, are
 -- base
@@ -78,9 +78,9 @@ pub record IsTabled (p : Parts) (base : ℕ) (texts : List Text)
 
 -- the grammar is of these parts, all of its productions are base, and the parts are those of a
 -- grammar; or why they are not
-abbrev pub IsMade : Parts → Result GrammarData GrammarError → Type 0
-IsMade p (Ok g) = (g ≡ record { parts = p; base = length p.productions }) × IsGrammar p
-IsMade p (Err e) = IsRefused p e
+abbrev pub IsGrammarMade : Parts → Result GrammarData GrammarError → Type 0
+IsGrammarMade p (Ok g) = (g ≡ record { parts = p; base = length p.productions }) × IsGrammar p
+IsGrammarMade p (Err e) = IsGrammarRefused p e
 
 -- each sort of a grammar has the brackets that its parts ask for
 abbrev pub GrammarsHaveBrackets : Type 0

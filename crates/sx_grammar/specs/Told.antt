@@ -21,8 +21,9 @@ abbrev pub sort_with : List SortLine → ℕ → Sort
 sort_with sorts number = cond (is_typed (slice_get sorts number)) (Typed number) (Plain number)
 
 -- the sort of the production with this label
-abbrev pub IsSortOf : Parts → ℕ → Sort → Type 0
-IsSortOf p label sort = (r : Production) × (slice_get (numbered p).productions label ≡ Some r) ×
+abbrev pub IsSortOfLabel : Parts → ℕ → Sort → Type 0
+IsSortOfLabel p label sort = (r : Production) × (slice_get (numbered p).productions label ≡ Some r)
+    ×
     (sort ≡ sort_with p.sorts r.sort)
 
 -- the level of the production with this label

@@ -4,8 +4,8 @@ ghost use Rattle.std.specs.Prelude.{◌≡◌, ◌++◌, map, Contains, IsTrue, 
 ghost use Rattle.sx_term.specs.Cutting.{AreDistinct};
 ghost use Rattle.sx_grammar.specs.Parts.{Parts, line, names};
 ghost use Rattle.sx_grammar.specs.Standing.{labels_in, literals_in, sorts_in};
-ghost use Rattle.sx_grammar.specs.Extended.{Grows};
-ghost use Rattle.sx_grammar.specs.Made.{HasNone, HasLabels, IsBadLiteral, IsUnknown};
+ghost use Rattle.sx_grammar.specs.Extended.{GrammarGrows};
+ghost use Rattle.sx_grammar.specs.Made.{HasNone, HasLabels, IsBadLiteral, IsUnknownSort};
 
 use crate::firsts::{Numbering, first_bad, first_unknown, number};
 use crate::grammar::Grammar;
@@ -29,7 +29,7 @@ fn have_good_literals(alloc: Global, more: &[Production]) -> Result<bool, AllocE
 /// Whether the sorts that the productions name are among those known.
 fn have_known_sorts(alloc: Global, known: &Names, more: &[Production]) -> Result<bool, AllocError>
     ensures { IfOk result (λ r. IsTrue r →
-        HasNone (IsUnknown known.now) (sorts_in (map line more.now))) }
+        HasNone (IsUnknownSort known.now) (sorts_in (map line more.now))) }
 {
     let named = sorts_named(alloc, more)?;
     match first_unknown(known, &named) {
@@ -82,7 +82,7 @@ pub(crate) fn are_well_named(
     more: &[Production],
 ) -> Result<bool, NoMemory>
     ensures { IfOk result (λ r. IsTrue r → (whole : Parts) →
-        Grows base.now.parts (map line more.now) whole → sorts.now ≡ names whole →
+        GrammarGrows base.now.parts (map line more.now) whole → sorts.now ≡ names whole →
         AreDistinct sorts.now → HasLabels whole) }
 {
     if !have_good_literals(alloc, more)? || !have_known_sorts(alloc, sorts, more)? {

@@ -2,7 +2,8 @@
 
 ghost use Rattle.std.specs.Prelude.{◌≡◌, OnOk, IfOk, IfErr};
 ghost use Rattle.sx_grammar.specs.Parts.{parts, literals, names, texts};
-ghost use Rattle.sx_grammar.specs.Made.{HasLiterals, HasSorts, HasKnownSorts, HasLabels, IsRefused};
+ghost use Rattle.sx_grammar.specs.Made.{HasLiterals, HasSorts, HasKnownSorts, HasLabels};
+ghost use Rattle.sx_grammar.specs.Made.{IsGrammarRefused};
 
 use crate::firsts::{Numbering, first_bad, first_unknown, number};
 use crate::grammar_error::GrammarError;
@@ -15,7 +16,7 @@ use sx_term::{Names, Text};
 pub(crate) fn good_literals(alloc: Global, from: &GrammarParts) -> Result<Vec<&Text>, GrammarError>
     ensures good { OnOk result (HasLiterals (parts from.now)) }
     ensures texts { IfOk result (λ v. texts v.items ≡ literals (parts from.now)) }
-    ensures refused { IfErr result (IsRefused (parts from.now)) }
+    ensures refused { IfErr result (IsGrammarRefused (parts from.now)) }
 {
     let texts = literals(alloc, from)?;
     if let Some(text) = first_bad(&texts) {
@@ -30,7 +31,7 @@ pub(crate) fn good_sorts(alloc: Global, from: &GrammarParts) -> Result<Names, Gr
     requires { HasLiterals (parts from.now) }
     ensures good { OnOk result (HasSorts (parts from.now)) }
     ensures names { IfOk result (λ n. n ≡ names (parts from.now)) }
-    ensures refused { IfErr result (IsRefused (parts from.now)) }
+    ensures refused { IfErr result (IsGrammarRefused (parts from.now)) }
 {
     let list = names(alloc, from)?;
     let numbering = number(alloc, &list);
@@ -50,7 +51,7 @@ pub(crate) fn known_sorts(
     requires sorts { HasSorts (parts from.now) }
     requires names { known.now ≡ names (parts from.now) }
     ensures good { OnOk result (HasKnownSorts (parts from.now)) }
-    ensures refused { IfErr result (IsRefused (parts from.now)) }
+    ensures refused { IfErr result (IsGrammarRefused (parts from.now)) }
 {
     let named = sorts_named(alloc, &from.productions)?;
     let unknown = first_unknown(known, &named);
@@ -65,7 +66,7 @@ pub(crate) fn known_sorts(
 pub(crate) fn good_labels(alloc: Global, from: &GrammarParts) -> Result<(), GrammarError>
     requires { HasKnownSorts (parts from.now) }
     ensures good { OnOk result (HasLabels (parts from.now)) }
-    ensures refused { IfErr result (IsRefused (parts from.now)) }
+    ensures refused { IfErr result (IsGrammarRefused (parts from.now)) }
 {
     let list = labels(alloc, &from.productions)?;
     let numbering = number(alloc, &list);

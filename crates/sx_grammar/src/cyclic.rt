@@ -4,7 +4,7 @@ ghost use Rattle.std.specs.Prelude.{◌<◌, ◌^◌, length, OnOk, IfOk, IfErr}
 ghost use Rattle.sx_grammar.specs.Parts.{parts, numbered};
 ghost use Rattle.sx_grammar.specs.Order.{AreRanks};
 ghost use Rattle.sx_grammar.specs.Tables.{AreNumbered};
-ghost use Rattle.sx_grammar.specs.Made.{HasBrackets, IsGrammar, IsRefused};
+ghost use Rattle.sx_grammar.specs.Made.{HasBrackets, IsGrammar, IsGrammarRefused};
 
 use crate::grammar_error::GrammarError;
 use crate::grammar_parts::GrammarParts;
@@ -23,7 +23,7 @@ pub(crate) fn not_cyclic(
     requires few { length (parts from.now).sorts < 2 ^ 32 }
     ensures good { OnOk result (IsGrammar (parts from.now)) }
     ensures ranking { IfOk result (λ v. AreRanks (numbered (parts from.now)) v.items) }
-    ensures refused { IfErr result (IsRefused (parts from.now)) }
+    ensures refused { IfErr result (IsGrammarRefused (parts from.now)) }
 {
     match sort_ranks(alloc, productions, from.sorts.len())? {
         SortOrder::Ranked(ranks) => Ok(ranks),

@@ -3,7 +3,7 @@
 ghost use Rattle.std.specs.Prelude.{◌≡◌, IfOk, map};
 ghost use Rattle.sx_grammar.specs.Parts.{line, parts};
 ghost use Rattle.sx_grammar.specs.Extended.{extended, widened, IsExtended};
-ghost use Rattle.sx_grammar.specs.Tables.{IsWithinLimits, IsMade};
+ghost use Rattle.sx_grammar.specs.Tables.{IsWithinLimits, IsGrammarMade};
 
 use crate::grammar::Grammar;
 use crate::grammar_error::GrammarError;
@@ -98,7 +98,7 @@ impl Grammar {
         more: Vec<Production>,
     ) -> Result<Grammar, GrammarError>
         requires { IsWithinLimits (widened base.now.parts sort (map line more.items)) }
-        ensures { IsMade (widened base.now.parts sort (map line more.items)) result }
+        ensures { IsGrammarMade (widened base.now.parts sort (map line more.items)) result }
     {
         let parts = with_all(alloc, &base.parts, sort, more)?;
         let count = parts.productions.len();

@@ -3,7 +3,8 @@
 ghost use Rattle.std.specs.Prelude.{◌↔◌, IsTrue, MatchOption, IfOk};
 ghost use Rattle.sx_grammar.specs.Parts.{texts};
 ghost use Rattle.sx_grammar.specs.Numbering.{IsNumberedAs};
-ghost use Rattle.sx_grammar.specs.Made.{IsFirst, HasNone, IsBadLiteral, IsLexical, IsUnknown};
+ghost use Rattle.sx_grammar.specs.Made.{IsFirstWith, HasNone, IsBadLiteral, IsLexical};
+ghost use Rattle.sx_grammar.specs.Made.{IsUnknownSort};
 
 use std::alloc::Global;
 use sx_term::{LiteralShape, Names, NoMemory, Text, literal_shape};
@@ -18,7 +19,7 @@ fn is_bad_literal(text: &Text) -> bool
 /// The first bad literal.
 pub(crate) fn first_bad<'a>(literals: &[&'a Text]) -> Option<&'a Text>
     ensures { MatchOption result (HasNone IsBadLiteral (texts literals.now))
-        (λ t. IsFirst IsBadLiteral (texts literals.now) t.now) }
+        (λ t. IsFirstWith IsBadLiteral (texts literals.now) t.now) }
 {
     for text in literals {
         if is_bad_literal(text) {
@@ -62,15 +63,15 @@ fn is_lexical(name: &Text) -> bool
 
 /// Whether the name is none of the names, or is that of a lexical sort.
 fn is_unknown(names: &Names, name: &Text) -> bool
-    ensures { IsTrue result ↔ IsUnknown names.now name.now }
+    ensures { IsTrue result ↔ IsUnknownSort names.now name.now }
 {
     is_lexical(name) || names.number(name.bytes()).is_none()
 }
 
 /// The first name that is none of the names, or is that of a lexical sort.
 pub(crate) fn first_unknown<'a>(names: &Names, list: &[&'a Text]) -> Option<&'a Text>
-    ensures { MatchOption result (HasNone (IsUnknown names.now) (texts list.now))
-        (λ t. IsFirst (IsUnknown names.now) (texts list.now) t.now) }
+    ensures { MatchOption result (HasNone (IsUnknownSort names.now) (texts list.now))
+        (λ t. IsFirstWith (IsUnknownSort names.now) (texts list.now) t.now) }
 {
     for name in list {
         if is_unknown(names, name) {

@@ -4,9 +4,9 @@ ghost use Rattle.std.specs.Prelude.{◌≡◌, ◌≤◌, ℕ, List, Option, map
 ghost use Rattle.sx_term.specs.Cutting.{AreDistinct};
 ghost use Rattle.sx_grammar.specs.declared.sort_line.SortLine.{SortLine as SortLineOf};
 ghost use Rattle.sx_grammar.specs.Parts.{Line, line, parts, names};
-ghost use Rattle.sx_grammar.specs.Extended.{extended, grown, listed, Grows};
+ghost use Rattle.sx_grammar.specs.Extended.{extended, grown, listed_sort, GrammarGrows};
 ghost use Rattle.sx_grammar.specs.Tables.{literals_of, IsWithinLimits, IsTabled};
-ghost use Rattle.sx_grammar.specs.Made.{HasLabels, IsRefused};
+ghost use Rattle.sx_grammar.specs.Made.{HasLabels, IsGrammarRefused};
 
 use crate::additions::are_well_named;
 use crate::distinct::distinct_behind;
@@ -47,14 +47,14 @@ fn all_behind(
     sorts: &Names,
     more: &[Production],
 ) -> Result<(Vec<Text>, Names, NumberedParts), GrammarError>
-    requires behind { Grows base.now.parts (map line more.now) (parts from.now) }
+    requires behind { GrammarGrows base.now.parts (map line more.now) (parts from.now) }
     requires labels { HasLabels (parts from.now) }
     requires sorts { sorts.now ≡ names (parts from.now) }
     requires limits { IsWithinLimits (parts from.now) }
     ensures tables { IfOk result (λ r. (base : ℕ) → base ≤ length (parts from.now).productions
         → IsTabled (parts from.now) base r.0.items r.2.productions.items r.2.brackets.items
         sorts.now r.1 r.2.ranks.items) }
-    ensures refused { IfErr result (IsRefused (parts from.now)) }
+    ensures refused { IfErr result (IsGrammarRefused (parts from.now)) }
 {
     let (literals, literal_names) = literals_behind(alloc, base, more)?;
     match numbered_behind(alloc, base, from, sorts, &literal_names, more) {
@@ -76,14 +76,14 @@ fn tables_named(
     sort_names: Names,
     more: &[Production],
 ) -> Result<Tables, GrammarError>
-    requires behind { Grows base.now.parts (map line more.now) (parts from.now) }
+    requires behind { GrammarGrows base.now.parts (map line more.now) (parts from.now) }
     requires labels { HasLabels (parts from.now) }
     requires sorts { sort_names ≡ names (parts from.now) }
     requires limits { IsWithinLimits (parts from.now) }
     ensures tables { IfOk result (λ t. (base : ℕ) → base ≤ length (parts from.now).productions
         → IsTabled (parts from.now) base t.literals.items t.productions.items t.brackets.items
         t.sort_names t.literal_names t.ranks.items) }
-    ensures refused { IfErr result (IsRefused (parts from.now)) }
+    ensures refused { IfErr result (IsGrammarRefused (parts from.now)) }
 {
     match all_behind(alloc, base, from, &sort_names, more) {
         Ok((literals, literal_names, numbered)) => Ok(Tables {
@@ -109,14 +109,14 @@ fn tables_sorted(
     sort_names: Names,
     more: &[Production],
 ) -> Result<Tables, GrammarError>
-    requires behind { Grows base.now.parts (map line more.now) (parts from.now) }
+    requires behind { GrammarGrows base.now.parts (map line more.now) (parts from.now) }
     requires sorts { sort_names ≡ names (parts from.now) }
     requires distinct { AreDistinct sort_names }
     requires limits { IsWithinLimits (parts from.now) }
     ensures tables { IfOk result (λ t. (base : ℕ) → base ≤ length (parts from.now).productions
         → IsTabled (parts from.now) base t.literals.items t.productions.items t.brackets.items
         t.sort_names t.literal_names t.ranks.items) }
-    ensures refused { IfErr result (IsRefused (parts from.now)) }
+    ensures refused { IfErr result (IsGrammarRefused (parts from.now)) }
 {
     match are_well_named(alloc, base, &sort_names, more) {
         Ok(true) => tables_named(alloc, base, from, sort_names, more),
@@ -139,12 +139,12 @@ pub(crate) fn tables_behind(
     from: &GrammarParts,
 ) -> Result<Tables, GrammarError>
     requires behind { (sort : Option SortLineOf) × (more : List Line) ×
-        (parts from.now ≡ grown base.now.parts (listed sort) more) }
+        (parts from.now ≡ grown base.now.parts (listed_sort sort) more) }
     requires limits { IsWithinLimits (parts from.now) }
     ensures tables { IfOk result (λ t. (base : ℕ) → base ≤ length (parts from.now).productions
         → IsTabled (parts from.now) base t.literals.items t.productions.items t.brackets.items
         t.sort_names t.literal_names t.ranks.items) }
-    ensures refused { IfErr result (IsRefused (parts from.now)) }
+    ensures refused { IfErr result (IsGrammarRefused (parts from.now)) }
 {
     let (_own, more) = from.productions.split_at(base.parts.productions.len());
     match names_behind(alloc, base, from)? {

@@ -8,7 +8,7 @@ ghost use Rattle.sx_grammar.specs.Tables.{AreNumbered};
 ghost use Rattle.sx_grammar.specs.Cycles.{HaveSortsBelow, HavePartsBelow};
 ghost use Rattle.sx_grammar.specs.Levels.{raised, raised_by, lowered, greatest_after, least_after};
 ghost use Rattle.sx_grammar.specs.Levels.{ArePartsBelow, AreGreatest, AreLeast};
-ghost use Rattle.sx_grammar.specs.Made.{KeepsSorts, HasBrackets, IsRefused};
+ghost use Rattle.sx_grammar.specs.Made.{KeepsSorts, HasBrackets, IsGrammarRefused};
 
 use crate::grammar_error::GrammarError;
 use crate::grammar_parts::GrammarParts;
@@ -111,7 +111,7 @@ fn has_brackets_at(
     requires levels { (ps : List numbered.NumberedProduction) × AreNumbered (parts from.now) ps ×
         AreGreatest ps asked.now × AreLeast ps least.now }
     ensures good { OnOk result (HasBrackets (parts from.now)) }
-    ensures refused { IfErr result (IsRefused (parts from.now)) }
+    ensures refused { IfErr result (IsGrammarRefused (parts from.now)) }
 {
     for i in 0..from.sorts.len() {
         let sort = &from.sorts[i];
@@ -131,7 +131,7 @@ pub(crate) fn has_brackets(
     requires sorts { KeepsSorts (parts from.now) }
     requires numbered { AreNumbered (parts from.now) productions.now }
     ensures good { OnOk result (HasBrackets (parts from.now)) }
-    ensures refused { IfErr result (IsRefused (parts from.now)) }
+    ensures refused { IfErr result (IsGrammarRefused (parts from.now)) }
 {
     let asked = greatest_levels(alloc, productions, from.sorts.len())?;
     match least_levels(alloc, productions, from.sorts.len()) {

@@ -4,8 +4,10 @@ ghost use Rattle.std.specs.Prelude.{◌≡◌, ◌≤◌, ℕ, length, OnOk, IfO
 ghost use Rattle.sx_grammar.specs.Parts.{parts, literals, names, numbered, texts};
 ghost use Rattle.sx_grammar.specs.Order.{AreRanks};
 ghost use Rattle.sx_grammar.specs.Tables.{literals_of, AreNumbered, AreNumberedPairs};
-ghost use Rattle.sx_grammar.specs.Tables.{HaveLiteralsBelow, IsWithinLimits, IsTabled, IsMade};
-ghost use Rattle.sx_grammar.specs.Made.{HasLiterals, HasSorts, HasLabels, IsGrammar, IsRefused};
+ghost use Rattle.sx_grammar.specs.Tables.{HaveLiteralsBelow, IsWithinLimits, IsTabled};
+ghost use Rattle.sx_grammar.specs.Tables.{IsGrammarMade};
+ghost use Rattle.sx_grammar.specs.Made.{HasLiterals, HasSorts, HasLabels, IsGrammar};
+ghost use Rattle.sx_grammar.specs.Made.{IsGrammarRefused};
 
 use crate::checks::{good_labels, good_literals, good_sorts, known_sorts};
 use crate::cyclic::not_cyclic;
@@ -27,7 +29,7 @@ fn good_names(alloc: Global, from: &GrammarParts, sorts: &Names) -> Result<(), G
     requires sorts { HasSorts (parts from.now) }
     requires names { sorts.now ≡ names (parts from.now) }
     ensures good { OnOk result (HasLabels (parts from.now)) }
-    ensures refused { IfErr result (IsRefused (parts from.now)) }
+    ensures refused { IfErr result (IsGrammarRefused (parts from.now)) }
 {
     known_sorts(alloc, from, sorts)?;
     good_labels(alloc, from)
@@ -38,7 +40,7 @@ fn sort_names_of(alloc: Global, from: &GrammarParts) -> Result<Names, GrammarErr
     requires { HasLiterals (parts from.now) }
     ensures good { OnOk result (HasLabels (parts from.now)) }
     ensures names { IfOk result (λ n. n ≡ names (parts from.now)) }
-    ensures refused { IfErr result (IsRefused (parts from.now)) }
+    ensures refused { IfErr result (IsGrammarRefused (parts from.now)) }
 {
     let sorts = good_sorts(alloc, from)?;
     match good_names(alloc, from, &sorts) {
@@ -56,7 +58,7 @@ fn names_of(alloc: Global, from: &GrammarParts) -> Result<(Vec<&Text>, Names), G
     ensures good { OnOk result (HasLabels (parts from.now)) }
     ensures texts { IfOk result (λ r. texts r.0.items ≡ literals (parts from.now)) }
     ensures names { IfOk result (λ r. r.1 ≡ names (parts from.now)) }
-    ensures refused { IfErr result (IsRefused (parts from.now)) }
+    ensures refused { IfErr result (IsGrammarRefused (parts from.now)) }
 {
     let texts = good_literals(alloc, from)?;
     match sort_names_of(alloc, from) {
@@ -80,7 +82,7 @@ fn ranks_of(
     requires limits { IsWithinLimits (parts from.now) }
     ensures good { OnOk result (IsGrammar (parts from.now)) }
     ensures ranking { IfOk result (λ v. AreRanks (numbered (parts from.now)) v.items) }
-    ensures refused { IfErr result (IsRefused (parts from.now)) }
+    ensures refused { IfErr result (IsGrammarRefused (parts from.now)) }
 {
     keeps_sorts(alloc, from, productions, 0)?;
     has_brackets(alloc, from, productions)?;
@@ -103,7 +105,7 @@ fn productions_of(
     ensures same { IfOk result (λ r. AreNumbered (parts from.now) r.0.items) }
     ensures below { IfOk result (λ r. HaveLiteralsBelow (length literals.now) r.0.items) }
     ensures ranking { IfOk result (λ r. AreRanks (numbered (parts from.now)) r.1.items) }
-    ensures refused { IfErr result (IsRefused (parts from.now)) }
+    ensures refused { IfErr result (IsGrammarRefused (parts from.now)) }
 {
     let productions = number_productions(alloc, sorts, literals, &from.productions)?;
     match ranks_of(alloc, from, &productions) {
@@ -133,7 +135,7 @@ fn numbered_parts(
     ensures ranking { IfOk result (λ n. AreRanks (numbered (parts from.now)) n.ranks.items) }
     ensures pairs { IfOk result (λ n. AreNumberedPairs literals.now
         (parts from.now).sorts n.brackets.items) }
-    ensures refused { IfErr result (IsRefused (parts from.now)) }
+    ensures refused { IfErr result (IsGrammarRefused (parts from.now)) }
 {
     let (productions, ranks) = productions_of(alloc, from, sorts, literals)?;
     match number_brackets(alloc, literals, &from.sorts) {
@@ -166,7 +168,7 @@ fn tables_with(
     ensures tables { IfOk result (λ t. (base : ℕ) → base ≤ length (parts from.now).productions
         → IsTabled (parts from.now) base t.literals.items t.productions.items t.brackets.items
         t.sort_names t.literal_names t.ranks.items) }
-    ensures refused { IfErr result (IsRefused (parts from.now)) }
+    ensures refused { IfErr result (IsGrammarRefused (parts from.now)) }
 {
     match numbered_parts(alloc, from, &sort_names, &literal_names) {
         Ok(
@@ -198,7 +200,7 @@ pub(crate) fn tables(alloc: Global, from: &GrammarParts) -> Result<Tables, Gramm
     ensures tables { IfOk result (λ t. (base : ℕ) → base ≤ length (parts from.now).productions
         → IsTabled (parts from.now) base t.literals.items t.productions.items t.brackets.items
         t.sort_names t.literal_names t.ranks.items) }
-    ensures refused { IfErr result (IsRefused (parts from.now)) }
+    ensures refused { IfErr result (IsGrammarRefused (parts from.now)) }
 {
     let (texts, sort_names) = names_of(alloc, from)?;
     let found = distinct(alloc, &texts);
@@ -219,7 +221,7 @@ impl Grammar {
     /// of the parts.
     pub fn make(alloc: Global, from: GrammarParts) -> Result<Grammar, GrammarError>
         requires { IsWithinLimits (parts from) }
-        ensures { IsMade (parts from) result }
+        ensures { IsGrammarMade (parts from) result }
     {
         let base = from.productions.len();
         match tables(alloc, &from) {

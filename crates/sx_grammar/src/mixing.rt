@@ -5,7 +5,8 @@ ghost use Rattle.std.specs.List.{list_any};
 ghost use Rattle.sx_grammar.specs.Parts.{parts};
 ghost use Rattle.sx_grammar.specs.Tables.{AreNumbered};
 ghost use Rattle.sx_grammar.specs.Levels.{is_typed_part, mixes};
-ghost use Rattle.sx_grammar.specs.Made.{HasNone, MixesSorts, HasLabels, KeepsSorts, IsRefused};
+ghost use Rattle.sx_grammar.specs.Made.{HasNone, MixesSorts, HasLabels, KeepsSorts};
+ghost use Rattle.sx_grammar.specs.Made.{IsGrammarRefused};
 
 use crate::grammar_error::GrammarError;
 use crate::grammar_parts::GrammarParts;
@@ -57,7 +58,7 @@ pub(crate) fn keeps_sorts(
         (take first (parts from.now).productions) }
     requires numbered { AreNumbered (parts from.now) productions.now }
     ensures good { OnOk result (KeepsSorts (parts from.now)) }
-    ensures refused { IfErr result (IsRefused (parts from.now)) }
+    ensures refused { IfErr result (IsGrammarRefused (parts from.now)) }
 {
     for i in first..from.productions.len() {
         let production = &productions[i];

@@ -6,7 +6,7 @@ ghost use Rattle.sx_term.specs.Cutting.{AreDistinct};
 ghost use Rattle.sx_grammar.specs.declared.sort_line.SortLine.{SortLine as SortLineOf};
 ghost use Rattle.sx_grammar.specs.Parts.{Line, parts, names};
 ghost use Rattle.sx_grammar.specs.Order.{rank_at};
-ghost use Rattle.sx_grammar.specs.Extended.{grown, listed, LacksPair, blank};
+ghost use Rattle.sx_grammar.specs.Extended.{grown, listed_sort, LacksPair, blank};
 
 use crate::grammar::Grammar;
 use crate::grammar_parts::GrammarParts;
@@ -48,12 +48,12 @@ pub(crate) fn names_behind(
     from: &GrammarParts,
 ) -> Result<Option<Names>, NoMemory>
     requires { (sort : Option SortLineOf) × (more : List Line) ×
-        (parts from.now ≡ grown base.now.parts (listed sort) more) }
+        (parts from.now ≡ grown base.now.parts (listed_sort sort) more) }
     ensures names { IfOk result (λ r. MatchOption r (Unit {0}) (λ n.
         (n ≡ names (parts from.now)) × AreDistinct n)) }
     ensures plain { IfOk result (λ r. MatchOption r (Unit {0}) (λ n.
         (sort : Option SortLineOf) (more : List Line) →
-        parts from.now ≡ grown base.now.parts (listed sort) more → LacksPair sort)) }
+        parts from.now ≡ grown base.now.parts (listed_sort sort) more → LacksPair sort)) }
 {
     if !has_more(base, from) {
         return Ok(Some(base.sort_names.copy()?));

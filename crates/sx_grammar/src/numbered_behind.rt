@@ -5,10 +5,10 @@ ghost use Rattle.std.specs.Prelude.{◌≡◌, ◌++◌, map, length, OnOk, IfOk
 ghost use Rattle.sx_grammar.specs.Parts.{line, parts, names, numbered};
 ghost use Rattle.sx_grammar.specs.Numbered.{bare};
 ghost use Rattle.sx_grammar.specs.Order.{AreRanks};
-ghost use Rattle.sx_grammar.specs.Extended.{Grows};
+ghost use Rattle.sx_grammar.specs.Extended.{GrammarGrows};
 ghost use Rattle.sx_grammar.specs.Tables.{literals_of, AreNumbered, AreNumberedPairs};
 ghost use Rattle.sx_grammar.specs.Tables.{HaveLiteralsBelow, IsWithinLimits};
-ghost use Rattle.sx_grammar.specs.Made.{HasLabels, IsGrammar, IsRefused};
+ghost use Rattle.sx_grammar.specs.Made.{HasLabels, IsGrammar, IsGrammarRefused};
 
 use crate::cyclic::not_cyclic;
 use crate::grammar::Grammar;
@@ -77,13 +77,13 @@ fn ranks_behind(
     productions: &[NumberedProduction],
     more: &[Production],
 ) -> Result<Vec<u32>, GrammarError>
-    requires behind { Grows base.now.parts (map line more.now) (parts from.now) }
+    requires behind { GrammarGrows base.now.parts (map line more.now) (parts from.now) }
     requires labels { HasLabels (parts from.now) }
     requires numbered { AreNumbered (parts from.now) productions.now }
     requires limits { IsWithinLimits (parts from.now) }
     ensures good { OnOk result (IsGrammar (parts from.now)) }
     ensures ranking { IfOk result (λ v. AreRanks (numbered (parts from.now)) v.items) }
-    ensures refused { IfErr result (IsRefused (parts from.now)) }
+    ensures refused { IfErr result (IsGrammarRefused (parts from.now)) }
 {
     keeps_sorts(alloc, from, productions, base.parts.productions.len())?;
     has_brackets(alloc, from, productions)?;
@@ -103,7 +103,7 @@ fn ranked_behind(
     literals: &Names,
     more: &[Production],
 ) -> Result<(Vec<NumberedProduction>, Vec<u32>), GrammarError>
-    requires behind { Grows base.now.parts (map line more.now) (parts from.now) }
+    requires behind { GrammarGrows base.now.parts (map line more.now) (parts from.now) }
     requires labels { HasLabels (parts from.now) }
     requires sorts { sorts.now ≡ names (parts from.now) }
     requires literals { literals.now ≡ literals_of (parts from.now) }
@@ -112,7 +112,7 @@ fn ranked_behind(
     ensures same { IfOk result (λ r. AreNumbered (parts from.now) r.0.items) }
     ensures below { IfOk result (λ r. HaveLiteralsBelow (length literals.now) r.0.items) }
     ensures ranking { IfOk result (λ r. AreRanks (numbered (parts from.now)) r.1.items) }
-    ensures refused { IfErr result (IsRefused (parts from.now)) }
+    ensures refused { IfErr result (IsGrammarRefused (parts from.now)) }
 {
     let own = number_productions(alloc, sorts, literals, more)?;
     let productions = joined(alloc, &base.productions, own)?;
@@ -136,7 +136,7 @@ pub(crate) fn numbered_behind(
     literals: &Names,
     more: &[Production],
 ) -> Result<NumberedParts, GrammarError>
-    requires behind { Grows base.now.parts (map line more.now) (parts from.now) }
+    requires behind { GrammarGrows base.now.parts (map line more.now) (parts from.now) }
     requires labels { HasLabels (parts from.now) }
     requires sorts { sorts.now ≡ names (parts from.now) }
     requires literals { literals.now ≡ literals_of (parts from.now) }
@@ -147,7 +147,7 @@ pub(crate) fn numbered_behind(
     ensures ranking { IfOk result (λ n. AreRanks (numbered (parts from.now)) n.ranks.items) }
     ensures pairs { IfOk result (λ n. AreNumberedPairs literals.now
         (parts from.now).sorts n.brackets.items) }
-    ensures refused { IfErr result (IsRefused (parts from.now)) }
+    ensures refused { IfErr result (IsGrammarRefused (parts from.now)) }
 {
     let (productions, ranks) = ranked_behind(alloc, base, from, sorts, literals, more)?;
     match brackets_with(alloc, &base.brackets, has_more(base, from)) {

@@ -9,7 +9,8 @@ ghost use Rattle.sx_grammar.specs.Parts.{number_of, line, numbered_symbol, numbe
 ghost use Rattle.sx_grammar.specs.Parts.{numbered_pair};
 ghost use Rattle.sx_grammar.specs.Numbered as plain;
 ghost use Rattle.sx_grammar.specs.Tables.{HaveLiteralsBelow, IsNumberedPair, AreNumberedPairs};
-ghost use Rattle.sx_grammar.specs.Known.{IsAmong, IsKnown, IsKnownLine, IsKnownPair, AreBelow};
+ghost use Rattle.sx_grammar.specs.Known.{IsTextAmong, IsKnown, IsKnownLine, IsKnownPair};
+ghost use Rattle.sx_grammar.specs.Known.{LiteralsAreBelow};
 
 use crate::numbered::{NumberedProduction, NumberedSymbol};
 use crate::production::Production;
@@ -20,7 +21,7 @@ use sx_term::{Names, NoMemory, Text};
 
 /// The number of the sort with this name.
 fn number_sort(sorts: &Names, name: &Text) -> u32
-    requires known { IsAmong sorts.now name.now }
+    requires known { IsTextAmong sorts.now name.now }
     requires few { length sorts.now < 2 ^ 32 }
     ensures { result ≡ number_of sorts.now name.now }
 {
@@ -32,7 +33,7 @@ fn number_sort(sorts: &Names, name: &Text) -> u32
 
 /// The number of the literal.
 fn number_literal(literals: &Names, text: &Text) -> u32
-    requires known { IsAmong literals.now text.now }
+    requires known { IsTextAmong literals.now text.now }
     requires few { length literals.now < 2 ^ 32 }
     ensures { slice_get literals.now result ≡ Some text.now }
 {
@@ -48,7 +49,7 @@ fn number_symbol(sorts: &Names, literals: &Names, symbol: &Symbol) -> NumberedSy
     requires few { length sorts.now < 2 ^ 32 }
     requires few_literals { length literals.now < 2 ^ 32 }
     ensures same { plain.symbol literals.now result ≡ numbered_symbol sorts.now symbol.now }
-    ensures below { AreBelow (length literals.now) (result ∷ []) }
+    ensures below { LiteralsAreBelow (length literals.now) (result ∷ []) }
 {
     match symbol {
         Symbol::Lit(text) => NumberedSymbol::Lit(number_literal(literals, text)),
@@ -72,7 +73,7 @@ fn number_symbols(
     requires few_literals { length literals.now < 2 ^ 32 }
     ensures same { IfOk result (λ v. map (plain.symbol literals.now) v.items
         ≡ map (numbered_symbol sorts.now) symbols.now) }
-    ensures below { IfOk result (λ v. AreBelow (length literals.now) v.items) }
+    ensures below { IfOk result (λ v. LiteralsAreBelow (length literals.now) v.items) }
 {
     let mut out = Vec::new(alloc);
     for symbol in symbols {
@@ -93,7 +94,7 @@ fn number_production(
     requires few_literals { length literals.now < 2 ^ 32 }
     ensures same { IfOk result (λ q. plain.production literals.now q
         ≡ numbered_line sorts.now (line production.now)) }
-    ensures below { IfOk result (λ q. AreBelow (length literals.now) q.symbols.items) }
+    ensures below { IfOk result (λ q. LiteralsAreBelow (length literals.now) q.symbols.items) }
 {
     Ok(NumberedProduction {
         sort: number_sort(sorts, &production.sort),

@@ -2,7 +2,8 @@
 
 ghost use Rattle.std.specs.Prelude.{◌≡◌, ℕ, ◌<◌, length, MatchOption, OnOk, IfOk, IsFalse, IsTrue};
 ghost use Rattle.std.specs.Prelude.{◌++◌, ◌∷◌, [], ◌↔◌};
-ghost use Rattle.sx_grammar.specs.Ranks.{HasRank, waiting_at, IsBlank, IsPut, IsTaken, IsLearnt};
+ghost use Rattle.sx_grammar.specs.Ranks.{HasRank, waiting_at, IsBlank, IsWaitingPut};
+ghost use Rattle.sx_grammar.specs.Ranks.{IsWaitingTaken, IsLearnt};
 
 use std::alloc::{AllocError, Global};
 
@@ -69,7 +70,7 @@ pub(crate) fn wait(
     waiting: Waiting,
 ) -> Result<(), AllocError>
     requires { number < length progress.old.waiting.items }
-    ensures { OnOk result (IsPut progress.old progress.new number waiting) }
+    ensures { OnOk result (IsWaitingPut progress.old progress.new number waiting) }
 {
     progress.waiting[number].push(waiting)?;
     Ok(())
@@ -78,7 +79,7 @@ pub(crate) fn wait(
 /// Takes a rule that waits for the number.
 pub(crate) fn take_waiting(progress: &mut Progress, number: usize) -> Option<Waiting>
     requires { number < length progress.old.waiting.items }
-    ensures { IsTaken progress.old progress.new number result }
+    ensures { IsWaitingTaken progress.old progress.new number result }
 {
     progress.waiting[number].pop()
 }

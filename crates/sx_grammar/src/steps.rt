@@ -3,7 +3,7 @@
 ghost use Rattle.std.specs.Prelude.{◌≡◌, ℕ, ◌<◌, ◌⊎◌, length, slice_get, Some, Contains};
 ghost use Rattle.std.specs.Prelude.{MatchOption, OnOk, IfOk};
 ghost use Rattle.sx_grammar.specs.declared.numbered.NumberedProduction.{NumberedProduction};
-ghost use Rattle.sx_grammar.specs.Cycles.{list_at, unmarked, IsOpen, IsTarget, HasStep};
+ghost use Rattle.sx_grammar.specs.Cycles.{list_at, unmarked, IsPartOpen, IsTarget, HasStep};
 ghost use Rattle.sx_grammar.specs.Cycles.{HaveSortsBelow};
 
 use crate::empty_sorts::{is_marked, unmarked};
@@ -13,8 +13,8 @@ use std::alloc::{AllocError, Global};
 /// The sort of the part that the symbol is, where all other symbols are parts of marked sorts and
 /// `count` symbols are not.
 fn target(symbol: &NumberedSymbol, count: usize, marks: &[bool]) -> Option<usize>
-    ensures { MatchOption result ((t : ℕ) → ¬ (IsOpen marks.now count symbol.now t))
-        (λ t. IsOpen marks.now count symbol.now t) }
+    ensures { MatchOption result ((t : ℕ) → ¬ (IsPartOpen marks.now count symbol.now t))
+        (λ t. IsPartOpen marks.now count symbol.now t) }
 {
     let NumberedSymbol::Part { sort, least: _ } = symbol else {
         return None;

@@ -15,7 +15,7 @@ ghost use Rattle.sx_grammar.specs.Cycles.{HaveSortsBelow, HavePartsBelow};
 ghost use Rattle.sx_grammar.specs.Made.{IsGrammar};
 ghost use Rattle.sx_grammar.specs.Tables.{literals_of, AreNumbered, HaveLiteralsBelow};
 ghost use Rattle.sx_grammar.specs.Tables.{IsNumberedPair, IsWithinLimits};
-ghost use Rattle.sx_grammar.specs.Told.{IsSortOf, IsLevelOf, shapes_of, HasLabelsBelow};
+ghost use Rattle.sx_grammar.specs.Told.{IsSortOfLabel, IsLevelOf, shapes_of, HasLabelsBelow};
 ghost use Rattle.sx_term.specs.Limits.{most_depth};
 
 use crate::grammar::Grammar;
@@ -55,7 +55,7 @@ impl Grammar {
     /// The sort of the production with this label.
     pub fn sort_of(&self, label: u32) -> Sort
         requires { label < length self.now.parts.productions }
-        ensures { IsSortOf self.now.parts label result }
+        ensures { IsSortOfLabel self.now.parts label result }
     {
         let production = &self.productions[label as usize];
         sort_with(&self.parts.sorts, production.sort)

@@ -2,7 +2,7 @@
 use Rattle.std.proofs.Common.{◌≡◌, ℕ, zero, suc, ◌<◌, ◌⊎◌, inl, inr, List, [], ◌∷◌, length, refl}
 use Rattle.std.proofs.Common.{sym, ap, ◌∙◌, subst, arith}
 use Rattle.sx_lines.specs.Lines.{Lines, over, line}
-use Rattle.sx_lines.specs.Takes.{Takes, SameHead, number_of}
+use Rattle.sx_lines.specs.Takes.{Takes, SameHead, line_number}
 use Rattle.sx_lines.specs.FirstBad.{IsFirstBad}
 
 three_ways : (m n : ℕ) → (m < n) ⊎ ((m ≡ n) ⊎ (n < m))
@@ -72,7 +72,7 @@ module _ {V : Type 0} (States : Lines → V → Type 0) (lines : Lines) where
         | inl l ↦ absurd (no_later n m a b l)
         | inr h ↦ elim h [
           | inl e ↦ a.place
-              ∙ ap number_of (same_next a.front b.front lines a.next b.next a.takes b.takes e)
+              ∙ ap line_number (same_next a.front b.front lines a.next b.next a.takes b.takes e)
               ∙ sym b.place
           | inr l ↦ absurd (no_later m n b a l)
         ]

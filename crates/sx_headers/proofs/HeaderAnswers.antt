@@ -4,13 +4,13 @@ use Rattle.std.specs.Prelude.{Option, Some, None, Result, Ok, Err, IfSome, IfErr
 use Rattle.std.specs.Str.{IsUtf8}
 use Rattle.std.specs.Str.Lossy.{utf8_valid_len}
 use Rattle.sx_lines.specs.FirstBad.{IsFirstBad}
-use Rattle.sx_lines.specs.Lines.{lines_from, texts}
+use Rattle.sx_lines.specs.Lines.{lines_from, line_texts}
 use Rattle.sx_interface.specs.declared.error.HeaderError.{HeaderError}
 use Rattle.sx_interface.specs.declared.error.HeaderError.TheVariants as header_error
 use Rattle.sx_interface.specs.declared.interfaces.Interface.{Interface}
 use Rattle.sx_interface.specs.Interfaces.{InterfaceParts, interface_of, other_version}
 use Rattle.sx_interface.specs.InterfaceView.{interface_view}
-use Rattle.sx_interface.specs.Reading.{AnswersVersion, line_of}
+use Rattle.sx_interface.specs.Reading.{AnswersVersion, error_line}
 use Rattle.sx_interface.specs.Stated.{StatesInterface}
 use Rattle.sx_steps.specs.declared.stop.Stop.{Stop}
 use Rattle.sx_steps.specs.Stops.{not_utf8}
@@ -29,8 +29,8 @@ module _ (file name bytes : List ℕ) (stop : Stop) where
       (interface_of name (lines_from 1 bytes))
 
   abbrev HasLine : HeaderError → Type 0
-  HasLine e = IfSome (line_of e)
-      (IsFirstBad (λ l. StatesInterface name (texts l)) (lines_from 1 bytes))
+  HasLine e = IfSome (error_line e)
+      (IsFirstBad (λ l. StatesInterface name (line_texts l)) (lines_from 1 bytes))
 
   by_version : (version : Option ℕ) (e : HeaderError) →
       other_version (lines_from 1 bytes) ≡ version →

@@ -2,7 +2,7 @@
 use Rattle.std.proofs.Common.{◌≡◌, ℕ, suc, List, [], ◌∷◌, ◌++◌, length, refl, sym, ap, ◌∙◌, subst}
 use Rattle.std.proofs.Common.{inl, inr}
 use Rattle.std.specs.Prelude.{Result, Ok, Err, Option, Some, None, Contains}
-use Rattle.sx_lines.specs.Lines.{Lines, lines_from, texts}
+use Rattle.sx_lines.specs.Lines.{Lines, lines_from, line_texts}
 use Rattle.sx_lines.specs.Reading.{kept}
 use Rattle.sx_interface.specs.Headers.{HeaderParts}
 use Rattle.sx_interface.specs.Interfaces.{InterfaceParts, other_version}
@@ -83,7 +83,7 @@ module _ (file name bytes : List ℕ) where
   lines = lines_from 1 bytes
 
   abbrev States : Lines → InterfaceParts → Type 0
-  States l it = StatesInterface name (texts l) it
+  States l it = StatesInterface name (line_texts l) it
 
   pub one_interface : (i j : InterfaceParts) → States lines i → States lines j → i ≡ j
   one_interface i j s t =

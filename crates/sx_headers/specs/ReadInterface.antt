@@ -3,7 +3,7 @@ use Rattle.std.specs.Prelude.{◌≡◌, ◌⊎◌, ℕ, List, None, Some, Resul
 use Rattle.std.specs.Str.{IsUtf8}
 use Rattle.std.specs.Str.Lossy.{utf8_valid_len}
 use Rattle.sx_lines.specs.FirstBad.{IsFirstBad}
-use Rattle.sx_lines.specs.Lines.{Lines, lines_from, texts}
+use Rattle.sx_lines.specs.Lines.{Lines, lines_from, line_texts}
 use Rattle.sx_interface.specs.Interfaces.{InterfaceParts, other_version}
 use Rattle.sx_interface.specs.InterfaceView.{interface_view}
 use Rattle.sx_interface.specs.Stated.{StatesInterface}
@@ -22,21 +22,22 @@ pub record HeldInterface : Type 0 where
   pub parts : InterfaceParts
 
 -- what was read, without where it lies in memory
-abbrev pub interface_of : InterfaceFile → HeldInterface
-interface_of i = record { bytes = i.bytes.items; parts = interface_view i.interface }
+abbrev pub held_interface : InterfaceFile → HeldInterface
+held_interface i = record { bytes = i.bytes.items; parts = interface_view i.interface }
 
 -- the bytes state the interface of a module with this name
 pub record HasInterface (name bytes : List ℕ) (i : HeldInterface) : Type 0 where
   pub same : i.bytes ≡ bytes
   pub utf8 : IsUtf8 bytes
-  pub states : StatesInterface name (texts (lines_from 1 bytes)) i.parts
+  pub states : StatesInterface name (line_texts (lines_from 1 bytes)) i.parts
 
 -- the first line names another version, or else this line is the first that is not as defined
 abbrev pub IsBadInterface : List ℕ → List ℕ → Lines → Stop → Type 0
 IsBadInterface file name lines stop =
     ((number : ℕ) × (other_version lines ≡ Some number) × (stop ≡ is_other_version file number))
     ⊎ ((other_version lines ≡ None) × ((line : ℕ) ×
-    IsFirstBad (λ l. StatesInterface name (texts l)) lines line × (stop ≡ bad_header file line)))
+    IsFirstBad (λ l. StatesInterface name (line_texts l)) lines line ×
+    (stop ≡ bad_header file line)))
 
 -- the interface that the bytes state; or they are not UTF-8, or else what is bad about their lines
 abbrev pub StatesParts : List ℕ → List ℕ → List ℕ → Result HeldInterface Stop → Type 0

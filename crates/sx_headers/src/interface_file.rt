@@ -3,7 +3,7 @@
 ghost use Rattle.std.specs.Prelude.{◌≡◌, ◌≤◌, IfOk, length};
 ghost use Rattle.sx_outside.specs.Told.{WhereTold};
 ghost use Rattle.sx_steps.specs.Stop.{Gives, OnlyReads, IsNoFault};
-ghost use Rattle.sx_headers.specs.ReadInterface.{interface_of, HasInterface, StatesParts};
+ghost use Rattle.sx_headers.specs.ReadInterface.{held_interface, HasInterface, StatesParts};
 ghost use Rattle.sx_headers.specs.ReadInterface.{ReadsInterface};
 ghost use Rattle.sx_term.specs.Limits.{most_bytes};
 
@@ -29,9 +29,9 @@ fn state_interface(
     bytes: Vec<u8>,
 ) -> Result<InterfaceFile, StepError>
     requires { length bytes.items ≤ most_bytes }
-    ensures step { Gives interface_of (StatesParts file.now name.now bytes.items) result }
+    ensures step { Gives held_interface (StatesParts file.now name.now bytes.items) result }
     ensures short { IfOk result (λ i. length i.bytes.items ≤ most_bytes) }
-    ensures stated { IfOk result (λ i. HasInterface name.now i.bytes.items (interface_of i)) }
+    ensures stated { IfOk result (λ i. HasInterface name.now i.bytes.items (held_interface i)) }
     ensures no_fault { IsNoFault result }
 {
     match read_interface(alloc, name, &bytes) {
@@ -54,9 +54,9 @@ pub fn read_interface_file<S: Shelf>(
     shelf: &mut S,
 ) -> Result<InterfaceFile, StepError>
     ensures step { WhereTold (S.content shelf.old)
-        (λ files. Gives interface_of (ReadsInterface file.now name.now files) result) }
+        (λ files. Gives held_interface (ReadsInterface file.now name.now files) result) }
     ensures short { IfOk result (λ i. length i.bytes.items ≤ most_bytes) }
-    ensures stated { IfOk result (λ i. HasInterface name.now i.bytes.items (interface_of i)) }
+    ensures stated { IfOk result (λ i. HasInterface name.now i.bytes.items (held_interface i)) }
     ensures reads { OnlyReads (S.content shelf.old) (S.content shelf.new)
         (S.read_faults shelf.old) (S.read_faults shelf.new)
         (S.write_faults shelf.old) (S.write_faults shelf.new) result }

@@ -12,7 +12,7 @@ use Rattle.sx_arena.proofs.Growing.{extends-same, extends-then, extends-length, 
 use Rattle.sx_arena.proofs.Arenas.{maps_same, below_more, below_zero}
 use Rattle.sx_arena.proofs.Patterns.{below_push, held_after}
 use Rattle.sx_images.specs.declared.node.Node.{Node}
-use Rattle.sx_images.specs.Images.{noted_at, with_note, AreMade, IsImageAt}
+use Rattle.sx_images.specs.Images.{noted_at, with_note, AreImagesNoted, IsImageAt}
 use Rattle.sx_images.specs.Nodes.{IsLeaf, IsNodeAt}
 use Rattle.sx_images.proofs.Known.{made_stay}
 use Rattle.sx_images.proofs.Noting.{noted-more}
@@ -23,11 +23,11 @@ module _ (table : Table) where
   pub record Making (start : List Tree) (a : Arena) (notes : List (Option ℕ)) (parts is : List ℕ) (i : ℕ) : Type 0 where
     pub arena : IsArena a
     pub extends : Extends start (trees a)
-    pub known : AreMade table (trees a) notes
+    pub known : AreImagesNoted table (trees a) notes
     pub below : AreBelow (length (trees a)) parts
     pub are : map (tree_at (trees a)) parts ≡ map (λ k. image table (tree_at start k)) (take i is)
 
-  pub making_none : (a : Arena) (notes : List (Option ℕ)) (parts is : List ℕ) → IsArena a → AreMade table (trees a) notes → parts ≡ [] → Making (trees a) a notes parts is 0
+  pub making_none : (a : Arena) (notes : List (Option ℕ)) (parts is : List ℕ) → IsArena a → AreImagesNoted table (trees a) notes → parts ≡ [] → Making (trees a) a notes parts is 0
   making_none a notes parts is h known e = record {
     arena = h;
     extends = extends-same (trees a);
@@ -36,7 +36,7 @@ module _ (table : Table) where
     are = ap (map (tree_at (trees a))) e;
   }
 
-  pub making_more : (start : List Tree) (old new : Arena) (notes others : List (Option ℕ)) (parts more is : List ℕ) (i k j : ℕ) → Making start old notes parts is i → AreMade table (trees new) others →
+  pub making_more : (start : List Tree) (old new : Arena) (notes others : List (Option ℕ)) (parts more is : List ℕ) (i k j : ℕ) → Making start old notes parts is i → AreImagesNoted table (trees new) others →
       IsHeld old new j (image table (tree_at (trees old) k)) → (t : Tree) (n : Node) → IsNodeAt start t (Some n) → is ≡ n.kids.items → more ≡ parts ++ j ∷ [] → i < length is → k ≡ get_or is i 0 → Making start new others more is (i + 1)
   making_more start old new notes others parts more is i k j m known h t n at f e l g =
       let b : AreBelow (length start) is = subst (λ (xs : List ℕ). AreBelow (length start) xs) (sym f) at.0 in
@@ -112,7 +112,7 @@ module _ (table : Table) where
   }
 
   -- what is noted stands
-  pub noted_held : (a : Arena) (notes : List (Option ℕ)) (i j : ℕ) → IsArena a → AreMade table (trees a) notes → Some j ≡ noted_at notes i → IsHeld a a j (image table (tree_at (trees a) i))
+  pub noted_held : (a : Arena) (notes : List (Option ℕ)) (i j : ℕ) → IsArena a → AreImagesNoted table (trees a) notes → Some j ≡ noted_at notes i → IsHeld a a j (image table (tree_at (trees a) i))
   noted_held a notes i j h known e =
       let k = known i j (sym e) in
       record {
@@ -123,8 +123,8 @@ module _ (table : Table) where
       }
 
   -- and the image that was made is noted
-  pub made_more : (old new : Arena) (notes others : List (Option ℕ)) (i j : ℕ) → AreMade table (trees new) notes → i < length (trees old) → IsHeld old new j (image table (tree_at (trees old) i)) →
-      ((k : ℕ) → noted_at others k ≡ with_note (noted_at notes) i j k) → AreMade table (trees new) others
+  pub made_more : (old new : Arena) (notes others : List (Option ℕ)) (i j : ℕ) → AreImagesNoted table (trees new) notes → i < length (trees old) → IsHeld old new j (image table (tree_at (trees old) i)) →
+      ((k : ℕ) → noted_at others k ≡ with_note (noted_at notes) i j k) → AreImagesNoted table (trees new) others
   made_more old new notes others i j known l h same =
       noted-more (IsImageAt table (trees new)) (noted_at notes) (noted_at others) i j known
       (record {
@@ -135,6 +135,6 @@ module _ (table : Table) where
       same
 
   -- what is known stays so where a term was put in
-  pub known_after : {E : Type 0} (old new : Arena) (notes : List (Option ℕ)) (t : Tree) (r : Result ℕ E) → IfOk r (λ j. IsHeld old new j t) → AreMade table (trees old) notes → OnOk r (AreMade table (trees new) notes)
+  pub known_after : {E : Type 0} (old new : Arena) (notes : List (Option ℕ)) (t : Tree) (r : Result ℕ E) → IfOk r (λ j. IsHeld old new j t) → AreImagesNoted table (trees old) notes → OnOk r (AreImagesNoted table (trees new) notes)
   known_after {E} old new notes t (Ok j) h known = made_stay table (trees old) (trees new) notes h.extends known
   known_after {E} old new notes t (Err e) h known = tt

@@ -13,7 +13,7 @@ use Rattle.sx_plain.proofs.Measured.{depths, sizes, sat, node-depth, node-size, 
 use Rattle.sx_plain.proofs.PartLaws.{node-sats}
 use Rattle.sx_arena.specs.declared.arena.Cell.{Cell}
 use Rattle.sx_arena.specs.declared.shape.Shape.TheVariants.{Node as Branch}
-use Rattle.sx_arena.specs.Arena.{SmallVec, tree_at, IsRead}
+use Rattle.sx_arena.specs.Arena.{SmallVec, tree_at, IsCellRead}
 use Rattle.sx_images.specs.Images.{IsMeasure, AreMeasured}
 use Rattle.sx_images.proofs.Parts.{node_read, depth_among, image_kids}
 
@@ -89,7 +89,7 @@ module _ (table : Table) (ts : List Tree) where
     pub sizes : sizes_of parts ≡ map big_or_most is
     pub small : greatest (depths_of parts) ≤ 1001 * greatest_depth (forest (map (tree_at ts) is))
 
-  pub measured_all : (notes : List (Option Measure)) (index label : ℕ) (c : Cell) (kids : SmallVec ℕ) (parts ms : List Measure) (is : List ℕ) (i : ℕ) → IsRead ts index c → c.shape ≡ Branch label kids → is ≡ kids.items →
+  pub measured_all : (notes : List (Option Measure)) (index label : ℕ) (c : Cell) (kids : SmallVec ℕ) (parts ms : List Measure) (is : List ℕ) (i : ℕ) → IsCellRead ts index c → c.shape ≡ Branch label kids → is ≡ kids.items →
       FitsTable table (tree_at ts index) → Measuring notes parts is i → length is ≤ i → ms ≡ parts → Measured label ms is
   measured_all notes index label c kids parts ms is i r e f fits all l g =
       let n = subst (λ (t : Tree). FitsTable table t) (node_read ts index label c kids is r e f) fits in
@@ -104,7 +104,7 @@ module _ (table : Table) (ts : List Tree) where
         small = all.small;
       })
 
-  pub measured_node : (index label : ℕ) (c : Cell) (kids : SmallVec ℕ) (parts : List Measure) (is : List ℕ) (m : Measure) → IsRead ts index c → c.shape ≡ Branch label kids → is ≡ kids.items → Measured label parts is →
+  pub measured_node : (index label : ℕ) (c : Cell) (kids : SmallVec ℕ) (parts : List Measure) (is : List ℕ) (m : Measure) → IsCellRead ts index c → c.shape ≡ Branch label kids → is ≡ kids.items → Measured label parts is →
       m.depth ≡ node_depth (table label) (depths_of parts) → m.depth ≤ greatest (depths_of parts) + 1000 → m.size ≡ sat (node_size (table label) (sizes_of parts)) → IsMeasure table (tree_at ts index) m
   measured_node index label c kids parts is m r e f all d l s =
       let n = node_read ts index label c kids is r e f in

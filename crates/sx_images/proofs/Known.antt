@@ -5,7 +5,7 @@ use Rattle.sx_plain.specs.declared.measure.Measure.{Measure}
 use Rattle.sx_plain.specs.Plain.{Table, image}
 use Rattle.sx_arena.specs.Grown.{Extends}
 use Rattle.sx_arena.proofs.Growing.{extends-at, extends-length}
-use Rattle.sx_images.specs.Images.{IsMeasure, AreMeasured, AreMade}
+use Rattle.sx_images.specs.Images.{IsMeasure, AreMeasured, AreImagesNoted}
 use Rattle.sx_images.specs.Laws.{ImagesStayKnown}
 
 pub measures_stay : (table : Table) (old new : List Tree) (notes : List (Option Measure)) → Extends old new → AreMeasured table old notes → AreMeasured table new notes
@@ -17,7 +17,7 @@ measures_stay table old new notes x known = λ i m e.
       measure = subst (λ (t : Tree). IsMeasure table t m) (sym (extends-at old new x i (node 0 none) h.within)) h.measure;
     }
 
-pub made_stay : (table : Table) (old new : List Tree) (notes : List (Option ℕ)) → Extends old new → AreMade table old notes → AreMade table new notes
+pub made_stay : (table : Table) (old new : List Tree) (notes : List (Option ℕ)) → Extends old new → AreImagesNoted table old notes → AreImagesNoted table new notes
 made_stay table old new notes x known = λ i j e.
     let h = known i j e in
     let n = extends-length old new x in

@@ -7,10 +7,10 @@ use Rattle.sx_plain.specs.Plain.{Body, Table, image_node, image, images}
 use Rattle.sx_plain.specs.Tables.{FitsTable, FitTable}
 use Rattle.sx_arena.specs.declared.arena.Cell.{Cell}
 use Rattle.sx_arena.specs.declared.shape.Shape.TheVariants.{Node as Branch}
-use Rattle.sx_arena.specs.Arena.{SmallVec, tree_at, shape_tree, IsRead}
+use Rattle.sx_arena.specs.Arena.{SmallVec, tree_at, shape_tree, IsCellRead}
 
 -- a node that is read
-pub node_read : (ts : List Tree) (index label : ℕ) (c : Cell) (kids : SmallVec ℕ) (is : List ℕ) → IsRead ts index c → c.shape ≡ Branch label kids → is ≡ kids.items → tree_at ts index ≡ node label (forest (map (tree_at ts) is))
+pub node_read : (ts : List Tree) (index label : ℕ) (c : Cell) (kids : SmallVec ℕ) (is : List ℕ) → IsCellRead ts index c → c.shape ≡ Branch label kids → is ≡ kids.items → tree_at ts index ≡ node label (forest (map (tree_at ts) is))
 node_read ts index label c kids is r e f = r.tree ∙ ap (shape_tree ts) e ∙ ap (λ (xs : List ℕ). node label (forest (map (tree_at ts) xs))) (sym f)
 
 -- a kid is no deeper than the deepest
@@ -25,7 +25,7 @@ fit_among table ts [] i k f h e = absurd (omega arith)
 fit_among table ts (x ∷ is) zero k f h e = subst (λ (y : ℕ). FitsTable table (tree_at ts y)) (sym e) f.0
 fit_among table ts (x ∷ is) (suc i) k f h e = fit_among table ts is i k f.1 (omega arith) e
 
-pub kid_fits : (table : Table) (ts : List Tree) (index label : ℕ) (c : Cell) (kids : SmallVec ℕ) (is : List ℕ) (i k : ℕ) → IsRead ts index c → c.shape ≡ Branch label kids → is ≡ kids.items →
+pub kid_fits : (table : Table) (ts : List Tree) (index label : ℕ) (c : Cell) (kids : SmallVec ℕ) (is : List ℕ) (i k : ℕ) → IsCellRead ts index c → c.shape ≡ Branch label kids → is ≡ kids.items →
     FitsTable table (tree_at ts index) → i < length is → k ≡ get_or is i 0 → FitsTable table (tree_at ts k)
 kid_fits table ts index label c kids is i k r e f fits h g =
     let n = subst (λ (t : Tree). FitsTable table t) (node_read ts index label c kids is r e f) fits in

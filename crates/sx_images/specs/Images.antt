@@ -39,10 +39,10 @@ AreMeasured table ts notes = (i : ℕ) (m : Measure) → noted_at notes i ≡ So
     IsMeasureAt table ts i m
 
 -- each number that is noted is that of the plain image
-abbrev pub AreMade : Table → List Tree → List (Option ℕ) → Type 0
-AreMade table ts notes = (i j : ℕ) → noted_at notes i ≡ Some j → IsImageAt table ts i j
+abbrev pub AreImagesNoted : Table → List Tree → List (Option ℕ) → Type 0
+AreImagesNoted table ts notes = (i j : ℕ) → noted_at notes i ≡ Some j → IsImageAt table ts i j
 
 -- what is known is so of the plain images by this table
 pub record AreImages (table : Table) (ts : List Tree) (images : Images) : Type 0 where
   pub measures : AreMeasured table ts images.measures.items
-  pub numbers : AreMade table ts images.numbers.items
+  pub numbers : AreImagesNoted table ts images.numbers.items

@@ -5,7 +5,7 @@ ghost use Rattle.sx_term.specs.Tree.{depth_of};
 ghost use Rattle.sx_plain.specs.Plain.{image};
 ghost use Rattle.sx_plain.specs.Views.{table_of};
 ghost use Rattle.sx_arena.specs.Arena.{trees, tree_at, IsArena, IsHeld};
-ghost use Rattle.sx_images.specs.Images.{AreMade};
+ghost use Rattle.sx_images.specs.Images.{AreImagesNoted};
 ghost use Rattle.sx_term.specs.Limits.{most_depth};
 
 use crate::filling::filled;
@@ -27,10 +27,11 @@ pub(crate) fn made(
     term: usize,
 ) -> Result<usize, NoMemory>
     requires arena { IsArena arena.old }
-    requires known { AreMade (table_of table.now) (trees arena.old) notes.old.items }
+    requires known { AreImagesNoted (table_of table.now) (trees arena.old) notes.old.items }
     requires within { term < length (trees arena.old) }
     requires shallow { depth_of (tree_at (trees arena.old) term) ≤ most_depth }
-    ensures known { OnOk result (AreMade (table_of table.now) (trees arena.new) notes.new.items) }
+    ensures known { OnOk result (AreImagesNoted (table_of table.now)
+        (trees arena.new) notes.new.items) }
     ensures image { IfOk result (λ i. IsHeld arena.old arena.new i
         (image (table_of table.now) (tree_at (trees arena.old) term))) }
 {
@@ -52,10 +53,11 @@ fn new_image(
     term: usize,
 ) -> Result<usize, NoMemory>
     requires arena { IsArena arena.old }
-    requires known { AreMade (table_of table.now) (trees arena.old) notes.old.items }
+    requires known { AreImagesNoted (table_of table.now) (trees arena.old) notes.old.items }
     requires within { term < length (trees arena.old) }
     requires shallow { depth_of (tree_at (trees arena.old) term) ≤ most_depth }
-    ensures known { OnOk result (AreMade (table_of table.now) (trees arena.new) notes.new.items) }
+    ensures known { OnOk result (AreImagesNoted (table_of table.now)
+        (trees arena.new) notes.new.items) }
     ensures image { IfOk result (λ i. IsHeld arena.old arena.new i
         (image (table_of table.now) (tree_at (trees arena.old) term))) }
 {

@@ -20,7 +20,7 @@ use Rattle.sx_steps.proofs.Ones.{some_same}
 use Rattle.sx_headers.specs.ReadInterface.{ReadsInterface}
 use Rattle.sx_headers.specs.TextStops.{unread_text}
 use Rattle.sx_headers.proofs.OneHeaders.{reads_interface_one}
-use Rattle.sx_importing.specs.ImportStops.{file_of, import_stop}
+use Rattle.sx_importing.specs.ImportStops.{import_file, import_stop}
 use Rattle.sx_importing.specs.KeptValues.{KeepsText, KeepsDigest}
 use Rattle.sx_importing.specs.Laws.{SameButRows, ImportsAreOne, EnvironmentsAgree}
 use Rattle.sx_importing.specs.MakeEnvironment.{SeesImports}
@@ -65,7 +65,7 @@ module _ (one : OneEnvironment) (file : List ℕ) (s : SeenFrom) (its : List Int
   alike e d x y (inl same) h k =
       inl (some_same x y (sym h ∙ ap (import_stop file its) same ∙ k))
   alike e d x y (inr show) h k =
-      let own = file_of its show.import in
+      let own = import_file its show.import in
       let a = unread_text own show.line show.column (unread.Ambiguous show.one show.other) in
       let b = unread_text own show.line show.column (unread.Ambiguous show.some show.more) in
       let left = some_same a x (sym (ap (import_stop file its) show.first) ∙ h) in

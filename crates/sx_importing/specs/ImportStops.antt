@@ -15,22 +15,22 @@ use Rattle.sx_headers.specs.TextStops.{uncut_text, unread_text}
 use Rattle.sx_importing.specs.KeptValues.{kept_differs}
 
 -- the file of the import with this number
-abbrev pub file_of : List InterfaceParts → ℕ → List ℕ
-file_of its import = interface_file (slice_index_or (map (λ it. it.name) its) import [])
+abbrev pub import_file : List InterfaceParts → ℕ → List ℕ
+import_file its import = interface_file (slice_index_or (map (λ it. it.name) its) import [])
 
 -- The stop of a refusal of these imports: it is told of the import's interface, and where the
 -- environment is too deep of this file. Out of memory has none.
 abbrev pub import_stop : List ℕ → List InterfaceParts → ImportError → Option Stop
 import_stop file its import_error.Memory = None
 import_stop file its (import_error.LanguageDiffers import language) =
-    Some (about (file_of its import) (defect.Closure (closure_defect.LanguageDiffers language)))
+    Some (about (import_file its import) (defect.Closure (closure_defect.LanguageDiffers language)))
 import_stop file its (import_error.Differs import kept found) =
-    Some (kept_differs (file_of its import) LanguageDigest (encode_lower kept.bytes)
+    Some (kept_differs (import_file its import) LanguageDigest (encode_lower kept.bytes)
     (encode_lower found.bytes))
 import_stop file its (import_error.Token import line column e) =
-    uncut_text (file_of its import) line column e
+    uncut_text (import_file its import) line column e
 import_stop file its (import_error.Read import line column u) =
-    Some (unread_text (file_of its import) line column u)
+    Some (unread_text (import_file its import) line column u)
 import_stop file its (import_error.StatedDiffers import kept found) =
-    Some (kept_differs (file_of its import) Stated kept found)
+    Some (kept_differs (import_file its import) Stated kept found)
 import_stop file its (import_error.TooDeep depth) = Some (too_deep file depth)

@@ -10,7 +10,7 @@ use Rattle.sx_steps.specs.declared.step_error.StepError.{StepError}
 use Rattle.sx_steps.specs.declared.stop.Stop.{Stop}
 use Rattle.sx_steps.specs.Agree.{AreReadings, IsNoReadFault, IsSure, AnswersBy}
 use Rattle.sx_steps.specs.Steps.{Untried}
-use Rattle.sx_importing.specs.ImportStops.{file_of}
+use Rattle.sx_importing.specs.ImportStops.{import_file}
 use Rattle.sx_importing.specs.MakeEnvironment.{SeesImports}
 use Rattle.sx_importing.specs.ReadImports.{ImportData, ReadsImports}
 
@@ -20,7 +20,7 @@ pub record IsOfImport (s : SeenFrom) (its : List InterfaceParts) (stop : Stop) :
   pub one : ImportError
   pub other : ImportError
   pub show : ReadOthers s its one other
-  pub file : stop.file ≡ file_of its show.import
+  pub file : stop.file ≡ import_file its show.import
 
 -- the stops are the same, but for the two readings that they show of such a row
 abbrev pub SameButRows : SeenFrom → List InterfaceParts → Stop → Stop → Type 0

@@ -1,7 +1,7 @@
 //! The stops of imports of which no environment is made.
 
 ghost use Rattle.std.specs.Prelude.{◌≡◌, ◌<◌, ℕ, List, IfOk, Some, length};
-ghost use Rattle.sx_environment.specs.ImportErrors.{HasNone};
+ghost use Rattle.sx_environment.specs.ImportErrors.{HasNoEnvironment};
 ghost use Rattle.sx_environment.specs.SeenFrom.{SeenFrom, interfaces_of};
 ghost use Rattle.sx_importing.specs.ImportStops as stops;
 
@@ -19,7 +19,7 @@ use sx_words::{ClosureDefect, Defect, Kept, TextDefect};
 /// The file of the import with this number.
 fn file_of(alloc: Global, imports: &[Import], import: usize) -> Result<Text, NoMemory>
     requires { import < length imports.now }
-    ensures { IfOk result (λ file. file ≡ stops.file_of (interfaces_of imports.now) import) }
+    ensures { IfOk result (λ file. file ≡ stops.import_file (interfaces_of imports.now) import) }
 {
     with_suffix(alloc, &imports[import].interface.module, ".int")
 }
@@ -116,7 +116,7 @@ pub(crate) fn bad_import(
     imports: &[Import],
     error: ImportError,
 ) -> Result<Stop, NoMemory>
-    requires { (s : SeenFrom) × HasNone s (interfaces_of imports.now) error }
+    requires { (s : SeenFrom) × HasNoEnvironment s (interfaces_of imports.now) error }
     ensures { IfOk result (λ stop.
         stops.import_stop file.now (interfaces_of imports.now) error ≡ Some stop) }
 {

@@ -3,17 +3,18 @@ use Rattle.std.proofs.Common.{◌≡◌, ℕ, List, [], codes, ◌++◌, Result,
 use Rattle.std.specs.Prelude.{IfErr, IfSome}
 use Rattle.sx_lines.specs.Lines.{Lines, over, line, lines_from}
 use Rattle.sx_lines.specs.FirstBad.{IsFirstBad}
-use Rattle.sx_lines.specs.Reading.{◌>>=◌, next_line, kept, Gives}
+use Rattle.sx_lines.specs.Reading.{◌>>=◌, next_line, kept, GivesRead}
 use Rattle.sx_lines.specs.Rows.{name_after, distinct_names, bytes_after}
 use Rattle.sx_lines.proofs.SteadyLaws.{FirstRefused, Readable, ReadableAfter, readable_next, step_line, step_next, step_rows, step_bytes, first_bad}
 use Rattle.sx_lines.proofs.TakeLaws.{distinct_rows-takes, bytes_after-ends}
 use Rattle.sx_lines.specs.Words.{is_name}
 use Rattle.sx_interface.specs.declared.error.HeaderError.{HeaderError}
-use Rattle.sx_interface.specs.declared.error.HeaderError.TheVariants.{Memory, NotUtf8, Header, Version}
+use Rattle.sx_interface.specs.declared.error.HeaderError.TheVariants.{Memory, NotUtf8, Header}
+use Rattle.sx_interface.specs.declared.error.HeaderError.TheVariants.{Version}
 use Rattle.sx_interface.specs.declared.headers.Header as code
 use Rattle.sx_interface.specs.Headers.{HeaderParts, header_of}
 use Rattle.sx_interface.specs.HeaderView.{header_view}
-use Rattle.sx_interface.specs.Reading.{RefusesText, line_of}
+use Rattle.sx_interface.specs.Reading.{RefusesText, error_line}
 use Rattle.sx_interface.specs.StatedHeader.{StatesHeader}
 use Rattle.sx_interface.proofs.HeaderStated.{header_again, header_found, name_again, end_no_use, end_no_import}
 
@@ -74,8 +75,8 @@ header_first name lines k e =
 header_bad : (name : List ℕ) (lines : Lines) (k : ℕ) → header_of name lines ≡ Err k → IsFirstBad (StatesHeader name) lines k
 header_bad name lines k e = first_bad (StatesHeader name) (header_of name) (header_again name) (header_found name) lines k (header_first name lines k e)
 
-pub header_is_bad : (bytes name : List ℕ) (r : Result code.Header HeaderError) → Gives (header_view bytes) (RefusesText bytes) r (header_of name (kept (lines_from 1 bytes)))
-    → IfErr r (λ e. IfSome (line_of e) (IsFirstBad (StatesHeader name) (kept (lines_from 1 bytes))))
+pub header_is_bad : (bytes name : List ℕ) (r : Result code.Header HeaderError) → GivesRead (header_view bytes) (RefusesText bytes) r (header_of name (kept (lines_from 1 bytes)))
+    → IfErr r (λ e. IfSome (error_line e) (IsFirstBad (StatesHeader name) (kept (lines_from 1 bytes))))
 header_is_bad bytes name (Ok h) e = tt
 header_is_bad bytes name (Err Memory) e = tt
 header_is_bad bytes name (Err (NotUtf8 place)) e = tt

@@ -3,7 +3,7 @@ use Rattle.std.proofs.Common.{◌≡◌, ℕ, Bool, true, false, cond, List, [],
 use Rattle.std.specs.Prelude.{option_and_then, IfOk}
 use Rattle.sx_lines.specs.Lines.{Lines, over, line, lines_from}
 use Rattle.sx_lines.specs.Words.{after, is_name}
-use Rattle.sx_lines.specs.Reading.{kept, Gives}
+use Rattle.sx_lines.specs.Reading.{kept, GivesRead}
 use Rattle.sx_lines.specs.Rows.{name_or_none, name_after, EachNew}
 use Rattle.sx_lines.specs.Takes.{Takes, EndsWith}
 use Rattle.sx_lines.proofs.WordLaws.{after_front, front_of}
@@ -14,7 +14,7 @@ use Rattle.sx_interface.specs.declared.headers.Header as code
 use Rattle.sx_interface.specs.Headers.{HeaderParts, header_of}
 use Rattle.sx_interface.specs.HeaderView.{header_view}
 use Rattle.sx_interface.specs.Reading.{RefusesText}
-use Rattle.sx_interface.specs.StatedHeader.{AreNames, row_lines, header_lines, StatesHeader}
+use Rattle.sx_interface.specs.StatedHeader.{ArePlainNames, row_lines, header_lines, StatesHeader}
 use Rattle.sx_interface.proofs.HeaderLaws.{header_steps}
 
 name_case : (text name : List ℕ) (test : Bool) → is_name false text ≡ test → cond test (Some text) None ≡ Some name → (text ≡ name) × (is_name false name ≡ true)
@@ -36,7 +36,7 @@ pub name_again : (front name : List ℕ) → is_name false name ≡ true → nam
 unfolding name_after
 name_again front name h = ap (option_and_then name_or_none) (after_front front name) ∙ rw h refl
 
-rows_found : (front : List ℕ) (lines names : List (List ℕ)) → EachReads (name_after front) lines names → (lines ≡ row_lines front names) × AreNames names
+rows_found : (front : List ℕ) (lines names : List (List ℕ)) → EachReads (name_after front) lines names → (lines ≡ row_lines front names) × ArePlainNames names
 rows_found front [] [] h = (refl, tt)
 rows_found front [] (n ∷ names) h = absurd h
 rows_found front (text ∷ lines) [] h = absurd h
@@ -45,7 +45,7 @@ rows_found front (text ∷ lines) (n ∷ names) h =
     let q = rows_found front lines names h.1 in
     (ap (λ (x : List ℕ). x ∷ lines) p.0 ∙ ap (λ (x : List (List ℕ)). (front ++ n) ∷ x) q.0, (p.1, q.1))
 
-rows_again : (front : List ℕ) (names : List (List ℕ)) → AreNames names → EachReads (name_after front) (row_lines front names) names
+rows_again : (front : List ℕ) (names : List (List ℕ)) → ArePlainNames names → EachReads (name_after front) (row_lines front names) names
 rows_again front [] h = tt
 rows_again front (n ∷ names) h = (name_again front n h.0, rows_again front names h.1)
 
@@ -76,8 +76,8 @@ header_found name lines h e =
       takes = takes;
       end = f;
       language = b-is.1;
-      uses = subst (λ (x : List (List ℕ)). AreNames x) uses c-is.1;
-      imports = subst (λ (x : List (List ℕ)). AreNames x) imports d-is.1;
+      uses = subst (λ (x : List (List ℕ)). ArePlainNames x) uses c-is.1;
+      imports = subst (λ (x : List (List ℕ)). ArePlainNames x) imports d-is.1;
       distinct_uses = subst (λ (x : List (List ℕ)). EachNew (λ (n : List ℕ). n) [] x) uses c.fresh;
       distinct_imports = subst (λ (x : List (List ℕ)). EachNew (λ (n : List ℕ). n) [] x) imports d.fresh;
     })
@@ -121,9 +121,9 @@ header_again name lines h s =
 
 -- ---- of a call's result
 
-pub header_is_stated : (bytes name : List ℕ) (r : Result code.Header HeaderError) → Gives (header_view bytes) (RefusesText bytes) r (header_of name (kept (lines_from 1 bytes))) → IfOk r (λ h. StatesHeader name (kept (lines_from 1 bytes)) (header_view bytes h))
+pub header_is_stated : (bytes name : List ℕ) (r : Result code.Header HeaderError) → GivesRead (header_view bytes) (RefusesText bytes) r (header_of name (kept (lines_from 1 bytes))) → IfOk r (λ h. StatesHeader name (kept (lines_from 1 bytes)) (header_view bytes h))
 header_is_stated bytes name (Ok h) e = header_found name (kept (lines_from 1 bytes)) (header_view bytes h) e
 header_is_stated bytes name (Err x) e = tt
 
-pub header_is_only : (bytes name : List ℕ) (r : Result code.Header HeaderError) (h : HeaderParts) → StatesHeader name (kept (lines_from 1 bytes)) h → Gives (header_view bytes) (RefusesText bytes) r (header_of name (kept (lines_from 1 bytes))) → Gives (header_view bytes) (RefusesText bytes) r (Ok h)
-header_is_only bytes name r h s e = subst (λ (x : Result HeaderParts ℕ). Gives (header_view bytes) (RefusesText bytes) r x) (header_again name (kept (lines_from 1 bytes)) h s) e
+pub header_is_only : (bytes name : List ℕ) (r : Result code.Header HeaderError) (h : HeaderParts) → StatesHeader name (kept (lines_from 1 bytes)) h → GivesRead (header_view bytes) (RefusesText bytes) r (header_of name (kept (lines_from 1 bytes))) → GivesRead (header_view bytes) (RefusesText bytes) r (Ok h)
+header_is_only bytes name r h s e = subst (λ (x : Result HeaderParts ℕ). GivesRead (header_view bytes) (RefusesText bytes) r x) (header_again name (kept (lines_from 1 bytes)) h s) e

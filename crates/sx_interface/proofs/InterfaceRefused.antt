@@ -3,18 +3,20 @@ use Rattle.std.proofs.Common.{◌≡◌, ℕ, ◌<◌, zero, suc, List, [], ◌�
 use Rattle.std.specs.Prelude.{IfErr, IfSome}
 use Rattle.hex.specs.Hex.{encode_lower}
 use Rattle.sx_interface.specs.declared.error.HeaderError.{HeaderError}
-use Rattle.sx_interface.specs.declared.error.HeaderError.TheVariants.{Memory, NotUtf8, Header, Version}
+use Rattle.sx_interface.specs.declared.error.HeaderError.TheVariants.{Memory, NotUtf8, Header}
+use Rattle.sx_interface.specs.declared.error.HeaderError.TheVariants.{Version}
 use Rattle.sx_interface.specs.declared.interfaces.Interface.{Interface}
 use Rattle.sx_interface.specs.InterfaceView.{interface_view}
-use Rattle.sx_interface.specs.Reading.{AnswersVersion, line_of}
-use Rattle.sx_lines.specs.Lines.{Lines, line, lines_from, texts}
+use Rattle.sx_interface.specs.Reading.{AnswersVersion, error_line}
+use Rattle.sx_lines.specs.Lines.{Lines, line, lines_from, line_texts}
 use Rattle.sx_lines.specs.FirstBad.{IsFirstBad}
 use Rattle.sx_lines.specs.Words.{after, is_name}
 use Rattle.sx_lines.proofs.SteadyLaws.{FirstRefused, Readable, ReadableAfter, readable_line, readable_next, readable_end, step_line, step_next, step_rows, step_end, first_bad}
 use Rattle.sx_lines.proofs.TakeLaws.{the_line-takes, next_line-takes, distinct_rows-takes}
 use Rattle.sx_interface.specs.declared.version.Version as versions
 use Rattle.sx_interface.specs.declared.version.Version.TheVariants.{One, Two}
-use Rattle.sx_interface.specs.Interfaces.{Mark, InterfaceParts, mark_text, mark_after, digest_after, version_of, use_after, interface_of, other_version}
+use Rattle.sx_interface.specs.Interfaces.{Mark, InterfaceParts, mark_text, mark_after, digest_after}
+use Rattle.sx_interface.specs.Interfaces.{version_of, use_after, interface_of, other_version}
 use Rattle.sx_interface.specs.Stated.{IsDigest, IsMark, StatesInterface}
 use Rattle.sx_interface.proofs.MarkTexts.{mark_after-again, digest_after-again}
 use Rattle.sx_interface.proofs.VersionLaws.{first_text, version_again}
@@ -138,10 +140,10 @@ interface_first name lines k e =
     (λ v l h. version_first name v l k h) e
 
 -- the line that is refused is the first bad one
-pub interface_bad : (name : List ℕ) (lines : Lines) (k : ℕ) → interface_of name lines ≡ Err k → IsFirstBad (λ l. StatesInterface name (texts l)) lines k
-interface_bad name lines k e = first_bad (λ l. StatesInterface name (texts l)) (interface_of name) (interface_again name) (interface_found name) lines k (interface_first name lines k e)
+pub interface_bad : (name : List ℕ) (lines : Lines) (k : ℕ) → interface_of name lines ≡ Err k → IsFirstBad (λ l. StatesInterface name (line_texts l)) lines k
+interface_bad name lines k e = first_bad (λ l. StatesInterface name (line_texts l)) (interface_of name) (interface_again name) (interface_found name) lines k (interface_first name lines k e)
 
-answer_bad : (bytes name : List ℕ) (lines : Lines) (number : Option ℕ) (r : Result Interface HeaderError) → AnswersVersion bytes number interface_view r (interface_of name lines) → IfErr r (λ e. IfSome (line_of e) (IsFirstBad (λ l. StatesInterface name (texts l)) lines))
+answer_bad : (bytes name : List ℕ) (lines : Lines) (number : Option ℕ) (r : Result Interface HeaderError) → AnswersVersion bytes number interface_view r (interface_of name lines) → IfErr r (λ e. IfSome (error_line e) (IsFirstBad (λ l. StatesInterface name (line_texts l)) lines))
 answer_bad bytes name lines number (Ok it) h = tt
 answer_bad bytes name lines number (Err Memory) h = tt
 answer_bad bytes name lines number (Err (NotUtf8 place)) h = tt
@@ -150,5 +152,5 @@ answer_bad bytes name lines None (Err (Header n)) h = interface_bad name lines n
 answer_bad bytes name lines (Some v) (Err (Header n)) h = absurd h
 
 pub is_bad : (bytes name : List ℕ) (r : Result Interface HeaderError) → AnswersVersion bytes (other_version (lines_from 1 bytes)) interface_view r (interface_of name (lines_from 1 bytes))
-    → IfErr r (λ e. IfSome (line_of e) (IsFirstBad (λ l. StatesInterface name (texts l)) (lines_from 1 bytes)))
+    → IfErr r (λ e. IfSome (error_line e) (IsFirstBad (λ l. StatesInterface name (line_texts l)) (lines_from 1 bytes)))
 is_bad bytes name r h = answer_bad bytes name (lines_from 1 bytes) (other_version (lines_from 1 bytes)) r h

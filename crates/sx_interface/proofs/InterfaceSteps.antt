@@ -4,7 +4,8 @@ use Rattle.sx_lines.specs.Lines.{Lines}
 use Rattle.sx_lines.specs.Reading.{◌>>=◌, the_line, next_line, no_line}
 use Rattle.sx_lines.specs.Rows.{distinct_rows}
 use Rattle.sx_interface.specs.declared.version.Version.{Version}
-use Rattle.sx_interface.specs.Interfaces.{Mark, InterfaceParts, mark_after, digest_after, use_after, stated_of}
+use Rattle.sx_interface.specs.Interfaces.{Mark, InterfaceParts, mark_after, digest_after, use_after}
+use Rattle.sx_interface.specs.Interfaces.{stated_signature}
 
 abbrev pub made : (name : List ℕ) → Mark → (uses : List Mark) → (base : List ℕ) → (imports : List Mark) → (signature stated : List ℕ) → InterfaceParts
 made name language uses base imports signature stated =
@@ -14,7 +15,7 @@ abbrev pub from_stated : (List ℕ → InterfaceParts) → List ℕ × Lines →
 from_stated make stated = no_line stated.1 >>= λ end. Ok (make stated.0)
 
 abbrev pub from_signature : Version → (List ℕ → List ℕ → InterfaceParts) → List ℕ × Lines → Result InterfaceParts ℕ
-from_signature version make signature = stated_of version signature >>= λ stated. from_stated (make signature.0) stated
+from_signature version make signature = stated_signature version signature >>= λ stated. from_stated (make signature.0) stated
 
 abbrev pub from_signed : Version → (List ℕ → List ℕ → InterfaceParts) → Lines → Result InterfaceParts ℕ
 from_signed version make signed = next_line Some signed >>= λ signature. from_signature version make signature

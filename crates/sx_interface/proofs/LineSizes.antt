@@ -5,7 +5,8 @@ use Rattle.std.specs.Prelude.{codes, if◌then◌else◌}
 use Rattle.std.proofs.lemmas.List.{length-map, length-append}
 use Rattle.hex.specs.Hex.{encode_lower}
 use Rattle.sx_lines.specs.Bytes.{line_feed, carriage_return}
-use Rattle.sx_lines.specs.Lines.{Lines, over, line, next_number, ends_here, with_byte, lines_from, texts}
+use Rattle.sx_lines.specs.Lines.{Lines, over, line, next_number, ends_here, with_byte, lines_from}
+use Rattle.sx_lines.specs.Lines.{line_texts}
 use Rattle.sx_interface.specs.declared.version.Version.{Version}
 use Rattle.sx_interface.specs.declared.version.Version.TheVariants.{One, Two}
 use Rattle.sx_interface.specs.Interfaces.{InterfaceParts, Mark, lines_in, mark_lines, mark_text}
@@ -27,13 +28,13 @@ record AreWithin (most : ℕ) (ts : List (List ℕ)) : Type 0 where
 
 -- ---- the lines of bytes
 
-chosen : (most : ℕ) (test : Bool) (one other : Lines) → AreWithin most (texts one) →
-    AreWithin most (texts other) → AreWithin most (texts (if test then one else other))
+chosen : (most : ℕ) (test : Bool) (one other : Lines) → AreWithin most (line_texts one) →
+    AreWithin most (line_texts other) → AreWithin most (line_texts (if test then one else other))
 chosen most true one other h k = h
 chosen most false one other h k = k
 
-with_one : (most b : ℕ) (lines : Lines) → AreWithin most (texts lines) →
-    AreWithin (suc most) (texts (with_byte b lines))
+with_one : (most b : ℕ) (lines : Lines) → AreWithin most (line_texts lines) →
+    AreWithin (suc most) (line_texts (with_byte b lines))
 unfolding with_byte
 with_one most b (over n) h = record { bytes = omega arith; many = omega arith }
 with_one most b (line n text after more) h =
@@ -53,15 +54,15 @@ an_end most ts h =
     let many = h.many in
     record { bytes = omega (arith, bytes); many = omega (arith, many) }
 
-within : (n : ℕ) (bytes : List ℕ) → AreWithin (length bytes) (texts (lines_from n bytes))
+within : (n : ℕ) (bytes : List ℕ) → AreWithin (length bytes) (line_texts (lines_from n bytes))
 unfolding lines_from
 within n [] = record { bytes = omega arith; many = omega arith }
 within n (b ∷ bytes) =
     chosen (suc (length bytes)) (b == line_feed) (line n [] bytes (lines_from (next_number n) bytes)) _
-    (an_end (length bytes) (texts (lines_from (next_number n) bytes)) (within (next_number n) bytes))
+    (an_end (length bytes) (line_texts (lines_from (next_number n) bytes)) (within (next_number n) bytes))
     (chosen (suc (length bytes)) (b == carriage_return && ends_here bytes) (lines_from n bytes)
     (with_byte b (lines_from n bytes))
-    (one_more (length bytes) (texts (lines_from n bytes)) (within n bytes))
+    (one_more (length bytes) (line_texts (lines_from n bytes)) (within n bytes))
     (with_one (length bytes) b (lines_from n bytes) (within n bytes)))
 
 -- ---- the lines of an interface
@@ -111,7 +112,7 @@ interfaces_are_within most name bytes it short states =
     let h = within 1 bytes in
     let all = h.bytes in
     let many = h.many in
-    let lines : AreWithin most (texts (lines_from 1 bytes)) =
+    let lines : AreWithin most (line_texts (lines_from 1 bytes)) =
     record { bytes = omega (arith, all, short); many = omega (arith, many, short) } in
     interface_within states.version most it states.whole
     (subst (AreWithin most) states.spelled lines)

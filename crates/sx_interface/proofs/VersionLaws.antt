@@ -4,14 +4,16 @@ use Rattle.std.specs.List.{AllByRecursion}
 use Rattle.std.specs.Str.{bytes_eq}
 use Rattle.std.proofs.lemmas.Slice.Eq.{bytes_eq-Decides}
 use Rattle.hex.specs.Hex.{encode_lower}
-use Rattle.sx_lines.specs.Lines.{Lines, over, line, texts}
+use Rattle.sx_lines.specs.Lines.{Lines, over, line, line_texts}
 use Rattle.sx_lines.specs.Words.{after, number_within, digits_within}
 use Rattle.sx_lines.specs.Rows.{distinct_rows}
 use Rattle.sx_lines.proofs.ReadLaws.{EachReads}
 use Rattle.sx_lines.proofs.StepLaws.{next_line-again, NotRead}
 use Rattle.sx_interface.specs.declared.version.Version.{Version}
 use Rattle.sx_interface.specs.declared.version.Version.TheVariants.{One, Two}
-use Rattle.sx_interface.specs.Interfaces.{Mark, InterfaceParts, mark_text, mark_lines, lines_in, mark_after, version_of, use_after, stated_of, other_version}
+use Rattle.sx_interface.specs.Interfaces.{Mark, InterfaceParts, mark_text, mark_lines, lines_in}
+use Rattle.sx_interface.specs.Interfaces.{mark_after, version_of, use_after, stated_signature}
+use Rattle.sx_interface.specs.Interfaces.{other_version}
 use Rattle.sx_interface.specs.Stated.{IsMark, IsWhole}
 use Rattle.sx_interface.proofs.MarkTexts.{marks_again, marks_found}
 
@@ -50,7 +52,7 @@ version_found text version e = first_case (bytes_eq text (codes "sxint 1")) (byt
     first_case false true h k e = let same : Two ≡ version = cc in subst (λ (v : Version). text ≡ first_text v) same ((bytes_eq-Decides text (codes "sxint 2")).0 k)
     first_case false false h k e = absurd cc
 
-pub version_known : (lines : Lines) (version : Version) (more : List (List ℕ)) → texts lines ≡ first_text version ∷ more → other_version lines ≡ None
+pub version_known : (lines : Lines) (version : Version) (more : List (List ℕ)) → line_texts lines ≡ first_text version ∷ more → other_version lines ≡ None
 unfolding other_version after number_within digits_within
 version_known (over n) version more e = absurd cc
 version_known (line n words rest lines) One more e = let same : words ≡ codes "sxint 1" = cc in rw same refl
@@ -91,7 +93,7 @@ abbrev pub HasStated : Version → (signature stated : List ℕ) → Type 0
 HasStated One signature stated = stated ≡ signature
 HasStated Two signature stated = Unit {0}
 
-pub stated_again : (version : Version) (it : InterfaceParts) (lines : Lines) → IsWhole version it → texts lines ≡ stated_lines version it.stated → (rest : Lines) × (stated_of version (it.signature, lines) ≡ Ok (it.stated, rest)) × (texts rest ≡ [])
+pub stated_again : (version : Version) (it : InterfaceParts) (lines : Lines) → IsWhole version it → line_texts lines ≡ stated_lines version it.stated → (rest : Lines) × (stated_signature version (it.signature, lines) ≡ Ok (it.stated, rest)) × (line_texts rest ≡ [])
 stated_again One it lines h e = (lines, ap (λ (s : List ℕ). Ok (s, lines)) (sym h.1), e)
 stated_again Two it lines h e = next_line-again Some lines it.stated [] it.stated e refl
 

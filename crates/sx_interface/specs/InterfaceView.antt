@@ -16,8 +16,8 @@ abbrev pub marks_view : List mark.ImportMark → List Mark
 marks_view marks = map mark_view marks
 
 -- a name and a digest as a mark
-abbrev pub pair_view : Bor (List ℕ) × Digest → Mark
-pair_view p = record { name = p.0.now; digest = p.1.bytes }
+abbrev pub import_view : Bor (List ℕ) × Digest → Mark
+import_view p = record { name = p.0.now; digest = p.1.bytes }
 
 -- what the rows of an interface say, under the module's name
 abbrev pub rows_view : List ℕ → Rows → (uses imports : List Mark) → InterfaceParts

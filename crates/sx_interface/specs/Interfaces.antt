@@ -85,9 +85,9 @@ use_after One = λ text. None
 use_after Two = mark_after (codes "use ")
 
 -- the stated signature, which in version 1 is the signature, and the lines after it
-abbrev pub stated_of : Version → List ℕ × Lines → Result (List ℕ × Lines) ℕ
-stated_of One signature = Ok signature
-stated_of Two signature = next_line Some signature.1
+abbrev pub stated_signature : Version → List ℕ × Lines → Result (List ℕ × Lines) ℕ
+stated_signature One signature = Ok signature
+stated_signature Two signature = next_line Some signature.1
 
 -- The interface that the lines of its file state, or the number of the first line that is not as
 -- defined.
@@ -101,7 +101,7 @@ interface_of name lines = do
   imports ← distinct_rows (λ m. m.name) (mark_after (codes "import ")) [] base.1
   signed ← the_line (codes "---") imports.1
   signature ← next_line Some signed
-  stated ← stated_of version.0 signature
+  stated ← stated_signature version.0 signature
   end ← no_line stated.1
   Ok (record {
     name = name;

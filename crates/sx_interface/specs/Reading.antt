@@ -1,5 +1,5 @@
 -- How a result stands to what reading gives.
-use Rattle.sx_lines.specs.Reading.{Gives}
+use Rattle.sx_lines.specs.Reading.{GivesRead}
 use Rattle.std.specs.Prelude.{◌≡◌, ℕ, List, Option, Some, None, Result, Ok, Err}
 use Rattle.std.specs.Str.{IsUtf8}
 use Rattle.std.specs.Str.Lossy.{utf8_valid_len}
@@ -8,16 +8,16 @@ use Rattle.sx_interface.specs.declared.error.HeaderError.TheVariants.{Memory, No
 use Rattle.sx_interface.specs.declared.error.HeaderError.TheVariants.{Version}
 
 -- an error where memory runs out, or at the line that reading refuses
-abbrev pub Refuses : {Y : Type 0} → HeaderError → Result Y ℕ → Type 0
-Refuses Memory read = Unit {0}
-Refuses (NotUtf8 place) read = ⊥
-Refuses (Header n) read = read ≡ Err n
-Refuses (Version n) read = ⊥
+abbrev pub RefusesHeader : {Y : Type 0} → HeaderError → Result Y ℕ → Type 0
+RefusesHeader Memory read = Unit {0}
+RefusesHeader (NotUtf8 place) read = ⊥
+RefusesHeader (Header n) read = read ≡ Err n
+RefusesHeader (Version n) read = ⊥
 
 -- the same of bytes that may be no text
 abbrev pub RefusesText : {Y : Type 0} → List ℕ → HeaderError → Result Y ℕ → Type 0
 RefusesText bytes (NotUtf8 place) read = (IsUtf8 bytes → ⊥) × (place ≡ utf8_valid_len bytes)
-RefusesText bytes e read = IsUtf8 bytes × Refuses e read
+RefusesText bytes e read = IsUtf8 bytes × RefusesHeader e read
 
 -- what was read is text
 abbrev pub IsText : {X : Type 0} → List ℕ → Result X HeaderError → Type 0
@@ -36,11 +36,11 @@ abbrev pub AnswersVersion : {X Y : Type 0} → List ℕ → Option ℕ → (X �
     Result Y ℕ → Type 0
 AnswersVersion bytes (Some version) view (Ok x) read = ⊥
 AnswersVersion bytes (Some version) view (Err e) read = IsVersion bytes version e
-AnswersVersion bytes None view result read = Gives view (RefusesText bytes) result read
+AnswersVersion bytes None view result read = GivesRead view (RefusesText bytes) result read
 
 -- the line that an error names
-abbrev pub line_of : HeaderError → Option ℕ
-line_of Memory = None
-line_of (NotUtf8 place) = None
-line_of (Header n) = Some n
-line_of (Version n) = None
+abbrev pub error_line : HeaderError → Option ℕ
+error_line Memory = None
+error_line (NotUtf8 place) = None
+error_line (Header n) = Some n
+error_line (Version n) = None

@@ -7,10 +7,10 @@ ghost use Rattle.sx_interface.specs.StatedHeader.{StatesHeader};
 ghost use Rattle.std.specs.Str.{IsUtf8};
 ghost use Rattle.sx_lines.specs.Lines.{lines_from};
 ghost use Rattle.sx_lines.specs.Words.{is_name};
-ghost use Rattle.sx_lines.specs.Reading.{Gives, kept};
+ghost use Rattle.sx_lines.specs.Reading.{GivesRead, kept};
 ghost use Rattle.sx_interface.specs.Headers as spec;
 ghost use Rattle.sx_interface.specs.HeaderView.{parts_view, rows_view, header_view};
-ghost use Rattle.sx_interface.specs.Reading.{Refuses, RefusesText, IsText, line_of};
+ghost use Rattle.sx_interface.specs.Reading.{RefusesHeader, RefusesText, IsText, error_line};
 
 use crate::error::HeaderError;
 use crate::rows::{end_line, module_line, name_row, name_rows};
@@ -57,8 +57,8 @@ fn read_rows<'a>(
 ) -> Result<(&'a [u8], Rest<'a>), HeaderError>
     requires uses { uses.old.items ≡ [] }
     requires imports { imports.old.items ≡ [] }
-    ensures rows { Gives (λ x. rows_view name.now x.0.now uses.new.items imports.new.items
-        x.1.bytes.now x.1.number) Refuses result
+    ensures rows { GivesRead (λ x. rows_view name.now x.0.now uses.new.items imports.new.items
+        x.1.bytes.now x.1.number) RefusesHeader result
         (spec.header_of name.now (kept (lines_from 1 bytes.entry.now))) }
     ensures named { IfOk result (λ x. is_name false x.0.now ≡ true) }
 {
@@ -72,7 +72,7 @@ fn read_rows<'a>(
 
 /// The header that the lines of a module's file state.
 fn header_parts<'a>(alloc: Global, name: &Text, bytes: &'a [u8]) -> Result<Parts<'a>, HeaderError>
-    ensures { Gives (parts_view name.now) Refuses result
+    ensures { GivesRead (parts_view name.now) RefusesHeader result
         (spec.header_of name.now (kept (lines_from 1 bytes.entry.now))) }
 {
     let mut uses = Vec::new(alloc);
@@ -102,7 +102,7 @@ fn header_parts<'a>(alloc: Global, name: &Text, bytes: &'a [u8]) -> Result<Parts
 /// The header of a module's file, of which nothing else is known.
 fn checked_header(alloc: Global, name: &Text, bytes: &[u8]) -> Result<Header, HeaderError>
     ensures text { IsText bytes.now result }
-    ensures exact { Gives (header_view bytes.now) (RefusesText bytes.now) result
+    ensures exact { GivesRead (header_view bytes.now) (RefusesText bytes.now) result
         (spec.header_of name.now (kept (lines_from 1 bytes.now))) }
     ensures within { IfOk result (λ h. h.body ≤ length bytes.now) }
 {
@@ -146,11 +146,11 @@ pub fn read_header(alloc: Global, name: &Text, bytes: &[u8]) -> Result<Header, H
         (header_view bytes.now h)) }
     // What is stated is read, unless memory runs out.
     ensures only { (h : HeaderParts) → StatesHeader name.now (kept (lines_from 1 bytes.now)) h
-        → Gives (header_view bytes.now) (RefusesText bytes.now) result (Ok h) }
+        → GivesRead (header_view bytes.now) (RefusesText bytes.now) result (Ok h) }
     // The line that is refused is the first that is not as defined.
-    ensures refused { IfErr result (λ e. IfSome (line_of e)
+    ensures refused { IfErr result (λ e. IfSome (error_line e)
         (IsFirstBad (StatesHeader name.now) (kept (lines_from 1 bytes.now)))) }
-    ensures exact { Gives (header_view bytes.now) (RefusesText bytes.now) result
+    ensures exact { GivesRead (header_view bytes.now) (RefusesText bytes.now) result
         (spec.header_of name.now (kept (lines_from 1 bytes.now))) }
     ensures within { IfOk result (λ h. h.body ≤ length bytes.now) }
 {

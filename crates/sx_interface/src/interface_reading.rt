@@ -5,16 +5,17 @@ ghost use Rattle.std.specs.Prelude.{IfOk, IfErr, IfSome};
 ghost use Rattle.std.specs.Str.{IsUtf8};
 ghost use Rattle.sx_lines.specs.FirstBad.{IsFirstBad};
 ghost use Rattle.sx_lines.specs.Words.{is_name};
-ghost use Rattle.sx_lines.specs.Lines.{texts, lines_from, IsLineText};
+ghost use Rattle.sx_lines.specs.Lines.{line_texts, lines_from, IsLineText};
 ghost use Rattle.sx_lines.specs.Left.{left};
-ghost use Rattle.sx_lines.specs.Reading.{Gives, the_line, next_line, no_line, written};
+ghost use Rattle.sx_lines.specs.Reading.{GivesRead, the_line, next_line, no_line, written};
 ghost use Rattle.sx_lines.specs.Rows.{distinct_rows};
 ghost use Rattle.sx_interface.specs.Interfaces as spec;
 ghost use Rattle.sx_interface.specs.Interfaces.{InterfaceParts, interface_lines};
 ghost use Rattle.sx_interface.specs.Stated.{IsInterface, StatesInterface};
 ghost use Rattle.sx_interface.specs.InterfaceView.{marks_view, rows_view, interface_view};
 ghost use Rattle.sx_interface.specs.declared.error.HeaderError.TheVariants.{Memory};
-ghost use Rattle.sx_interface.specs.Reading.{Refuses, RefusesText, IsText, AnswersVersion, line_of};
+ghost use Rattle.sx_interface.specs.Reading.{RefusesHeader, RefusesText, IsText, AnswersVersion};
+ghost use Rattle.sx_interface.specs.Reading.{error_line};
 
 use crate::error::HeaderError;
 use crate::interfaces::{ImportMark, Interface};
@@ -69,7 +70,7 @@ fn version_of(text: &[u8]) -> Option<Version>
 /// The version in the first line, and what is left after it.
 #[tactic(auto, unfolding(sx_lines::specs::Reading::next_line))]
 fn version_row<'a>(rest: Rest<'a>) -> Result<(Version, Rest<'a>), HeaderError>
-    ensures line { Gives (λ x. (x.0, left x.1)) Refuses result
+    ensures line { GivesRead (λ x. (x.0, left x.1)) RefusesHeader result
         (next_line spec.version_of (left rest.entry)) }
     ensures utf8 { IsUtf8 rest.entry.bytes.now → IfOk result (λ x. IsUtf8 x.1.bytes.now) }
 {
@@ -83,7 +84,7 @@ fn version_row<'a>(rest: Rest<'a>) -> Result<(Version, Rest<'a>), HeaderError>
 /// What is left after the line with this text.
 #[tactic(auto, unfolding(sx_lines::specs::Reading::the_line))]
 fn exact_line<'a>(text: &[u8], rest: Rest<'a>) -> Result<Rest<'a>, HeaderError>
-    ensures line { Gives left Refuses result (the_line text.now (left rest.entry)) }
+    ensures line { GivesRead left RefusesHeader result (the_line text.now (left rest.entry)) }
     ensures utf8 { IsUtf8 rest.entry.bytes.now → IfOk result (λ x. IsUtf8 x.bytes.now) }
 {
     let (line, more) = rest.next()?;
@@ -96,7 +97,7 @@ fn exact_line<'a>(text: &[u8], rest: Rest<'a>) -> Result<Rest<'a>, HeaderError>
 /// What is left after the line `module` and the name.
 #[tactic(auto, unfolding(sx_lines::specs::Reading::the_line))]
 fn module_line<'a>(name: &[u8], rest: Rest<'a>) -> Result<Rest<'a>, HeaderError>
-    ensures line { Gives left Refuses result (the_line (codes "module " ++ name.now)
+    ensures line { GivesRead left RefusesHeader result (the_line (codes "module " ++ name.now)
         (left rest.entry)) }
     ensures utf8 { IsUtf8 rest.entry.bytes.now → IfOk result (λ x. IsUtf8 x.bytes.now) }
 {
@@ -121,7 +122,7 @@ fn digest_after(text: &[u8], front: &[u8]) -> Option<Digest>
 /// The digest in the next row, and what is left after it.
 #[tactic(auto, unfolding(sx_lines::specs::Reading::next_line))]
 fn base_row<'a>(rest: Rest<'a>) -> Result<(Digest, Rest<'a>), HeaderError>
-    ensures line { Gives (λ x. (x.0.bytes, left x.1)) Refuses result
+    ensures line { GivesRead (λ x. (x.0.bytes, left x.1)) RefusesHeader result
         (next_line (spec.digest_after (codes "base ")) (left rest.entry)) }
     ensures utf8 { IsUtf8 rest.entry.bytes.now → IfOk result (λ x. IsUtf8 x.1.bytes.now) }
 {
@@ -141,7 +142,7 @@ fn use_rows<'a>(
     uses: &mut Vec<ImportMark>,
 ) -> Result<Rest<'a>, HeaderError>
     requires { uses.old.items ≡ [] }
-    ensures rows { Gives (λ x. (marks_view uses.new.items, left x)) Refuses result
+    ensures rows { GivesRead (λ x. (marks_view uses.new.items, left x)) RefusesHeader result
         (distinct_rows (λ m. m.name) (spec.use_after version) [] (left rest.entry)) }
     ensures utf8 { IsUtf8 rest.entry.bytes.now → IfOk result (λ x. IsUtf8 x.bytes.now) }
 {
@@ -155,7 +156,7 @@ fn use_rows<'a>(
 #[tactic(auto, unfolding(sx_lines::specs::Reading::next_line))]
 fn signature_line<'a>(rest: Rest<'a>) -> Result<(&'a [u8], Rest<'a>), HeaderError>
     requires { IsUtf8 rest.bytes.now }
-    ensures line { Gives (λ x. (x.0.now, left x.1)) Refuses result
+    ensures line { GivesRead (λ x. (x.0.now, left x.1)) RefusesHeader result
         (next_line Some (left rest.entry)) }
     ensures utf8 { IfOk result (λ x. IsUtf8 x.0.now × IsUtf8 x.1.bytes.now) }
 {
@@ -171,8 +172,8 @@ fn stated_line<'a>(
 ) -> Result<(&'a [u8], Rest<'a>), HeaderError>
     requires signature { IsUtf8 signature.now }
     requires utf8 { IsUtf8 rest.bytes.now }
-    ensures line { Gives (λ x. (x.0.now, left x.1)) Refuses result
-        (spec.stated_of version (signature.entry.now, left rest.entry)) }
+    ensures line { GivesRead (λ x. (x.0.now, left x.1)) RefusesHeader result
+        (spec.stated_signature version (signature.entry.now, left rest.entry)) }
     ensures utf8 { IfOk result (λ x. IsUtf8 x.0.now) }
 {
     match version {
@@ -184,7 +185,7 @@ fn stated_line<'a>(
 /// That no line is left.
 #[tactic(auto, unfolding(sx_lines::specs::Reading::no_line))]
 fn end(rest: Rest<'_>) -> Result<(), HeaderError>
-    ensures { Gives (λ x. x) Refuses result (no_line (left rest.entry)) }
+    ensures { GivesRead (λ x. x) RefusesHeader result (no_line (left rest.entry)) }
 {
     match rest.next() {
         Ok((line, _)) => Err(HeaderError::Header(line.number)),
@@ -204,8 +205,8 @@ fn read_rows<'a>(
     requires utf8 { IsUtf8 bytes.now }
     requires uses { uses.old.items ≡ [] }
     requires imports { imports.old.items ≡ [] }
-    ensures rows { Gives (λ x. rows_view name.now x (marks_view uses.new.items)
-        (marks_view imports.new.items)) Refuses result
+    ensures rows { GivesRead (λ x. rows_view name.now x (marks_view uses.new.items)
+        (marks_view imports.new.items)) RefusesHeader result
         (spec.interface_of name.now (lines_from 1 bytes.entry.now)) }
     ensures named { IfOk result (λ x. is_name false x.language.now ≡ true) }
     ensures signature { IfOk result (λ x. IsUtf8 x.signature.now) }
@@ -283,7 +284,7 @@ fn interface_with(
 /// The interface that lines state.
 fn interface(alloc: Global, name: &Text, bytes: &[u8]) -> Result<Interface, HeaderError>
     requires utf8 { IsUtf8 bytes.now }
-    ensures { Gives interface_view Refuses result
+    ensures { GivesRead interface_view RefusesHeader result
         (spec.interface_of name.now (lines_from 1 bytes.now)) }
 {
     let mut marks = Marks {
@@ -348,15 +349,16 @@ fn checked(alloc: Global, name: &Text, bytes: &[u8]) -> Result<Interface, Header
 pub fn read_interface(alloc: Global, name: &Text, bytes: &[u8]) -> Result<Interface, HeaderError>
     ensures text { IsText bytes.now result }
     // What is read is stated.
-    ensures found { IfOk result (λ it. StatesInterface name.now (texts (lines_from 1 bytes.now))
+    ensures found { IfOk result (λ it. StatesInterface name.now (line_texts
+        (lines_from 1 bytes.now))
         (interface_view it)) }
     // What is stated is read, unless memory runs out.
     ensures only { (it : InterfaceParts) → StatesInterface name.now
-        (texts (lines_from 1 bytes.now)) it
-        → Gives interface_view (RefusesText bytes.now) result (Ok it) }
+        (line_texts (lines_from 1 bytes.now)) it
+        → GivesRead interface_view (RefusesText bytes.now) result (Ok it) }
     // The line that is refused is the first that is not as defined.
-    ensures refused { IfErr result (λ e. IfSome (line_of e)
-        (IsFirstBad (λ l. StatesInterface name.now (texts l)) (lines_from 1 bytes.now))) }
+    ensures refused { IfErr result (λ e. IfSome (error_line e)
+        (IsFirstBad (λ l. StatesInterface name.now (line_texts l)) (lines_from 1 bytes.now))) }
     ensures exact { AnswersVersion bytes.now (spec.other_version
         (lines_from 1 bytes.now)) interface_view result
         (spec.interface_of name.now (lines_from 1 bytes.now)) }

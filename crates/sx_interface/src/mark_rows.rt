@@ -3,12 +3,12 @@
 ghost use Rattle.std.specs.Prelude.{◌≡◌, [], codes, option_map, true, false, IfOk, IfSome};
 ghost use Rattle.std.specs.Str.{IsUtf8};
 ghost use Rattle.sx_lines.specs.Left.{left};
-ghost use Rattle.sx_lines.specs.Reading.{Gives, next_line};
+ghost use Rattle.sx_lines.specs.Reading.{GivesRead, next_line};
 ghost use Rattle.sx_lines.specs.Rows.{distinct_rows};
 ghost use Rattle.sx_lines.specs.Words.{is_name};
 ghost use Rattle.sx_interface.specs.Interfaces as spec;
-ghost use Rattle.sx_interface.specs.InterfaceView.{marks_view, pair_view};
-ghost use Rattle.sx_interface.specs.Reading.{Refuses};
+ghost use Rattle.sx_interface.specs.InterfaceView.{marks_view, import_view};
+ghost use Rattle.sx_interface.specs.Reading.{RefusesHeader};
 
 use crate::error::HeaderError;
 use crate::interfaces::ImportMark;
@@ -21,7 +21,7 @@ use sx_term::Names;
 /// The name and the digest that a text states.
 #[tactic(auto, unfolding(crate::specs::Interfaces::mark_of))]
 fn mark_of(text: &[u8]) -> Option<(&[u8], Digest)>
-    ensures value { option_map pair_view result ≡ spec.mark_of text.entry.now }
+    ensures value { option_map import_view result ≡ spec.mark_of text.entry.now }
     ensures named { IfSome result (λ mark. is_name false mark.0.now ≡ true) }
 {
     let (name, digits) = split_word(text);
@@ -39,7 +39,7 @@ fn mark_of(text: &[u8]) -> Option<(&[u8], Digest)>
 /// The name and the digest in a row with this front.
 #[tactic(auto, unfolding(crate::specs::Interfaces::mark_after))]
 fn mark_after<'a>(text: &'a [u8], front: &[u8]) -> Option<(&'a [u8], Digest)>
-    ensures value { option_map pair_view result ≡ spec.mark_after front.now text.entry.now }
+    ensures value { option_map import_view result ≡ spec.mark_after front.now text.entry.now }
     ensures named { IfSome result (λ mark. is_name false mark.0.now ≡ true) }
 {
     match after(text, front) {
@@ -53,7 +53,7 @@ fn mark_after<'a>(text: &'a [u8], front: &[u8]) -> Option<(&'a [u8], Digest)>
 pub(crate) fn language_row<'a>(
     rest: Rest<'a>,
 ) -> Result<((&'a [u8], Digest), Rest<'a>), HeaderError>
-    ensures line { Gives (λ x. (pair_view x.0, left x.1)) Refuses result
+    ensures line { GivesRead (λ x. (import_view x.0, left x.1)) RefusesHeader result
         (next_line (spec.mark_after (codes "language ")) (left rest.entry)) }
     ensures named { IfOk result (λ x. is_name false x.0.0.now ≡ true) }
     ensures utf8 { IsUtf8 rest.entry.bytes.now → IfOk result (λ x. IsUtf8 x.1.bytes.now) }
@@ -76,7 +76,7 @@ fn add_rows<'a>(
 ) -> Result<Rest<'a>, HeaderError>
     requires seen { seen.old ≡ [] }
     requires marks { marks.old.items ≡ [] }
-    ensures rows { Gives (λ x. (marks_view marks.new.items, left x)) Refuses result
+    ensures rows { GivesRead (λ x. (marks_view marks.new.items, left x)) RefusesHeader result
         (distinct_rows (λ m. m.name) (spec.mark_after front.now) [] (left rest.entry)) }
     ensures utf8 { IsUtf8 rest.entry.bytes.now → IfOk result (λ x. IsUtf8 x.bytes.now) }
 {
@@ -107,7 +107,7 @@ pub(crate) fn mark_rows<'a>(
     marks: &mut Vec<ImportMark>,
 ) -> Result<Rest<'a>, HeaderError>
     requires { marks.old.items ≡ [] }
-    ensures rows { Gives (λ x. (marks_view marks.new.items, left x)) Refuses result
+    ensures rows { GivesRead (λ x. (marks_view marks.new.items, left x)) RefusesHeader result
         (distinct_rows (λ m. m.name) (spec.mark_after front.now) [] (left rest.entry)) }
     ensures utf8 { IsUtf8 rest.entry.bytes.now → IfOk result (λ x. IsUtf8 x.bytes.now) }
 {

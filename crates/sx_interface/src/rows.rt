@@ -5,10 +5,10 @@ ghost use Rattle.std.specs.Prelude.{IfSome};
 ghost use Rattle.std.specs.Option.{option_copied};
 ghost use Rattle.std.specs.Str.{bytes_eq};
 ghost use Rattle.sx_lines.specs.Left.{left};
-ghost use Rattle.sx_lines.specs.Reading.{Gives, the_line, next_line, kept};
+ghost use Rattle.sx_lines.specs.Reading.{GivesRead, the_line, next_line, kept};
 ghost use Rattle.sx_lines.specs.Rows as spec;
 ghost use Rattle.sx_lines.specs.Words.{is_name};
-ghost use Rattle.sx_interface.specs.Reading.{Refuses};
+ghost use Rattle.sx_interface.specs.Reading.{RefusesHeader};
 
 use crate::error::HeaderError;
 use crate::texts::name_text;
@@ -46,7 +46,7 @@ pub fn is_row(text: &[u8], front: &[u8], name: &[u8]) -> bool
 /// What is left after the line `module` and the name.
 #[tactic(auto, unfolding(sx_lines::specs::Reading::the_line))]
 pub fn module_line<'a>(name: &[u8], rest: Rest<'a>) -> Result<Rest<'a>, HeaderError>
-    ensures { Gives (λ x. kept (left x)) Refuses result
+    ensures { GivesRead (λ x. kept (left x)) RefusesHeader result
         (the_line (codes "module " ++ name.now) (kept (left rest.entry))) }
 {
     let (line, more) = rest.next_kept()?;
@@ -59,7 +59,7 @@ pub fn module_line<'a>(name: &[u8], rest: Rest<'a>) -> Result<Rest<'a>, HeaderEr
 /// The name in the next row, and what is left after it.
 #[tactic(auto, unfolding(sx_lines::specs::Reading::next_line))]
 pub fn name_row<'a>(front: &[u8], rest: Rest<'a>) -> Result<(&'a [u8], Rest<'a>), HeaderError>
-    ensures row { Gives (λ x. (x.0.now, kept (left x.1))) Refuses result
+    ensures row { GivesRead (λ x. (x.0.now, kept (left x.1))) RefusesHeader result
         (next_line (spec.name_after front.now) (kept (left rest.entry))) }
     ensures named { IfOk result (λ x. is_name false x.0.now ≡ true) }
 {
@@ -80,7 +80,7 @@ fn add_rows<'a>(
 ) -> Result<Rest<'a>, HeaderError>
     requires seen { seen.old ≡ [] }
     requires names { names.old.items ≡ [] }
-    ensures { Gives (λ x. (names.new.items, kept (left x))) Refuses result
+    ensures { GivesRead (λ x. (names.new.items, kept (left x))) RefusesHeader result
         (spec.distinct_names front.now (kept (left rest.entry))) }
 {
     let mut rest = rest;
@@ -108,7 +108,7 @@ pub fn name_rows<'a>(
     names: &mut Vec<Text>,
 ) -> Result<Rest<'a>, HeaderError>
     requires { names.old.items ≡ [] }
-    ensures { Gives (λ x. (names.new.items, kept (left x))) Refuses result
+    ensures { GivesRead (λ x. (names.new.items, kept (left x))) RefusesHeader result
         (spec.distinct_names front.now (kept (left rest.entry))) }
 {
     let mut seen = Names::new(alloc);
@@ -120,7 +120,7 @@ pub fn name_rows<'a>(
 /// What is left after the line `---`: the body.
 #[tactic(auto, unfolding(sx_lines::specs::Rows::bytes_after))]
 pub fn end_line<'a>(rest: Rest<'a>) -> Result<Rest<'a>, HeaderError>
-    ensures { Gives (λ x. (x.number, x.bytes.now)) Refuses result
+    ensures { GivesRead (λ x. (x.number, x.bytes.now)) RefusesHeader result
         (spec.bytes_after (codes "---") (kept (left rest.entry))) }
 {
     let (line, more) = rest.next_kept()?;

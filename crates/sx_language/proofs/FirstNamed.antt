@@ -8,21 +8,21 @@ use Rattle.sx_grammar.specs.Grammar.{Text}
 use Rattle.sx_rules.specs.Good.{IsAmong}
 use Rattle.sx_outline.specs.declared.rule_lines.RuleLines.{RuleLines}
 use Rattle.sx_language.specs.Laws.{UnboundIsLater}
-use Rattle.sx_language.specs.States.{names_in}
+use Rattle.sx_language.specs.States.{variable_names}
 
 abbrev titles : List RuleLines → List Text
 titles rs = map (λ x. x.name) rs
 
 -- where no names are left
-none_left : (ts : List Text) (name : Text) → names_in ts [] name ≡ []
+none_left : (ts : List Text) (name : Text) → variable_names ts [] name ≡ []
 none_left [] name = refl
 none_left (t ∷ ts) name = refl
 
-at_once : (t : Text) (ts : List Text) (ns : List (List Text)) (name : Text) → bytes_eq t name ≡ true → names_in (t ∷ ts) ns name ≡ unwrap_or (slice_get ns 0) []
+at_once : (t : Text) (ts : List Text) (ns : List (List Text)) (name : Text) → bytes_eq t name ≡ true → variable_names (t ∷ ts) ns name ≡ unwrap_or (slice_get ns 0) []
 at_once t ts [] name e = refl
 at_once t ts (n ∷ ns) name e = rw e refl
 
-past_one : (t : Text) (ts : List Text) (ns : List (List Text)) (name : Text) → bytes_eq t name ≡ false → names_in (t ∷ ts) ns name ≡ names_in ts (drop 1 ns) name
+past_one : (t : Text) (ts : List Text) (ns : List (List Text)) (name : Text) → bytes_eq t name ≡ false → variable_names (t ∷ ts) ns name ≡ variable_names ts (drop 1 ns) name
 past_one t ts [] name e = sym (none_left ts name)
 past_one t ts (n ∷ ns) name e = rw e refl
 
@@ -42,30 +42,30 @@ module _ (rs : List RuleLines) (ns : List (List Text)) (i : ℕ) (r : RuleLines)
   split = ap titles (drop_more rs i r low ∙ ap (λ x. x ∷ drop (i + 1) rs) (sym is))
 
   -- the rule has the name
-  pub name_here : bytes_eq r.name name ≡ true → names_in (titles (drop i rs)) (drop i ns) name ≡ names_in (titles rs) ns name → names_in (titles rs) ns name ≡ unwrap_or (slice_get ns i) []
+  pub name_here : bytes_eq r.name name ≡ true → variable_names (titles (drop i rs)) (drop i ns) name ≡ variable_names (titles rs) ns name → variable_names (titles rs) ns name ≡ unwrap_or (slice_get ns i) []
   name_here e before =
-      sym before ∙ ap (λ t. names_in t (drop i ns) name) split ∙ at_once r.name (titles (drop (i + 1) rs)) (drop i ns) name e ∙ ap (λ o. unwrap_or o []) (get_drop ns i)
+      sym before ∙ ap (λ t. variable_names t (drop i ns) name) split ∙ at_once r.name (titles (drop (i + 1) rs)) (drop i ns) name e ∙ ap (λ o. unwrap_or o []) (get_drop ns i)
 
   -- it has another
-  pub name_past : bytes_eq r.name name ≡ false → names_in (titles (drop i rs)) (drop i ns) name ≡ names_in (titles rs) ns name
-      → names_in (titles (drop (i + 1) rs)) (drop (i + 1) ns) name ≡ names_in (titles rs) ns name
+  pub name_past : bytes_eq r.name name ≡ false → variable_names (titles (drop i rs)) (drop i ns) name ≡ variable_names (titles rs) ns name
+      → variable_names (titles (drop (i + 1) rs)) (drop (i + 1) ns) name ≡ variable_names (titles rs) ns name
   name_past e before =
-      sym (ap (λ t. names_in t (drop i ns) name) split ∙ past_one r.name (titles (drop (i + 1) rs)) (drop i ns) name e ∙ ap (λ l. names_in (titles (drop (i + 1) rs)) l name) (drop_one ns i ∙ ap (λ n. drop n ns) (sym (add-one i)))) ∙ before
+      sym (ap (λ t. variable_names t (drop i ns) name) split ∙ past_one r.name (titles (drop (i + 1) rs)) (drop i ns) name e ∙ ap (λ l. variable_names (titles (drop (i + 1) rs)) l name) (drop_one ns i ∙ ap (λ n. drop n ns) (sym (add-one i)))) ∙ before
 
 -- no rule has the name
-pub none_named : (rs : List RuleLines) (ns : List (List Text)) (i : ℕ) (name : Text) → length rs ≤ i → names_in (titles (drop i rs)) (drop i ns) name ≡ names_in (titles rs) ns name → names_in (titles rs) ns name ≡ []
-none_named rs ns i name past before = sym before ∙ ap (λ l. names_in (titles l) (drop i ns) name) (drop_all i rs past)
+pub none_named : (rs : List RuleLines) (ns : List (List Text)) (i : ℕ) (name : Text) → length rs ≤ i → variable_names (titles (drop i rs)) (drop i ns) name ≡ variable_names (titles rs) ns name → variable_names (titles rs) ns name ≡ []
+none_named rs ns i name past before = sym before ∙ ap (λ l. variable_names (titles l) (drop i ns) name) (drop_all i rs past)
 
 -- the name is none of those before
 not_before : (before known : List Text) (names later : List (List Text)) (name : Text) → length names ≡ length before → (IsAmong name before → ⊥) →
-    names_in (before ++ known) (names ++ later) name ≡ names_in known later name
+    variable_names (before ++ known) (names ++ later) name ≡ variable_names known later name
 not_before [] known [] later name many new = refl
 not_before [] known (n ∷ ns) later name many new = absurd (omega (arith, many))
 not_before (t ∷ ts) known [] later name many new = absurd (omega (arith, many))
 not_before (t ∷ ts) known (n ∷ ns) later name many new = by (bytes_eq t name) refl (not_before ts known ns later name (omega (arith, many)) (λ h. new (inr h)))
   where
-    by : (b : Bool) → bytes_eq t name ≡ b → names_in (ts ++ known) (ns ++ later) name ≡ names_in known later name →
-        (if b then n else names_in (ts ++ known) (ns ++ later) name) ≡ names_in known later name
+    by : (b : Bool) → bytes_eq t name ≡ b → variable_names (ts ++ known) (ns ++ later) name ≡ variable_names known later name →
+        (if b then n else variable_names (ts ++ known) (ns ++ later) name) ≡ variable_names known later name
     by true e rest = absurd (new (inl ((bytes_eq-Decides t name).0 e)))
     by false e rest = rest
 

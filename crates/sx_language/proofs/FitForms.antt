@@ -16,18 +16,20 @@ use Rattle.sx_grammar.specs.Told as told
 use Rattle.sx_grammar.proofs.Finding.{mapped_at, named_at}
 use Rattle.sx_earley.specs.Completed.{IsSort}
 use Rattle.sx_rules.specs.declared.rule.Place.{Place as PlaceOf}
-use Rattle.sx_rules.specs.Subjects.{is_typed}
+use Rattle.sx_rules.specs.Subjects.{is_typed_sort}
 use Rattle.sx_rules.specs.Views.{FormData, is_sub}
 use Rattle.sx_directives.specs.declared.spelled.SpelledSort.{SpelledSort}
 use Rattle.sx_directives.specs.declared.spelled.SpelledSort.TheVariants.{Lex, Named}
 use Rattle.sx_directives.specs.declared.spelled.FormSymbol.{FormSymbol}
 use Rattle.sx_directives.specs.declared.spelled.FormSymbol.TheVariants.{Lit, Place}
 use Rattle.sx_directives.specs.declared.rows.FormLine.{FormLine}
-use Rattle.sx_outline.specs.Declarations.{Declared, form}
-use Rattle.sx_outline.specs.Fitting.{sort_named, PlaceFits as IsSpelledFit, SymbolFits, sorts_at, HasOneSubject}
+use Rattle.sx_outline.specs.Declarations.{Declared, declared_form}
+use Rattle.sx_outline.specs.Fitting.{sort_named, PlaceFits as IsSpelledFit, SymbolFits, sorts_at}
+use Rattle.sx_outline.specs.Fitting.{HasOneSubjectSymbol}
 use Rattle.sx_notation.specs.Language.{PlaceFits, FormFits}
 use Rattle.sx_notation.specs.RuleParts.{judgement_sort, rule_parts}
-use Rattle.sx_notation.specs.RuleLaws.{sort_of, places_of, form_of, IsSortOf, HasSortOf, HaveSortsOf}
+use Rattle.sx_notation.specs.RuleLaws.{spelled_sort, places_of, form_of, IsSpelledSort, HasSortOf}
+use Rattle.sx_notation.specs.RuleLaws.{HaveSortsOf}
 use Rattle.sx_notation.proofs.Growing.{got_before}
 use Rattle.sx_language.specs.RuleLine.{subject_sort}
 use Rattle.sx_language.proofs.MainForms.{first_named, sorts_are}
@@ -35,7 +37,7 @@ use Rattle.sx_language.proofs.MainForms.{first_named, sorts_are}
 -- ---- the places fit
 
 -- a sort is typed as its line says
-line_typed : (b : Bool) (n : ℕ) → is_typed (Some (cond b (TheSort.Typed n) (TheSort.Plain n))) ≡ b
+line_typed : (b : Bool) (n : ℕ) → is_typed_sort (Some (cond b (TheSort.Typed n) (TheSort.Plain n))) ≡ b
 line_typed true n = refl
 line_typed false n = refl
 
@@ -44,7 +46,7 @@ is_there None b line e h = absurd (none-some line e)
 is_there (Some s) b line e h = h
 
 module _ (p : Parts) (d : Declared) (sorts : d.sorts ≡ p.sorts) where
-  place_fits : (role : Role) (spelled : SpelledSort) → IsSpelledFit d role spelled → IsSortOf p spelled → is_typed (Some (sort_of p spelled)) ≡ is_sub role
+  place_fits : (role : Role) (spelled : SpelledSort) → IsSpelledFit d role spelled → IsSpelledSort p spelled → is_typed_sort (Some (spelled_sort p spelled)) ≡ is_sub role
   place_fits role (Lex kind) fit has = sym fit
   place_fits role (Named name least) fit has =
       let n = number_of (names p) name in
@@ -61,12 +63,12 @@ module _ (p : Parts) (d : Declared) (sorts : d.sorts ≡ p.sorts) where
   symbols_fit (Lit text ∷ ss) fit has = symbols_fit ss fit.1 has.1
   symbols_fit (Place role sort ∷ ss) fit has = (place_fits role sort fit.0 has.0, symbols_fit ss fit.1 has.1)
 
-  pub forms_fit : (fs : List FormLine) → AllByRecursion (λ f. AllByRecursion (SymbolFits d) f.symbols) (map form fs) → AllByRecursion (λ f. HasOneSubject f.symbols) (map form fs) → HaveSortsOf p fs →
+  pub forms_fit : (fs : List FormLine) → AllByRecursion (λ f. AllByRecursion (SymbolFits d) f.symbols) (map declared_form fs) → AllByRecursion (λ f. HasOneSubjectSymbol f.symbols) (map declared_form fs) → HaveSortsOf p fs →
       AllByRecursion FormFits (map (form_of p) fs)
   forms_fit [] fit one has = tt
   forms_fit (f ∷ fs) fit one has =
       let few = sorts_are p Sub f.symbols.items in
-      ((symbols_fit f.symbols.items fit.0 has.0, omega (arith, one.0, ap length few, length-map (sorts_at Sub f.symbols.items) (sort_of p))), forms_fit fs fit.1 one.1 has.1)
+      ((symbols_fit f.symbols.items fit.0 has.0, omega (arith, one.0, ap length few, length-map (sorts_at Sub f.symbols.items) (spelled_sort p))), forms_fit fs fit.1 one.1 has.1)
 
 -- ---- bodies can be read
 
@@ -79,7 +81,7 @@ module _ (p : Parts) (fs : List FormLine) where
   typed_read n true low is typed = (omega (arith, low, length-append p.sorts (judgement_sort ∷ [])), ap told.is_typed (got_before p.sorts (judgement_sort ∷ []) n low) ∙ is)
   typed_read n false low is typed = absurd (false≢true typed)
 
-  place_read : (role : Role) (spelled : SpelledSort) → IsSortOf p spelled → PlaceFits (record { role = role; sort = sort_of p spelled }) → Readable (record { role = role; sort = sort_of p spelled })
+  place_read : (role : Role) (spelled : SpelledSort) → IsSpelledSort p spelled → PlaceFits (record { role = role; sort = spelled_sort p spelled }) → Readable (record { role = role; sort = spelled_sort p spelled })
   place_read role (Lex kind) has fit sub = absurd (false≢true (fit ∙ sub))
   place_read role (Named name least) has fit sub =
       let n = number_of (names p) name in

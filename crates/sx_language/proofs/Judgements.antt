@@ -15,24 +15,31 @@ use Rattle.sx_term.specs.Tree.{Tree, node, listed}
 use Rattle.sx_term.proofs.Kids.{forest-listed}
 use Rattle.sx_token.specs.declared.token.Token.{Token}
 use Rattle.sx_grammar.specs.Grammar as plain
-use Rattle.sx_grammar.specs.Grammar.{Text, Symbol, literal, lexical, Production, Grammar, of_sort, pair_of, is_variable}
-use Rattle.sx_grammar.specs.Parts.{Line, Parts, names, number_of, numbered, numbered_line, numbered_sort, symbol_sorts, sorts_named}
+use Rattle.sx_grammar.specs.Grammar.{Text, Symbol, literal, lexical, Production, Grammar, of_sort}
+use Rattle.sx_grammar.specs.Grammar.{pair_of, is_variable}
+use Rattle.sx_grammar.specs.Parts.{Line, Parts, names, number_of, numbered, numbered_line}
+use Rattle.sx_grammar.specs.Parts.{numbered_sort, symbol_sorts, sorts_named}
 use Rattle.sx_grammar.specs.Made.{IsGrammar}
 use Rattle.sx_grammar.specs.Told.{sort_with, is_typed}
-use Rattle.sx_grammar.specs.Reading.{Reading, Readings, leaf, variable, done, ◌▸◌, Marked, Reads, by_production, by_brackets, by_variable, ReadsAll, all_read, by_literal, by_lexeme, by_lexical_variable, by_part}
+use Rattle.sx_grammar.specs.Reading.{Reading, Readings, leaf, variable, done, ◌▸◌, Marked, Reads}
+use Rattle.sx_grammar.specs.Reading.{by_production, by_brackets, by_variable, ReadsAll, all_read}
+use Rattle.sx_grammar.specs.Reading.{by_literal, by_lexeme, by_lexical_variable, by_part}
 use Rattle.sx_grammar.specs.Print.{term_of, terms_of}
 use Rattle.sx_grammar.proofs.Finding.{at_contains, is_head, in_flat_map, mapped_at, named_at}
 use Rattle.sx_earley.specs.Completed.{IsSort}
-use Rattle.sx_earley.specs.Tokens.{Stems, sort_of, found_stem, shown, plain_tokens, stem_of}
+use Rattle.sx_earley.specs.Tokens.{Stems, stem_sort, found_stem, read_token, plain_tokens}
+use Rattle.sx_earley.specs.Tokens.{meta_stem}
 use Rattle.sx_rules.specs.Rules.{Premise, holds, apart}
 use Rattle.sx_rules.specs.Views.{FormData}
 use Rattle.sx_directives.specs.declared.rows.FormLine.{FormLine}
 use Rattle.sx_directives.specs.declared.rows.VarLine.{VarLine}
-use Rattle.sx_notation.specs.ReadText.{IsRead}
-use Rattle.sx_notation.specs.RuleParts.{judgement_sort, form_line, apart_line, apart_lines, rule_parts}
+use Rattle.sx_notation.specs.ReadText.{IsReadLine}
+use Rattle.sx_notation.specs.RuleParts.{judgement_sort, form_line, apart_line, apart_lines}
+use Rattle.sx_notation.specs.RuleParts.{rule_parts}
 use Rattle.sx_notation.proofs.Growing.{got_behind-at}
 use Rattle.sx_notation.proofs.RuleGrammars.{productions_stay}
-use Rattle.sx_language.specs.RuleLine.{Reader, judgements, subject_sort, label_of, Says, CanRead}
+use Rattle.sx_language.specs.RuleLine.{Reader, judgements, subject_sort, label_of, Says}
+use Rattle.sx_language.specs.RuleLine.{CanReadRules}
 use Rattle.sx_language.specs.States.{IsSortNamed, AreStems}
 
 -- a production of a grammar has one of its sorts
@@ -100,20 +107,20 @@ named_below p name sort (inr h) e =
     let within : number_of (names p) name < length (names p) = slice_get_within (names p) (number_of (names p) name) name (named_at (names p) name (λ missing. missing h.1)) in
     sort_with_below p (number_of (names p) name) (length p.sorts) (omega (arith, within, length-map p.sorts (λ s. s.name))) (ap (λ s. found_stem (Some s)) (sym h.2) ∙ e)
 
-stem_below : (p : Parts) (vs : List VarLine) (stems : Stems) (stem : Text) → AreStems p vs stems → found_stem (sort_of stems stem) ≡ of_sort (length p.sorts) → ⊥
+stem_below : (p : Parts) (vs : List VarLine) (stems : Stems) (stem : Text) → AreStems p vs stems → found_stem (stem_sort stems stem) ≡ of_sort (length p.sorts) → ⊥
 stem_below p [] [] stem are e = cc
 stem_below p [] (s ∷ ss) stem are e = absurd are
 stem_below p (v ∷ vs) [] stem are e = absurd are
 stem_below p (v ∷ vs) (s ∷ ss) stem are e = by (bytes_eq s.0 stem) (stem_below p vs ss stem are.2) e
   where
-    by : (b : Bool) → (found_stem (sort_of ss stem) ≡ of_sort (length p.sorts) → ⊥) → found_stem (if b then Some s.1 else sort_of ss stem) ≡ of_sort (length p.sorts) → ⊥
+    by : (b : Bool) → (found_stem (stem_sort ss stem) ≡ of_sort (length p.sorts) → ⊥) → found_stem (if b then Some s.1 else stem_sort ss stem) ≡ of_sort (length p.sorts) → ⊥
     by true rest e = named_below p v.sort s.1 are.1 e
     by false rest e = rest e
 
-mark_below : (p : Parts) (vs : List VarLine) (stems : Stems) (m : Mark) (text : Text) → AreStems p vs stems → (shown stems m text).mark ≡ is_variable (of_sort (length p.sorts)) → ⊥
+mark_below : (p : Parts) (vs : List VarLine) (stems : Stems) (m : Mark) (text : Text) → AreStems p vs stems → (read_token stems m text).mark ≡ is_variable (of_sort (length p.sorts)) → ⊥
 mark_below p vs stems (marks.Lit n) text are e = cc
 mark_below p vs stems (marks.Lex k) text are e = cc
-mark_below p vs stems marks.Meta text are e = stem_below p vs stems (stem_of text) are (let q : found_stem (sort_of stems (stem_of text)) ≡ of_sort (length p.sorts) = cc in q)
+mark_below p vs stems marks.Meta text are e = stem_below p vs stems (meta_stem text) are (let q : found_stem (stem_sort stems (meta_stem text)) ≡ of_sort (length p.sorts) = cc in q)
 
 token_below : (p : Parts) (vs : List VarLine) (stems : Stems) (ts : List Token) (n : ℕ) → AreStems p vs stems → Marked (plain_tokens stems ts) n (is_variable (of_sort (length p.sorts))) → ⊥
 token_below p vs stems [] n are h = absurd (none-some _ h.1)
@@ -225,7 +232,7 @@ module _ (p : Parts) (fs : List FormLine) (is : IsGrammar p) where
     same : r ≡ record { parts = rule_parts p fs; stems = r.stems; forms = r.forms }
     same = λ i. record { parts = parts i; stems = r.stems; forms = r.forms }
 
-    pub reads_say : (text : Text) (old new : List Text) (t : Tree) → IsRead (rule_parts p fs) r.stems (judgements (rule_parts p fs)) text old new t →
+    pub reads_say : (text : Text) (old new : List Text) (t : Tree) → IsReadLine (rule_parts p fs) r.stems (judgements (rule_parts p fs)) text old new t →
         (q : Premise) × Says (record { parts = rule_parts p fs; stems = r.stems; forms = r.forms }) t q
     reads_say text old new t read =
         let here : length (rule_parts p fs).sorts - 1 ≡ length p.sorts = omega (arith, last_sort) in
@@ -236,7 +243,7 @@ module _ (p : Parts) (fs : List FormLine) (is : IsGrammar p) where
     room = omega (arith, many, as_many)
 
     -- the lines of rules can be read
-    pub can_read : ((form : ℕ) (sort : Sort) → subject_sort r.forms form ≡ Some sort → IsSort (rule_parts p fs) sort) → CanRead r
+    pub can_read : ((form : ℕ) (sort : Sort) → subject_sort r.forms form ≡ Some sort → IsSort (rule_parts p fs) sort) → CanReadRules r
     can_read subjects =
-        let reads : CanRead (record { parts = rule_parts p fs; stems = r.stems; forms = r.forms }) = record { room = room; sort = is_judgements; says = reads_say; subjects = subjects } in
-        subst CanRead (sym same) reads
+        let reads : CanReadRules (record { parts = rule_parts p fs; stems = r.stems; forms = r.forms }) = record { room = room; sort = is_judgements; says = reads_say; subjects = subjects } in
+        subst CanReadRules (sym same) reads

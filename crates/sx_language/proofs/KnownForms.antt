@@ -10,7 +10,8 @@ use Rattle.sx_term.specs.declared.role.Role.{Role}
 use Rattle.sx_grammar.specs.declared.symbol.Symbol.{Symbol}
 use Rattle.sx_grammar.specs.declared.symbol.Symbol.TheVariants as TheSymbol
 use Rattle.sx_grammar.specs.Grammar.{Text}
-use Rattle.sx_grammar.specs.Parts.{Line, Parts, names, number_of, literals, symbol_literals, symbol_sorts, sorts_named, bracket_literals}
+use Rattle.sx_grammar.specs.Parts.{Line, Parts, names, number_of, literals, symbol_literals}
+use Rattle.sx_grammar.specs.Parts.{symbol_sorts, sorts_named, bracket_literals}
 use Rattle.sx_grammar.specs.Made.{IsGrammar}
 use Rattle.sx_grammar.specs.Tables.{IsWithinLimits, HasGoodLevels}
 use Rattle.sx_grammar.proofs.Finding.{at_contains, contains_place, is_head, past_head, in_flat_map, mapped_at, named_at}
@@ -20,9 +21,10 @@ use Rattle.sx_directives.specs.declared.spelled.SpelledSort.TheVariants.{Lex, Na
 use Rattle.sx_directives.specs.declared.spelled.FormSymbol.{FormSymbol}
 use Rattle.sx_directives.specs.declared.spelled.FormSymbol.TheVariants.{Lit, Place}
 use Rattle.sx_directives.specs.declared.rows.FormLine.{FormLine}
-use Rattle.sx_outline.specs.Declarations.{form}
+use Rattle.sx_outline.specs.Declarations.{declared_form}
 use Rattle.sx_outline.specs.Sized.{HasName, HaveGoodLevels}
-use Rattle.sx_notation.specs.RuleParts.{judgement_sort, symbol_for, form_line, apart_lines, rule_parts}
+use Rattle.sx_notation.specs.RuleParts.{judgement_sort, symbol_for, form_line, apart_lines}
+use Rattle.sx_notation.specs.RuleParts.{rule_parts}
 use Rattle.sx_notation.specs.RuleLaws.{HasSortOf, HaveSortsOf}
 
 contains_map : {X Y : Type 0} (f : X → Y) (xs : List X) (x : X) → Contains xs x → Contains (map f xs) (f x)
@@ -60,13 +62,13 @@ module _ (p : Parts) (fs : List FormLine) (is : IsGrammar (rule_parts p fs)) whe
       in_flat_map (λ l. l.sort ∷ flat_map symbol_sorts l.symbols) (rule_parts p fs).productions (form_line f) name has (past_head (form_line f).sort (flat_map symbol_sorts (form_line f).symbols) name three) in
       (known_name name four named.0, symbols_known f has ss (λ s h. inside s (past_head (Place role (Named name least)) ss s h)) named.1)
 
-  forms_known : (gs : List FormLine) → ((f : FormLine) → Contains gs f → Contains (rule_parts p fs).productions (form_line f)) → AllByRecursion (λ f. AllByRecursion HasName f.symbols) (map form gs)
+  forms_known : (gs : List FormLine) → ((f : FormLine) → Contains gs f → Contains (rule_parts p fs).productions (form_line f)) → AllByRecursion (λ f. AllByRecursion HasName f.symbols) (map declared_form gs)
       → HaveSortsOf p gs
   forms_known [] inside named = tt
   forms_known (f ∷ gs) inside named =
       (symbols_known f (inside f (is_head f gs)) f.symbols.items (λ s h. h) named.0, forms_known gs (λ g h. inside g (past_head f gs g h)) named.1)
 
-  pub have_sorts : AllByRecursion (λ f. AllByRecursion HasName f.symbols) (map form fs) → HaveSortsOf p fs
+  pub have_sorts : AllByRecursion (λ f. AllByRecursion HasName f.symbols) (map declared_form fs) → HaveSortsOf p fs
   have_sorts named = forms_known fs
       (λ f h. Contains-append_right p.productions (map form_line fs ++ apart_lines) (form_line f) (Contains-append_left (map form_line fs) apart_lines (form_line f) (contains_map form_line fs f h))) named
 
@@ -89,14 +91,14 @@ few_literals (Lit text ∷ ss) = omega (arith, few_literals ss)
 few_literals (Place role (Lex kind) ∷ ss) = omega (arith, few_literals ss)
 few_literals (Place role (Named name least) ∷ ss) = omega (arith, few_literals ss)
 
-few_form_literals : (fs : List FormLine) → length (flat_map (λ r. flat_map symbol_literals r.symbols) (map form_line fs)) ≤ length (flat_map (λ f. f.symbols) (map form fs))
+few_form_literals : (fs : List FormLine) → length (flat_map (λ r. flat_map symbol_literals r.symbols) (map form_line fs)) ≤ length (flat_map (λ f. f.symbols) (map declared_form fs))
 few_form_literals [] = omega arith
 few_form_literals (f ∷ fs) = omega (
   arith,
   few_literals f.symbols.items,
   few_form_literals fs,
   length-append (flat_map symbol_literals (map symbol_for f.symbols.items)) (flat_map (λ r. flat_map symbol_literals r.symbols) (map form_line fs)),
-  length-append f.symbols.items (flat_map (λ g. g.symbols) (map form fs)),
+  length-append f.symbols.items (flat_map (λ g. g.symbols) (map declared_form fs)),
 )
 
 module _ (p : Parts) (fs : List FormLine) where
@@ -123,8 +125,8 @@ module _ (p : Parts) (fs : List FormLine) where
           Contains-append_right (S (rule_parts p fs)) (L (rule_parts p fs).productions) text
           (subst (λ l. Contains l text) (sym line_literals) (Contains-append_left (L p.productions) (L (map form_line fs) ++ L apart_lines) text k))
 
-  module _ (size : ℕ) (low : size ≤ 262144) (few : length p.sorts + length p.productions + length fs + (length (literals p) + length (flat_map (λ f. f.symbols) (map form fs))) ≤ size) (levels : HasGoodLevels p)
-      (asked : HaveGoodLevels (map form fs)) where
+  module _ (size : ℕ) (low : size ≤ 262144) (few : length p.sorts + length p.productions + length fs + (length (literals p) + length (flat_map (λ f. f.symbols) (map declared_form fs))) ≤ size) (levels : HasGoodLevels p)
+      (asked : HaveGoodLevels (map declared_form fs)) where
     pub within_limits : IsWithinLimits p
     within_limits = record { sorts = omega (arith, low, few); productions = omega (arith, low, few); literals = omega (arith, low, few); levels = levels }
 
@@ -169,7 +171,7 @@ module _ (p : Parts) (fs : List FormLine) where
         let at = contains_place (map form_line fs) r h in
         let f = mapped_at form_line fs at.0 r at.1 in
         let part = part_of f.0.symbols.items name least (subst (λ l. Contains l.symbols (TheSymbol.Part name least)) (sym f.2) k) in
-        asked (form f.0) part.0 name least (contains_map form fs f.0 (at_contains fs at.0 f.0 f.1)) part.1
+        asked (declared_form f.0) part.0 name least (contains_map declared_form fs f.0 (at_contains fs at.0 f.0 f.1)) part.1
 
     no_part_in : (k : ℕ) (r : Line) (name : Text) (least : ℕ) → slice_get apart_lines k ≡ Some r → Contains r.symbols (TheSymbol.Part name least) → ⊥
     no_part_in zero r name least e h = let q = ap (λ o. unwrap_or (option_map (λ x. x.symbols) o) []) e in none_there r.symbols (subst (AllByRecursion IsNoPart) q (tt, (tt, (tt, tt)))) h
@@ -195,7 +197,7 @@ module _ (p : Parts) (fs : List FormLine) where
         ap length line_literals ∙ length-append (L p.productions) (L (map form_line fs) ++ L apart_lines) ∙ ap (λ n. length (L p.productions) + n) (length-append (L (map form_line fs)) (L apart_lines)) in
         let all : length (literals (rule_parts p fs)) ≡ length (S (rule_parts p fs)) + length (L (rule_parts p fs).productions) = length-append (S (rule_parts p fs)) (L (rule_parts p fs).productions) in
         let base : length (literals p) ≡ length (S p) + length (L p.productions) = length-append (S p) (L p.productions) in
-        let forms : length (L (map form_line fs)) ≤ length (flat_map (λ f. f.symbols) (map form fs)) = few_form_literals fs in
+        let forms : length (L (map form_line fs)) ≤ length (flat_map (λ f. f.symbols) (map declared_form fs)) = few_form_literals fs in
         record {
           sorts = omega (arith, low, few, length-append p.sorts (judgement_sort ∷ []));
           productions = omega (arith, low, few, length-append p.productions (map form_line fs ++ apart_lines), length-append (map form_line fs) apart_lines, length-map fs form_line);

@@ -15,7 +15,8 @@ use Rattle.sx_grammar.specs.declared.sort_line.SortLine.{SortLine}
 use Rattle.sx_grammar.specs.declared.symbol.Symbol.{Symbol}
 use Rattle.sx_grammar.specs.declared.symbol.Symbol.TheVariants as TheSymbol
 use Rattle.sx_grammar.specs.Grammar.{Text}
-use Rattle.sx_grammar.specs.Parts.{Parts, names, number_of, numbered, numbered_line, numbered_symbol}
+use Rattle.sx_grammar.specs.Parts.{Parts, names, number_of, numbered, numbered_line}
+use Rattle.sx_grammar.specs.Parts.{numbered_symbol}
 use Rattle.sx_grammar.specs.Told.{is_typed, sort_with, kid_sorts, shape_of, shapes_of}
 use Rattle.sx_grammar.proofs.Finding.{mapped_at, named_at}
 use Rattle.sx_directives.specs.declared.spelled.SpelledSort.{SpelledSort}
@@ -25,11 +26,13 @@ use Rattle.sx_directives.specs.declared.spelled.FormSymbol.TheVariants.{Lit, Pla
 use Rattle.sx_directives.specs.declared.rows.FormLine.{FormLine}
 use Rattle.sx_directives.specs.declared.rows.MainLine.{MainLine}
 use Rattle.sx_outline.specs.declared.main_form.MainForm.{MainForm}
-use Rattle.sx_outline.specs.Declarations.{Declared, form}
+use Rattle.sx_outline.specs.Declarations.{Declared, declared_form}
 use Rattle.sx_outline.proofs.PlaceLaws.{at, first_at, found_in, find_place, find_nothing, position_is}
 use Rattle.sx_outline.proofs.FindLaws.{number_at}
-use Rattle.sx_outline.specs.Fitting.{sort_named, PlaceFits, SymbolFits, sorts_at, Kid, of_kind, of_sort, kids_of, IsConstructor, IsMainOf}
-use Rattle.sx_notation.specs.RuleLaws.{sort_of, places_of, form_of, HasSortOf, HaveSortsOf, IsSortOf}
+use Rattle.sx_outline.specs.Fitting.{sort_named, PlaceFits, SymbolFits, sorts_at, Kid, of_kind}
+use Rattle.sx_outline.specs.Fitting.{of_sort, kids_of, IsConstructor, IsMainOf}
+use Rattle.sx_notation.specs.RuleLaws.{spelled_sort, places_of, form_of, HasSortOf, HaveSortsOf}
+use Rattle.sx_notation.specs.RuleLaws.{IsSpelledSort}
 use Rattle.sx_notation.specs.Language.{sorts_with, IsMain}
 
 past_end : {X : Type 0} (xs : List X) (n : ℕ) → length xs ≤ n → slice_get xs n ≡ None
@@ -54,23 +57,23 @@ first_named ss name = by (first_at name (map (λ s. s.name) ss)) refl
 
 module _ (p : Parts) where
   -- the sorts of the places with a role
-  pub sorts_are : (role : Role) (ss : List FormSymbol) → sorts_with role (flat_map (places_of p) ss) ≡ map (sort_of p) (sorts_at role ss)
+  pub sorts_are : (role : Role) (ss : List FormSymbol) → sorts_with role (flat_map (places_of p) ss) ≡ map (spelled_sort p) (sorts_at role ss)
   sorts_are role [] = refl
   sorts_are role (Lit text ∷ ss) = by role (sorts_are role ss)
     where
-      by : (r : Role) → sorts_with r (flat_map (places_of p) ss) ≡ map (sort_of p) (sorts_at r ss) → sorts_with r (flat_map (places_of p) (Lit text ∷ ss)) ≡ map (sort_of p) (sorts_at r (Lit text ∷ ss))
+      by : (r : Role) → sorts_with r (flat_map (places_of p) ss) ≡ map (spelled_sort p) (sorts_at r ss) → sorts_with r (flat_map (places_of p) (Lit text ∷ ss)) ≡ map (spelled_sort p) (sorts_at r (Lit text ∷ ss))
       by In e = e
       by Sub e = e
       by Out e = e
-  sorts_are In (Place In sort ∷ ss) = ap (λ l. sort_of p sort ∷ l) (sorts_are In ss)
+  sorts_are In (Place In sort ∷ ss) = ap (λ l. spelled_sort p sort ∷ l) (sorts_are In ss)
   sorts_are In (Place Sub sort ∷ ss) = sorts_are In ss
   sorts_are In (Place Out sort ∷ ss) = sorts_are In ss
   sorts_are Sub (Place In sort ∷ ss) = sorts_are Sub ss
-  sorts_are Sub (Place Sub sort ∷ ss) = ap (λ l. sort_of p sort ∷ l) (sorts_are Sub ss)
+  sorts_are Sub (Place Sub sort ∷ ss) = ap (λ l. spelled_sort p sort ∷ l) (sorts_are Sub ss)
   sorts_are Sub (Place Out sort ∷ ss) = sorts_are Sub ss
   sorts_are Out (Place In sort ∷ ss) = sorts_are Out ss
   sorts_are Out (Place Sub sort ∷ ss) = sorts_are Out ss
-  sorts_are Out (Place Out sort ∷ ss) = ap (λ l. sort_of p sort ∷ l) (sorts_are Out ss)
+  sorts_are Out (Place Out sort ∷ ss) = ap (λ l. spelled_sort p sort ∷ l) (sorts_are Out ss)
 
   -- each place has one of the roles
   places_many : (ss : List FormSymbol) → length (flat_map (places_of p) ss) ≡ length (sorts_at In ss) + length (sorts_at Sub ss) + length (sorts_at Out ss)
@@ -96,7 +99,7 @@ module _ (p : Parts) where
   fits_at d Out (Place Sub sort ∷ ss) all = fits_at d Out ss all.1
   fits_at d Out (Place Out sort ∷ ss) all = (all.0, fits_at d Out ss all.1)
 
-  known_at : (role : Role) (ss : List FormSymbol) → AllByRecursion (HasSortOf p) ss → AllByRecursion (IsSortOf p) (sorts_at role ss)
+  known_at : (role : Role) (ss : List FormSymbol) → AllByRecursion (HasSortOf p) ss → AllByRecursion (IsSpelledSort p) (sorts_at role ss)
   known_at role [] all = tt
   known_at In (Lit text ∷ ss) all = known_at In ss all.1
   known_at Sub (Lit text ∷ ss) all = known_at Sub ss all.1
@@ -152,7 +155,7 @@ module _ (p : Parts) where
       λ i. record { sort = sort_with p.sorts (number_of (names p) (h.sort_is i)); kids = right i } in
       two ∙ ap Some same_shape
 
-fits_of : (d : Declared) (fs : List FormLine) (n : ℕ) (f : FormLine) → slice_get fs n ≡ Some f → AllByRecursion (λ x. AllByRecursion (SymbolFits d) x.symbols) (map form fs) → AllByRecursion (SymbolFits d) f.symbols.items
+fits_of : (d : Declared) (fs : List FormLine) (n : ℕ) (f : FormLine) → slice_get fs n ≡ Some f → AllByRecursion (λ x. AllByRecursion (SymbolFits d) x.symbols) (map declared_form fs) → AllByRecursion (SymbolFits d) f.symbols.items
 fits_of d [] n f e all = absurd (none-some f e)
 fits_of d (g ∷ fs) zero f e all = let q : g ≡ f = cc in subst (λ x. AllByRecursion (SymbolFits d) x.symbols.items) q all.0
 fits_of d (g ∷ fs) (suc n) f e all = fits_of d fs n f e all.1
@@ -162,10 +165,10 @@ known_of p [] n f e all = absurd (none-some f e)
 known_of p (g ∷ fs) zero f e all = let q : g ≡ f = cc in subst (λ x. AllByRecursion (HasSortOf p) x.symbols.items) q all.0
 known_of p (g ∷ fs) (suc n) f e all = known_of p fs n f e all.1
 
-module _ (p : Parts) (fs : List FormLine) (d : Declared) (sorts : d.sorts ≡ p.sorts) (productions : d.productions ≡ p.productions) (forms : d.forms ≡ map form fs) (known : HaveSortsOf p fs)
-    (places : AllByRecursion (λ x. AllByRecursion (SymbolFits d) x.symbols) (map form fs)) (m : MainLine) (main : MainForm) (h : IsMainOf d m main) where
-  line : (f : FormLine) × (slice_get fs main.form ≡ Some f) × (form f ≡ h.form)
-  line = mapped_at form fs main.form h.form (ap (λ l. slice_get l main.form) (sym forms) ∙ h.form_is)
+module _ (p : Parts) (fs : List FormLine) (d : Declared) (sorts : d.sorts ≡ p.sorts) (productions : d.productions ≡ p.productions) (forms : d.forms ≡ map declared_form fs) (known : HaveSortsOf p fs)
+    (places : AllByRecursion (λ x. AllByRecursion (SymbolFits d) x.symbols) (map declared_form fs)) (m : MainLine) (main : MainForm) (h : IsMainOf d m main) where
+  line : (f : FormLine) × (slice_get fs main.form ≡ Some f) × (declared_form f ≡ h.form)
+  line = mapped_at declared_form fs main.form h.form (ap (λ l. slice_get l main.form) (sym forms) ∙ h.form_is)
 
   abbrev symbols : List FormSymbol
   symbols = line.0.symbols.items
@@ -185,11 +188,11 @@ module _ (p : Parts) (fs : List FormLine) (d : Declared) (sorts : d.sorts ≡ p.
       as_plain p name (ap is_typed (found name) ∙ not_typed p (sort_named d name) (subst (λ b. IfSome (sort_named d name) (λ s. s.typed ≡ b)) plain one))
 
   -- the subject's sort is typed
-  subject_at : (spelled : SpelledSort) → sorts_at Sub symbols ≡ spelled ∷ [] → (number : ℕ) × (sort_of p spelled ≡ TheSort.Typed number)
+  subject_at : (spelled : SpelledSort) → sorts_at Sub symbols ≡ spelled ∷ [] → (number : ℕ) × (spelled_sort p spelled ≡ TheSort.Typed number)
   subject_at (Lex kind) e = let one : true ≡ false = (subst (AllByRecursion (PlaceFits d Sub)) e (fits_at p d Sub symbols fit)).0 in cc
   subject_at (Named name least) e =
       let one : PlaceFits d Sub (Named name least) = (subst (AllByRecursion (PlaceFits d Sub)) e (fits_at p d Sub symbols fit)).0 in
-      let has : Contains (names p) name = (subst (AllByRecursion (IsSortOf p)) e (known_at p Sub symbols (known_of p fs main.form line.0 line.1 known))).0 in
+      let has : Contains (names p) name = (subst (AllByRecursion (IsSpelledSort p)) e (known_at p Sub symbols (known_of p fs main.form line.0 line.1 known))).0 in
       (number_of (names p) name, as_typed p name (ap is_typed (found name) ∙ is_found p name has (sort_named d name) (found name) one))
 
   pub is_main : IsMain p (map (form_of p) fs) main
@@ -206,9 +209,9 @@ module _ (p : Parts) (fs : List FormLine) (d : Declared) (sorts : d.sorts ≡ p.
         environment = number_of (names p) h.environment;
         subject = typed.0;
         signature = number_of (names p) h.signature;
-        input = sorts_are p In symbols ∙ ap (map (sort_of p)) input ∙ ap (λ s. s ∷ []) environment;
-        typed = sorts_are p Sub symbols ∙ ap (map (sort_of p)) subject ∙ ap (λ s. s ∷ []) typed.1;
-        output = sorts_are p Out symbols ∙ ap (map (sort_of p)) output ∙ ap (λ s. s ∷ []) signature;
+        input = sorts_are p In symbols ∙ ap (map (spelled_sort p)) input ∙ ap (λ s. s ∷ []) environment;
+        typed = sorts_are p Sub symbols ∙ ap (map (spelled_sort p)) subject ∙ ap (λ s. s ∷ []) typed.1;
+        output = sorts_are p Out symbols ∙ ap (map (spelled_sort p)) output ∙ ap (λ s. s ∷ []) signature;
         many = omega (arith, places_many p symbols, ap length input, ap length subject, ap length output);
         empty = constructor_at p d productions m.empty main.empty h.environment [] h.empty ∙ ap (λ s. Some (record { sort = s; kids = [] })) environment;
         add = constructor_at p d productions m.add main.add h.environment (of_sort h.environment ∷ of_kind Id ∷ of_sort h.signature ∷ []) h.add

@@ -3,7 +3,8 @@ use Rattle.std.proofs.Common.{◌≡◌, ℕ, zero, suc, true, List, [], ◌∷�
 use Rattle.std.specs.Prelude.{Option, slice_get, is_some}
 use Rattle.std.specs.List.{AllByRecursion}
 use Rattle.std.proofs.lemmas.Bool.{false≢true}
-use Rattle.sx_term.specs.Cutting.{Piece, Outcome, tokens, not_utf8, bad_token, too_many, open_string, IsOutcome}
+use Rattle.sx_term.specs.Cutting.{Piece, Outcome, tokens, not_utf8, bad_token, too_many}
+use Rattle.sx_term.specs.Cutting.{open_string, IsOutcome}
 use Rattle.sx_term.proofs.CutLaws.{IsOutcome-same}
 use Rattle.sx_token.specs.declared.token.Token.{Token}
 use Rattle.sx_token.specs.declared.token_error.TokenError.{TokenError}
@@ -15,7 +16,7 @@ use Rattle.sx_grammar.specs.Tables.{literals_of}
 use Rattle.sx_grammar.proofs.Finding.{distinct_are}
 use Rattle.sx_earley.specs.Tokens.{Stems}
 use Rattle.sx_earley.specs.Unknown.{HasStem, IsFirstUnknown}
-use Rattle.sx_notation.specs.ReadText.{IsCut, IsKnownCut, HasDefect, HasUnknown}
+use Rattle.sx_notation.specs.ReadText.{IsLineCut, IsKnownCut, HasDefect, HasUnknown}
 
 abbrev back : Piece → Token
 back p = record { mark = p.mark; text = p.text; from = p.from; to = p.to }
@@ -47,11 +48,11 @@ module _ (p : Parts) (text : Text) where
   outcome_one : (a b : Outcome) → IsOutcome (literals_of p) true text a → IsOutcome (literals_of p) true text b → a ≡ b
   outcome_one = IsOutcome-same (literals_of p) true text (distinct_are (literals p))
 
-  pub one_cut : (ts us : List Token) → IsCut p text ts → IsCut p text us → ts ≡ us
+  pub one_cut : (ts us : List Token) → IsLineCut p text ts → IsLineCut p text us → ts ≡ us
   one_cut ts us c d = pieces_one ts us (ap pieces_in (outcome_one (tokens (pieces ts)) (tokens (pieces us)) c d))
 
   -- a line with a defect is not cut
-  pub defect_or_cut : (e : TokenError) (ts : List Token) → HasDefect p text e → IsCut p text ts → ⊥
+  pub defect_or_cut : (e : TokenError) (ts : List Token) → HasDefect p text e → IsLineCut p text ts → ⊥
   defect_or_cut token.Memory ts h c = h
   defect_or_cut (token.NotUtf8 place) ts h c = let e : not_utf8 place ≡ tokens (pieces ts) = outcome_one (not_utf8 place) (tokens (pieces ts)) h c in cc
   defect_or_cut (token.BadToken place) ts h c = let e : bad_token place ≡ tokens (pieces ts) = outcome_one (bad_token place) (tokens (pieces ts)) h c in cc

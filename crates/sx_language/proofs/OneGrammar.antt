@@ -5,10 +5,15 @@ use Rattle.std.proofs.lemmas.Option.{slice_get_within}
 use Rattle.sx_term.specs.Cutting.{AreDistinct}
 use Rattle.sx_grammar.specs.declared.sort_line.SortLine.{SortLine}
 use Rattle.sx_grammar.specs.declared.grammar_error.GrammarError.{GrammarError}
-use Rattle.sx_grammar.specs.declared.grammar_error.GrammarError.TheVariants.{Memory, BadLiteral, SameSort, UnknownSort, SameLabel, PlainHasTyped, NoBrackets, Cyclic}
+use Rattle.sx_grammar.specs.declared.grammar_error.GrammarError.TheVariants.{Memory, BadLiteral}
+use Rattle.sx_grammar.specs.declared.grammar_error.GrammarError.TheVariants.{SameSort, UnknownSort}
+use Rattle.sx_grammar.specs.declared.grammar_error.GrammarError.TheVariants.{SameLabel}
+use Rattle.sx_grammar.specs.declared.grammar_error.GrammarError.TheVariants.{PlainHasTyped}
+use Rattle.sx_grammar.specs.declared.grammar_error.GrammarError.TheVariants.{NoBrackets, Cyclic}
 use Rattle.sx_grammar.specs.Grammar.{Text}
 use Rattle.sx_grammar.specs.Parts.{Line, Parts, names, labels, literals, sorts_named}
-use Rattle.sx_grammar.specs.Made.{IsFirst, HasNone, IsFirstAgain, IsBadLiteral, IsUnknown, MixesSorts, LacksBrackets, HasLiterals, IsFirstCyclic, IsGrammar}
+use Rattle.sx_grammar.specs.Made.{IsFirstWith, HasNone, IsFirstAgain, IsBadLiteral, IsUnknownSort}
+use Rattle.sx_grammar.specs.Made.{MixesSorts, LacksBrackets, HasLiterals, IsFirstCyclic, IsGrammar}
 use Rattle.sx_grammar.proofs.Finding.{contains_place, is_head, past_head}
 use Rattle.sx_language.specs.States.{IsNoGrammar}
 use Rattle.sx_language.proofs.Stepwise.{AreAlike, Step, step_alike, step_none}
@@ -45,7 +50,7 @@ module _ {X : Type 0} where
   -- ---- the first with a property
 
   module _ (P : X → Type 0) (xs : List X) where
-    one_first : (x y : X) → IsFirst P xs x → IsFirst P xs y → x ≡ y
+    one_first : (x y : X) → IsFirstWith P xs x → IsFirstWith P xs y → x ≡ y
     one_first x y h k = by (places h.0 k.0 x y h.1 k.1 (sym h.2 ∙ k.2))
       where
         by : Places h.0 k.0 x y → x ≡ y
@@ -53,7 +58,7 @@ module _ {X : Type 0} where
         by (inr (inl e)) = absurd (k.4 x (subst (λ (l : List X). Contains l x) (sym e.1) (inside h.0 x e.0)) h.3)
         by (inr (inr e)) = absurd (h.4 y (subst (λ (l : List X). Contains l y) (sym e.1) (inside k.0 y e.0)) k.3)
 
-    first_none : (x : X) → IsFirst P xs x → HasNone P xs → ⊥
+    first_none : (x : X) → IsFirstWith P xs x → HasNone P xs → ⊥
     first_none x h none = none x (subst (λ (l : List X). Contains l x) (sym h.2) (inside h.0 x h.1)) h.3
 
 -- ---- the first that stands there before
@@ -123,10 +128,10 @@ named_one make P one e d h k = h.1 ∙ ap make (one h.0 k.0 h.2 k.2) ∙ sym k.1
 
 module _ (p : Parts) where
   abbrev Mixes : Text → Type 0
-  Mixes label = (r : Line) × IsFirst (MixesSorts p) p.productions r × (r.label ≡ label)
+  Mixes label = (r : Line) × IsFirstWith (MixesSorts p) p.productions r × (r.label ≡ label)
 
   abbrev Lacks : Text → Type 0
-  Lacks sort = (s : SortLine) × IsFirst (LacksBrackets p) p.sorts s × (s.name ≡ sort)
+  Lacks sort = (s : SortLine) × IsFirstWith (LacksBrackets p) p.sorts s × (s.name ≡ sort)
 
   mixes_one : (x y : Text) → Mixes x → Mixes y → x ≡ y
   mixes_one x y h k = sym h.2 ∙ ap (λ (r : Line). r.label) (one_first (MixesSorts p) p.productions h.0 k.0 h.1 k.1) ∙ k.2
@@ -148,13 +153,13 @@ module _ (p : Parts) where
   ByLabels = Step (Named SameLabel (IsFirstAgain (labels p))) (AreDistinct (labels p)) ByMixing
 
   abbrev ByUnknown : GrammarError → Type 0
-  ByUnknown = Step (Named UnknownSort (IsFirst (IsUnknown (names p)) (sorts_named p))) (HasNone (IsUnknown (names p)) (sorts_named p)) ByLabels
+  ByUnknown = Step (Named UnknownSort (IsFirstWith (IsUnknownSort (names p)) (sorts_named p))) (HasNone (IsUnknownSort (names p)) (sorts_named p)) ByLabels
 
   abbrev ByNames : GrammarError → Type 0
   ByNames = Step (Named SameSort (IsFirstAgain (names p))) (AreDistinct (names p)) ByUnknown
 
   abbrev IsDue : GrammarError → Type 0
-  IsDue = Step (Named BadLiteral (IsFirst IsBadLiteral (literals p))) (HasLiterals p) ByNames
+  IsDue = Step (Named BadLiteral (IsFirstWith IsBadLiteral (literals p))) (HasLiterals p) ByNames
 
   due : (e : GrammarError) → IsNoGrammar p e → IsDue e
   due Memory h = absurd h
@@ -178,13 +183,13 @@ module _ (p : Parts) where
   not_labels : (e : GrammarError) → Named SameLabel (IsFirstAgain (labels p)) e → AreDistinct (labels p) → ⊥
   not_labels e h are = again_none (labels p) h.0 h.2 are
 
-  not_unknown : (e : GrammarError) → Named UnknownSort (IsFirst (IsUnknown (names p)) (sorts_named p)) e → HasNone (IsUnknown (names p)) (sorts_named p) → ⊥
-  not_unknown e h none = first_none (IsUnknown (names p)) (sorts_named p) h.0 h.2 none
+  not_unknown : (e : GrammarError) → Named UnknownSort (IsFirstWith (IsUnknownSort (names p)) (sorts_named p)) e → HasNone (IsUnknownSort (names p)) (sorts_named p) → ⊥
+  not_unknown e h none = first_none (IsUnknownSort (names p)) (sorts_named p) h.0 h.2 none
 
   not_names : (e : GrammarError) → Named SameSort (IsFirstAgain (names p)) e → AreDistinct (names p) → ⊥
   not_names e h are = again_none (names p) h.0 h.2 are
 
-  not_literals : (e : GrammarError) → Named BadLiteral (IsFirst IsBadLiteral (literals p)) e → HasLiterals p → ⊥
+  not_literals : (e : GrammarError) → Named BadLiteral (IsFirstWith IsBadLiteral (literals p)) e → HasLiterals p → ⊥
   not_literals e h none = first_none IsBadLiteral (literals p) h.0 h.2 none
 
   abbrev same : GrammarError → GrammarError → Type 0
@@ -203,16 +208,16 @@ module _ (p : Parts) where
 
   unknown_one : IsOne ByUnknown
   unknown_one =
-      step_alike (Named UnknownSort (IsFirst (IsUnknown (names p)) (sorts_named p))) (HasNone (IsUnknown (names p)) (sorts_named p)) ByLabels not_unknown same
-      (named_one UnknownSort (IsFirst (IsUnknown (names p)) (sorts_named p)) (one_first (IsUnknown (names p)) (sorts_named p))) labels_one
+      step_alike (Named UnknownSort (IsFirstWith (IsUnknownSort (names p)) (sorts_named p))) (HasNone (IsUnknownSort (names p)) (sorts_named p)) ByLabels not_unknown same
+      (named_one UnknownSort (IsFirstWith (IsUnknownSort (names p)) (sorts_named p)) (one_first (IsUnknownSort (names p)) (sorts_named p))) labels_one
 
   names_one : IsOne ByNames
   names_one = step_alike (Named SameSort (IsFirstAgain (names p))) (AreDistinct (names p)) ByUnknown not_names same (named_one SameSort (IsFirstAgain (names p)) (one_again (names p))) unknown_one
 
   due_one : IsOne IsDue
   due_one =
-      step_alike (Named BadLiteral (IsFirst IsBadLiteral (literals p))) (HasLiterals p) ByNames not_literals same
-      (named_one BadLiteral (IsFirst IsBadLiteral (literals p)) (one_first IsBadLiteral (literals p))) names_one
+      step_alike (Named BadLiteral (IsFirstWith IsBadLiteral (literals p))) (HasLiterals p) ByNames not_literals same
+      (named_one BadLiteral (IsFirstWith IsBadLiteral (literals p)) (one_first IsBadLiteral (literals p))) names_one
 
   pub no_grammar_one : (e d : GrammarError) → IsNoGrammar p e → IsNoGrammar p d → e ≡ d
   no_grammar_one e d h k = due_one e d (due e h) (due d k)
@@ -221,9 +226,9 @@ module _ (p : Parts) where
   due_none : IsGrammar p → (e : GrammarError) → IsDue e → ⊥
   due_none is =
       let b = is.0 in
-      step_none (Named BadLiteral (IsFirst IsBadLiteral (literals p))) (HasLiterals p) ByNames not_literals b.0.0.0.0.0
+      step_none (Named BadLiteral (IsFirstWith IsBadLiteral (literals p))) (HasLiterals p) ByNames not_literals b.0.0.0.0.0
       (step_none (Named SameSort (IsFirstAgain (names p))) (AreDistinct (names p)) ByUnknown not_names b.0.0.0.0.1
-      (step_none (Named UnknownSort (IsFirst (IsUnknown (names p)) (sorts_named p))) (HasNone (IsUnknown (names p)) (sorts_named p)) ByLabels not_unknown b.0.0.0.1
+      (step_none (Named UnknownSort (IsFirstWith (IsUnknownSort (names p)) (sorts_named p))) (HasNone (IsUnknownSort (names p)) (sorts_named p)) ByLabels not_unknown b.0.0.0.1
       (step_none (Named SameLabel (IsFirstAgain (labels p))) (AreDistinct (labels p)) ByMixing not_labels b.0.0.1
       (step_none (Named PlainHasTyped Mixes) (HasNone (MixesSorts p) p.productions) ByBrackets not_mixing b.0.1
       (step_none (Named NoBrackets Lacks) (HasNone (LacksBrackets p) p.sorts) ByCycles not_brackets b.1 (no_cycle is))))))

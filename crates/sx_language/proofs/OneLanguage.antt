@@ -13,7 +13,7 @@ use Rattle.sx_rules.specs.declared.error.RuleError.{RuleError}
 use Rattle.sx_rules.specs.declared.error.RuleError.TheVariants as rules
 use Rattle.sx_rules.specs.Views.{FormData, NamedRule}
 use Rattle.sx_rules.specs.Sets.{forms_in, rules_in}
-use Rattle.sx_rules.specs.Good.{IsRefused as IsNoRuleSet}
+use Rattle.sx_rules.specs.Good.{IsRuleSetRefused as IsNoRuleSet}
 use Rattle.sx_rules.proofs.Refusals.{one_refusal, not_refused}
 use Rattle.sx_outline.specs.declared.outline.Outline.{Outline}
 use Rattle.sx_outline.specs.declared.outline_error.OutlineError.{OutlineError}
@@ -22,12 +22,17 @@ use Rattle.sx_outline.specs.Stages.{RuleData, rule_data}
 use Rattle.sx_outline.specs.Outlined.{OutlineData, outline, IsOutlined}
 use Rattle.sx_notation.specs.declared.language.Language.{Language}
 use Rattle.sx_notation.specs.declared.notation_error.NotationError.{NotationError}
-use Rattle.sx_notation.specs.declared.notation_error.NotationError.TheVariants.{Memory, NotUtf8, Notation, Token, Grammar, Read, Rules}
+use Rattle.sx_notation.specs.declared.notation_error.NotationError.TheVariants.{Memory, NotUtf8}
+use Rattle.sx_notation.specs.declared.notation_error.NotationError.TheVariants.{Notation, Token}
+use Rattle.sx_notation.specs.declared.notation_error.NotationError.TheVariants.{Grammar, Read}
+use Rattle.sx_notation.specs.declared.notation_error.NotationError.TheVariants.{Rules}
 use Rattle.sx_notation.specs.RuleParts.{rule_parts}
 use Rattle.sx_language.specs.Alike.{RulesHaveThree, LanguageHasThree}
 use Rattle.sx_language.specs.RuleLine.{Reader}
-use Rattle.sx_language.specs.RuleTexts.{AreBareRules, IsFirstBad}
-use Rattle.sx_language.specs.States.{IsReadable, forms_of, States, IsNoGrammar, HasNoGrammar, HasBadRule, name_unbound, IsNoRules, HasNoRuleSet, IsRefused}
+use Rattle.sx_language.specs.RuleTexts.{AreBareRules, IsFirstBadRule}
+use Rattle.sx_language.specs.States.{IsReadable, forms_of, IsLanguageIn, IsNoGrammar, HasNoGrammar}
+use Rattle.sx_language.specs.States.{HasBadRule, name_unbound, IsNoRules, HasNoRuleSet}
+use Rattle.sx_language.specs.States.{IsLanguageTextRefused}
 use Rattle.sx_language.specs.Laws.{SameLanguage, OneLanguage}
 use Rattle.sx_language.proofs.Stepwise.{AreAlike, Step, step_alike, step_none}
 use Rattle.sx_language.proofs.OneGrammar.{no_grammar_one, grammar_or_not}
@@ -111,7 +116,7 @@ module _ (name bytes : Text) where
   by_rule_lines : (e : NotationError) → e ≢ Memory → HasBadRule name bytes e → IsDue e
   by_rule_lines e n h = inr ((h.0, h.2.outlined), inr ((h.0, h.1, h.2), inl (n, h)))
 
-  due : (e : NotationError) → e ≢ Memory → IsRefused name bytes e → IsDue e
+  due : (e : NotationError) → e ≢ Memory → IsLanguageTextRefused name bytes e → IsDue e
   due Memory n h = absurd (n refl)
   due (NotUtf8 place) n h = by_lines (outlines.NotUtf8 place) (λ e. cc) h
   due (Notation line kind) n (inl h) = by_lines (outlines.Notation line kind) (λ e. cc) h
@@ -157,11 +162,11 @@ module _ (name bytes : Text) where
   rules_there : (o q : Outline) → IsOutlined name bytes (Ok o) → IsOutlined name bytes (Ok q) → map rule_data o.rules.items ≡ map rule_data q.rules.items
   rules_there o q h k = ap (λ (d : OutlineData). d.rules) (outline_one name bytes o q h k)
 
-  bad_there : (o q : Outline) (r s : Reader) (e : NotationError) → IsReadable name bytes o r → IsReadable name bytes q s → IsFirstBad r (map rule_data o.rules.items) e →
-      IsFirstBad s (map rule_data q.rules.items) e
+  bad_there : (o q : Outline) (r s : Reader) (e : NotationError) → IsReadable name bytes o r → IsReadable name bytes q s → IsFirstBadRule r (map rule_data o.rules.items) e →
+      IsFirstBadRule s (map rule_data q.rules.items) e
   bad_there o q r s e h k bad =
-      subst (λ (t : Reader). IsFirstBad t (map rule_data q.rules.items) e) (reader_one name bytes o q r s h k)
-      (subst (λ (ls : List RuleData). IsFirstBad r ls e) (rules_there o q h.outlined k.outlined) bad)
+      subst (λ (t : Reader). IsFirstBadRule t (map rule_data q.rules.items) e) (reader_one name bytes o q r s h k)
+      (subst (λ (ls : List RuleData). IsFirstBadRule r ls e) (rules_there o q h.outlined k.outlined) bad)
 
   are_there : (o q : Outline) (r s : Reader) (names : List (List Text)) (qs : List NamedRule) → IsReadable name bytes o r → IsReadable name bytes q s →
       AreBareRules r (map rule_data o.rules.items) names qs → AreBareRules s (map rule_data q.rules.items) names qs
@@ -231,7 +236,7 @@ module _ (name bytes : Text) where
 
   -- ---- languages
 
-  module _ (l : Language) (s : States name bytes l) where
+  module _ (l : Language) (s : IsLanguageIn name bytes l) where
     no_rules_due : (e : NotationError) → ByRules e → ⊥
     no_rules_due e h = no.1 (not_refused (shapes_of (parts s.outline.parts)) (forms_of s.outline) (rules_in l.rules) h.0 s.rule_set here)
       where
@@ -261,7 +266,7 @@ module _ (name bytes : Text) where
   abbrev whole_of : Parts → GrammarData
   whole_of p = record { parts = p; base = length p.productions }
 
-  found : (l k : Language) → States name bytes l → States name bytes k → SameLanguage l k
+  found : (l k : Language) → IsLanguageIn name bytes l → IsLanguageIn name bytes k → SameLanguage l k
   found l k s t = record {
     content = λ i. record { parts = (grammar i).parts; rule_parts = (rule_grammar i).parts; forms = forms i; rules = stated.1 i; main = main i };
     name = s.named ∙ sym t.named;
@@ -296,7 +301,7 @@ module _ (name bytes : Text) where
       main = s.main ∙ ap (λ (d : OutlineData). d.main) same ∙ sym t.main
 
   -- memory is lacking, or the refusal is due
-  memory_or_due : (e : NotationError) → IsRefused name bytes e → (e ≡ Memory) ⊎ IsDue e
+  memory_or_due : (e : NotationError) → IsLanguageTextRefused name bytes e → (e ≡ Memory) ⊎ IsDue e
   memory_or_due Memory h = inl refl
   memory_or_due (NotUtf8 place) h = inr (due (NotUtf8 place) (λ e. cc) h)
   memory_or_due (Notation line kind) h = inr (due (Notation line kind) (λ e. cc) h)
@@ -305,7 +310,7 @@ module _ (name bytes : Text) where
   memory_or_due (Read line x) h = inr (due (Read line x) (λ e. cc) h)
   memory_or_due (Rules x unbound) h = inr (due (Rules x unbound) (λ e. cc) h)
 
-  memory_alone : (l : Language) (e : NotationError) → States name bytes l → (e ≡ Memory) ⊎ IsDue e → e ≡ Memory
+  memory_alone : (l : Language) (e : NotationError) → IsLanguageIn name bytes l → (e ≡ Memory) ⊎ IsDue e → e ≡ Memory
   memory_alone l e s (inl h) = h
   memory_alone l e s (inr h) = absurd (none_due l s e h)
 

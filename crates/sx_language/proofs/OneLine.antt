@@ -11,15 +11,19 @@ use Rattle.sx_grammar.specs.Print.{term_of}
 use Rattle.sx_grammar.specs.Reading.{Reading}
 use Rattle.sx_grammar.specs.ReadOne.{IsAnswer, only}
 use Rattle.sx_earley.specs.Tokens.{Stems, plain_tokens}
-use Rattle.sx_earley.specs.Completed.{number_of}
+use Rattle.sx_earley.specs.Completed.{sort_number}
 use Rattle.sx_forest.specs.Names.{names_in, AddsEach}
 use Rattle.sx_lines.specs.declared.kind.Kind.TheVariants.{Variable}
 use Rattle.sx_rules.specs.Rules.{Premise, holds, apart}
 use Rattle.sx_outline.specs.Stages.{Numbered}
 use Rattle.sx_notation.specs.declared.notation_error.NotationError.{NotationError}
-use Rattle.sx_notation.specs.declared.notation_error.NotationError.TheVariants.{Memory, NotUtf8, Notation, Token as BadTokens, Grammar, Read, Rules}
+use Rattle.sx_notation.specs.declared.notation_error.NotationError.TheVariants.{Memory, NotUtf8}
+use Rattle.sx_notation.specs.declared.notation_error.NotationError.TheVariants.{Notation}
+use Rattle.sx_notation.specs.declared.notation_error.NotationError.TheVariants.{Token as BadTokens}
+use Rattle.sx_notation.specs.declared.notation_error.NotationError.TheVariants.{Grammar, Read}
+use Rattle.sx_notation.specs.declared.notation_error.NotationError.TheVariants.{Rules}
 use Rattle.sx_notation.specs.declared.unread.Unread.{Unread}
-use Rattle.sx_notation.specs.ReadText.{IsKnownCut, IsRead, HasDefect, HasUnknown, IsRefused}
+use Rattle.sx_notation.specs.ReadText.{IsKnownCut, IsReadLine, HasDefect, HasUnknown, IsTextRefused}
 use Rattle.sx_notation.specs.WhyUnread.{IsUnreadAs}
 use Rattle.sx_notation.specs.OneReason.{HaveThree, ShowTwo}
 use Rattle.sx_notation.proofs.OneReasons.{one_reason, unread_or_read}
@@ -67,10 +71,10 @@ adds_one old (name ∷ names) a b h k =
 
 module _ (p : Parts) (stems : Stems) (sort : Sort) (text : Text) where
   abbrev Answers : List Token → Reading → Type 0
-  Answers ts r = IsAnswer (numbered p) (plain_tokens stems ts) (number_of sort) (only r)
+  Answers ts r = IsAnswer (numbered p) (plain_tokens stems ts) (sort_number sort) (only r)
 
   -- the names after a text and its term
-  pub read_one : (old a b : List Text) (t u : Tree) → IsRead p stems sort text old a t → IsRead p stems sort text old b u → (a ≡ b) × (t ≡ u)
+  pub read_one : (old a b : List Text) (t u : Tree) → IsReadLine p stems sort text old a t → IsReadLine p stems sort text old b u → (a ≡ b) × (t ≡ u)
   read_one old a b t u h k =
       let cut = one_cut p text h.tokens k.tokens h.known.0 k.known.0 in
       let answer = subst (λ (ts : List Token). Answers ts h.reading) cut h.answer in
@@ -102,7 +106,7 @@ module _ (p : Parts) (stems : Stems) (sort : Sort) (text : Text) where
     abbrev Why : NotationError → Type 0
     Why e = IsUncut e ⊎ IsStrange e ⊎ IsUnread e
 
-    whys : (e : NotationError) → IsRefused p stems sort text number e → e ≢ Memory → Why e
+    whys : (e : NotationError) → IsTextRefused p stems sort text number e → e ≢ Memory → Why e
     whys Memory h n = absurd (n refl)
     whys (NotUtf8 place) h n = absurd h
     whys (Notation at kind) h n = inr (inl (record { is = λ i. Notation (h.0 i) (h.1 i); has = h.2 }))
@@ -112,14 +116,14 @@ module _ (p : Parts) (stems : Stems) (sort : Sort) (text : Text) where
     whys (Rules x variable) h n = absurd h
 
     -- a text that is read is not refused
-    why_or_read : (old new : List Text) (t : Tree) (e : NotationError) → Why e → IsRead p stems sort text old new t → ⊥
+    why_or_read : (old new : List Text) (t : Tree) (e : NotationError) → Why e → IsReadLine p stems sort text old new t → ⊥
     why_or_read old new t e (inl h) k = defect_or_cut p text h.defect k.tokens h.has k.known.0
     why_or_read old new t e (inr (inl h)) k = strange_or_cut p stems text k.tokens h.has k.known
     why_or_read old new t e (inr (inr h)) k =
         unread_or_read p stems sort k.tokens (length text) h.why k.reading
         (subst (λ (ts : List Token). IsUnreadAs p stems sort ts (length text) h.why) (one_cut p text h.tokens k.tokens h.known.0 k.known.0) h.unread) k.answer
 
-    pub refused_or_read : (old new : List Text) (t : Tree) (e : NotationError) → e ≢ Memory → IsRefused p stems sort text number e → IsRead p stems sort text old new t → ⊥
+    pub refused_or_read : (old new : List Text) (t : Tree) (e : NotationError) → e ≢ Memory → IsTextRefused p stems sort text number e → IsReadLine p stems sort text old new t → ⊥
     refused_or_read old new t e n h k = why_or_read old new t e (whys e h n) k
 
     module _ (HasMore : ℕ → Type 0) (so : HasThree p stems sort text → HasMore number) where
@@ -136,7 +140,7 @@ module _ (p : Parts) (stems : Stems) (sort : Sort) (text : Text) where
           let there = subst (λ (ts : List Token). IsUnreadAs p stems sort ts (length text) h.why) (one_cut p text h.tokens k.tokens h.known.0 k.known.0) h.unread in
           unreads_alike p stems sort text k.tokens k.known number HasMore so e d h.why k.why h.is k.is (one_reason p stems sort k.tokens (length text) h.why k.why there k.unread)
 
-      pub refused_one : (e d : NotationError) → e ≢ Memory → d ≢ Memory → IsRefused p stems sort text number e → IsRefused p stems sort text number d → Alike HasMore e d
+      pub refused_one : (e d : NotationError) → e ≢ Memory → d ≢ Memory → IsTextRefused p stems sort text number e → IsTextRefused p stems sort text number d → Alike HasMore e d
       refused_one e d n m h k = why_one e d (whys e h n) (whys d k m)
 
 -- ---- what a term says

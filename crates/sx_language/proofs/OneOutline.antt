@@ -15,10 +15,11 @@ use Rattle.sx_directives.specs.declared.rows.VarLine.{VarLine}
 use Rattle.sx_outline.specs.declared.outline.Outline.{Outline}
 use Rattle.sx_outline.specs.declared.outline_error.OutlineError.{OutlineError}
 use Rattle.sx_outline.specs.declared.outline_error.OutlineError.TheVariants as outlines
-use Rattle.sx_outline.specs.Declarations.{FormData, form}
+use Rattle.sx_outline.specs.Declarations.{FormData, declared_form}
 use Rattle.sx_outline.specs.Outlined.{OutlineData, outline, IsOutlined}
 use Rattle.sx_outline.proofs.OneOutline.{one_answer}
-use Rattle.sx_notation.specs.RuleParts.{judgement_sort, symbol_for, form_line, apart_lines, rule_parts}
+use Rattle.sx_notation.specs.RuleParts.{judgement_sort, symbol_for, form_line, apart_lines}
+use Rattle.sx_notation.specs.RuleParts.{rule_parts}
 use Rattle.sx_notation.specs.RuleLaws.{places_of, form_of}
 use Rattle.sx_language.specs.RuleLine.{Reader}
 use Rattle.sx_language.specs.States.{IsSortNamed, AreStems, IsReadable, forms_of}
@@ -56,11 +57,11 @@ line_of f = record { label = codes "form " ++ f.name; sort = codes "a judgement"
 abbrev spelled_by : Parts → FormData → view.FormData
 spelled_by p f = record { name = f.name; places = flat_map (places_of p) f.symbols }
 
-lines_are : (fs : List FormLine) → map form_line fs ≡ map line_of (map form fs)
+lines_are : (fs : List FormLine) → map form_line fs ≡ map line_of (map declared_form fs)
 lines_are [] = refl
 lines_are (f ∷ fs) = ap (λ (l : List Line). form_line f ∷ l) (lines_are fs)
 
-forms_are : (p : Parts) (fs : List FormLine) → map (form_of p) fs ≡ map (spelled_by p) (map form fs)
+forms_are : (p : Parts) (fs : List FormLine) → map (form_of p) fs ≡ map (spelled_by p) (map declared_form fs)
 forms_are p [] = refl
 forms_are p (f ∷ fs) = ap (λ (l : List view.FormData). form_of p f ∷ l) (forms_are p fs)
 

@@ -7,14 +7,14 @@ use Rattle.sx_grammar.specs.Reading.{Reading}
 use Rattle.sx_grammar.specs.ReadOne.{ReadAnswer, IsAnswer, only}
 use Rattle.sx_grammar.proofs.Answering.{answers_agree}
 use Rattle.sx_earley.specs.Tokens.{Stems, plain_tokens}
-use Rattle.sx_earley.specs.Completed.{number_of}
+use Rattle.sx_earley.specs.Completed.{sort_number}
 
 module _ (p : Parts) (stems : Stems) (sort : Sort) (ts : List Token) where
   abbrev Answers : ReadAnswer → Type 0
-  Answers a = IsAnswer (numbered p) (plain_tokens stems ts) (number_of sort) a
+  Answers a = IsAnswer (numbered p) (plain_tokens stems ts) (sort_number sort) a
 
   pub reading_one : (r q : Reading) → Answers (only r) → Answers (only q) → r ≡ q
   reading_one r q h k =
-      let e : only r ≡ only q = answers_agree (numbered p) (plain_tokens stems ts) (number_of sort)
+      let e : only r ≡ only q = answers_agree (numbered p) (plain_tokens stems ts) (sort_number sort)
       (only r) (only q) h k in
       cc

@@ -4,16 +4,21 @@ use Rattle.sx_term.specs.declared.sort.Sort.{Sort}
 use Rattle.sx_term.specs.Tree.{Tree}
 use Rattle.sx_grammar.specs.Grammar.{Text}
 use Rattle.sx_grammar.proofs.Finding.{is_head, past_head}
-use Rattle.sx_earley.specs.Tokens.{sort_of, without_digits}
+use Rattle.sx_earley.specs.Tokens.{stem_sort, without_digits}
 use Rattle.sx_rules.specs.Rules.{Premise, Judgement, holds, apart}
 use Rattle.sx_rules.specs.Views.{NamedRule}
 use Rattle.sx_outline.specs.Stages.{Numbered, RuleData}
 use Rattle.sx_notation.specs.declared.notation_error.NotationError.{NotationError}
-use Rattle.sx_notation.specs.declared.notation_error.NotationError.TheVariants.{Memory, NotUtf8, Notation, Token, Grammar, Read, Rules}
+use Rattle.sx_notation.specs.declared.notation_error.NotationError.TheVariants.{Memory, NotUtf8}
+use Rattle.sx_notation.specs.declared.notation_error.NotationError.TheVariants.{Notation, Token}
+use Rattle.sx_notation.specs.declared.notation_error.NotationError.TheVariants.{Grammar, Read}
+use Rattle.sx_notation.specs.declared.notation_error.NotationError.TheVariants.{Rules}
 use Rattle.sx_language.specs.Alike.{HasThree, IsSubjectSort, RuleHasThree, RulesHaveThree}
 use Rattle.sx_language.specs.Laws.{OneRules}
 use Rattle.sx_language.specs.RuleLine.{Reader, judgements, subject_sort, IsLine}
-use Rattle.sx_language.specs.RuleTexts.{ArePremises, IsBody, AreStated, IsRule, AreRules, IsBadPremise, IsBadConclusion, IsBadBody, IsBadEnd, IsBadRule, IsFirstBad}
+use Rattle.sx_language.specs.RuleTexts.{ArePremises, IsRuleBody, AreStated, IsRule, AreRules}
+use Rattle.sx_language.specs.RuleTexts.{IsBadPremise, IsBadConclusion, IsBadBody, IsBadEnd}
+use Rattle.sx_language.specs.RuleTexts.{IsBadRule, IsFirstBadRule}
 use Rattle.sx_language.proofs.OneLine.{Alike, alike_so, read_one, refused_or_read, refused_one, line_one, bad_or_line, bad_line_one}
 
 judgement_same : (j k : Judgement) → holds j ≡ holds k → j ≡ k
@@ -51,7 +56,7 @@ module _ (r : Reader) where
       let rest = premises_one ls k.0 a b qs ws (subst (λ (middle : List Text). ArePremises r ls middle a qs) line.0 h.2) k.2 in
       (rest.0, λ i. line.1 i ∷ rest.1 i)
 
-  body_one : (line : Option Numbered) (subject : Option Sort) (old a b : List Text) (t u : Option Tree) → IsBody r line subject old a t → IsBody r line subject old b u → (a ≡ b) × (t ≡ u)
+  body_one : (line : Option Numbered) (subject : Option Sort) (old a b : List Text) (t u : Option Tree) → IsRuleBody r line subject old a t → IsRuleBody r line subject old b u → (a ≡ b) × (t ≡ u)
   body_one None subject old a b t u h k = (h.0 ∙ sym k.0, h.1 ∙ sym k.1)
   body_one (Some l) None old a b t u h k = (h.0 ∙ sym k.0, h.1 ∙ sym k.1)
   body_one (Some l) (Some sort) old a b None u h k = absurd h
@@ -69,15 +74,15 @@ module _ (r : Reader) where
       let premises = premises_one l.premises [] h.middle k.middle qs ws h.premises k.premises in
       let here = subst (λ (middle : List Text). IsLine r l.conclusion.text middle h.last (holds j)) premises.0 h.conclusion in
       let last = conclusion_one l.conclusion k.middle h.last k.last j i here k.conclusion in
-      let placed = subst (λ (old : List Text). IsBody r l.body (subject_sort r.forms j.form) old names t) last.0 h.bodied in
-      let there = subst (λ (c : Judgement). IsBody r l.body (subject_sort r.forms c.form) k.last names t) last.1 placed in
+      let placed = subst (λ (old : List Text). IsRuleBody r l.body (subject_sort r.forms j.form) old names t) last.0 h.bodied in
+      let there = subst (λ (c : Judgement). IsRuleBody r l.body (subject_sort r.forms c.form) k.last names t) last.1 placed in
       let body = body_one l.body (subject_sort r.forms i.form) k.last names others t u there k.bodied in
       (body.0, premises.1, last.1, body.1)
 
   rule_one : (l : RuleData) (names others : List Text) (q w : NamedRule) (t u : Option Tree) → IsRule r l names q t → IsRule r l others w u → (names ≡ others) × (q ≡ w) × (t ≡ u)
   rule_one l names others q w t u h k =
       let same = stated_one l names others q.rule.premises w.rule.premises q.rule.conclusion w.rule.conclusion t u h.stated k.stated in
-      let sorts = sorts_one q.rule.sorts w.rule.sorts (sym h.sorts ∙ ap (map (λ name. sort_of r.stems (without_digits name))) same.0 ∙ k.sorts) in
+      let sorts = sorts_one q.rule.sorts w.rule.sorts (sym h.sorts ∙ ap (map (λ name. stem_sort r.stems (without_digits name))) same.0 ∙ k.sorts) in
       (same.0, λ i. record { name = (h.name ∙ sym k.name) i; rule = record { sorts = sorts i; premises = same.1 i; conclusion = same.2 i } }, same.3)
 
   pub rules_one : (ls : List RuleData) (ns ms : List (List Text)) (qs ws : List NamedRule) (ts us : List (Option Tree)) → AreRules r ls ns qs ts → AreRules r ls ms ws us →
@@ -143,7 +148,7 @@ module _ (r : Reader) where
   conclusion_or_bad l old new j e n h (inl k) = bad_or_line r l old new (holds j) e n k h
   conclusion_or_bad l old new j e n h (inr k) = judgement_apart j k.1 k.2 (line_one r l.text old new k.0 (holds j) (apart k.1 k.2) h k.3).1
 
-  body_or_bad : (line : Option Numbered) (subject : Option Sort) (old new : List Text) (body : Option Tree) (e : NotationError) → e ≢ Memory → IsBody r line subject old new body →
+  body_or_bad : (line : Option Numbered) (subject : Option Sort) (old new : List Text) (body : Option Tree) (e : NotationError) → e ≢ Memory → IsRuleBody r line subject old new body →
       IsBadBody r line subject e → ⊥
   body_or_bad None subject old new body e n h k = k
   body_or_bad (Some l) None old new body e n h k = k
@@ -174,7 +179,7 @@ module _ (r : Reader) where
       (subst (λ (j : Judgement). IsBadBody r l.body (subject_sort r.forms j.form) e) same.1 h.3) k.3
 
   end_or_bad : (l : RuleData) (old last names : List Text) (j : Judgement) (body : Option Tree) (e : NotationError) → e ≢ Memory → IsLine r l.conclusion.text old last (holds j) →
-      IsBody r l.body (subject_sort r.forms j.form) last names body → IsBadEnd r l old e → ⊥
+      IsRuleBody r l.body (subject_sort r.forms j.form) last names body → IsBadEnd r l old e → ⊥
   end_or_bad l old last names j body e n h b (inl k) = conclusion_or_bad l.conclusion old last j e n h k
   end_or_bad l old last names j body e n h b (inr k) =
       let same = conclusion_one l.conclusion old k.0 last k.1 j k.2 h in
@@ -194,7 +199,7 @@ module _ (r : Reader) where
       let premises = premises_one l.premises [] k.0 h.stated.middle k.1 q.rule.premises k.2 h.stated.premises in
       end_or_bad l h.stated.middle h.stated.last names q.rule.conclusion body e n h.stated.conclusion h.stated.bodied (subst (λ (middle : List Text). IsBadEnd r l middle e) premises.0 k.3)
 
-  pub first_bad_one : (ls : List RuleData) (e d : NotationError) → e ≢ Memory → d ≢ Memory → IsFirstBad r ls e → IsFirstBad r ls d → Alike (RulesHaveThree r ls) e d
+  pub first_bad_one : (ls : List RuleData) (e d : NotationError) → e ≢ Memory → d ≢ Memory → IsFirstBadRule r ls e → IsFirstBadRule r ls d → Alike (RulesHaveThree r ls) e d
   first_bad_one [] e d n m h k = absurd h
   first_bad_one (l ∷ ls) e d n m (inl h) (inl k) = alike_so (RuleHasThree r l) (RulesHaveThree r (l ∷ ls)) (λ number three. (l, is_head l ls, three)) e d (bad_rule_one l e d n m h k)
   first_bad_one (l ∷ ls) e d n m (inl h) (inr k) = absurd (rule_or_bad l k.0 k.1 k.2 e n k.3 h)
@@ -202,7 +207,7 @@ module _ (r : Reader) where
   first_bad_one (l ∷ ls) e d n m (inr h) (inr k) =
       alike_so (RulesHaveThree r ls) (RulesHaveThree r (l ∷ ls)) (λ number more. (more.0, past_head l ls more.0 more.1, more.2)) e d (first_bad_one ls e d n m h.4 k.4)
 
-  pub rules_or_bad : (ls : List RuleData) (ns : List (List Text)) (qs : List NamedRule) (bs : List (Option Tree)) (e : NotationError) → e ≢ Memory → AreRules r ls ns qs bs → IsFirstBad r ls e → ⊥
+  pub rules_or_bad : (ls : List RuleData) (ns : List (List Text)) (qs : List NamedRule) (bs : List (Option Tree)) (e : NotationError) → e ≢ Memory → AreRules r ls ns qs bs → IsFirstBadRule r ls e → ⊥
   rules_or_bad [] ns qs bs e n h k = k
   rules_or_bad (l ∷ ls) [] qs bs e n h k = h
   rules_or_bad (l ∷ ls) (names ∷ ns) [] bs e n h k = h
@@ -211,7 +216,7 @@ module _ (r : Reader) where
   rules_or_bad (l ∷ ls) (names ∷ ns) (q ∷ qs) (b ∷ bs) e n h (inr k) = rules_or_bad ls ns qs bs e n h.1 k.4
 
 -- memory is lacking, where rules are stated
-memory_left : (r : Reader) (ls : List RuleData) (ns : List (List Text)) (qs : List NamedRule) (ts : List (Option Tree)) (e : NotationError) → AreRules r ls ns qs ts → IsFirstBad r ls e → e ≡ Memory
+memory_left : (r : Reader) (ls : List RuleData) (ns : List (List Text)) (qs : List NamedRule) (ts : List (Option Tree)) (e : NotationError) → AreRules r ls ns qs ts → IsFirstBadRule r ls e → e ≡ Memory
 memory_left r ls ns qs ts Memory h k = refl
 memory_left r ls ns qs ts (NotUtf8 place) h k = absurd (rules_or_bad r ls ns qs ts (NotUtf8 place) (λ e. cc) h k)
 memory_left r ls ns qs ts (Notation l n) h k = absurd (rules_or_bad r ls ns qs ts (Notation l n) (λ e. cc) h k)

@@ -4,9 +4,12 @@ use Rattle.std.proofs.lemmas.List.{drop_more, drop_all, append-nil}
 use Rattle.sx_grammar.specs.Grammar.{Text}
 use Rattle.sx_rules.specs.Rules.{Premise}
 use Rattle.sx_outline.specs.declared.rule_lines.RuleLine.{RuleLine}
-use Rattle.sx_outline.specs.Stages.{numbered}
+use Rattle.sx_outline.specs.Stages.{numbered_rule_line}
 use Rattle.sx_notation.specs.declared.notation_error.NotationError.{NotationError}
-use Rattle.sx_notation.specs.declared.notation_error.NotationError.TheVariants.{Memory, NotUtf8, Notation, Token, Grammar, Read, Rules}
+use Rattle.sx_notation.specs.declared.notation_error.NotationError.TheVariants.{Memory, NotUtf8}
+use Rattle.sx_notation.specs.declared.notation_error.NotationError.TheVariants.{Notation, Token}
+use Rattle.sx_notation.specs.declared.notation_error.NotationError.TheVariants.{Grammar, Read}
+use Rattle.sx_notation.specs.declared.notation_error.NotationError.TheVariants.{Rules}
 use Rattle.sx_language.specs.RuleLine.{Reader, IsLine, IsBadLine}
 use Rattle.sx_language.specs.RuleTexts.{ArePremises, IsBadPremise, OrMemory}
 
@@ -31,15 +34,15 @@ or_memory_map P Q (Rules e variable) f h = f (Rules e variable) h
 
 -- what holds of the rest holds of the whole
 pub record Before (r : Reader) (lines : List RuleLine) (i : ℕ) (now : List Text) (made : List Premise) : Type 0 where
-  pub goes : (new : List Text) (qs : List Premise) → ArePremises r (map numbered (drop i lines)) now new qs → ArePremises r (map numbered lines) [] new (made ++ qs)
-  pub bad : (e : NotationError) → IsBadPremise r (map numbered (drop i lines)) now e → IsBadPremise r (map numbered lines) [] e
+  pub goes : (new : List Text) (qs : List Premise) → ArePremises r (map numbered_rule_line (drop i lines)) now new qs → ArePremises r (map numbered_rule_line lines) [] new (made ++ qs)
+  pub bad : (e : NotationError) → IsBadPremise r (map numbered_rule_line (drop i lines)) now e → IsBadPremise r (map numbered_rule_line lines) [] e
   pub few : length now ≤ 10000 * i
 
 module _ (r : Reader) (lines : List RuleLine) where
   pub at_start : (now : List Text) → now ≡ [] → Before r lines 0 now []
   at_start now none = record {
-    goes = λ new qs h. subst (λ x. ArePremises r (map numbered lines) x new qs) none h;
-    bad = λ e h. subst (λ x. IsBadPremise r (map numbered lines) x e) none h;
+    goes = λ new qs h. subst (λ x. ArePremises r (map numbered_rule_line lines) x new qs) none h;
+    bad = λ e h. subst (λ x. IsBadPremise r (map numbered_rule_line lines) x e) none h;
     few = let q : length now ≡ 0 = ap length none in omega (arith, q);
   }
 
@@ -50,18 +53,18 @@ module _ (r : Reader) (lines : List RuleLine) where
     -- one more
     pub one_more : (new : List Text) (q : Premise) (made' : List Premise) → IsLine r l.text now new q → length new ≤ length now + 10000 → made' ≡ made ++ q ∷ [] → Before r lines (i + 1) new made'
     one_more new q made' line grows grown = record {
-      goes = λ last qs h. subst (ArePremises r (map numbered lines) [] last) (sym (ap (λ x. x ++ qs) grown ∙ append_assoc made (q ∷ []) qs))
-          (before.goes last (q ∷ qs) (subst (λ x. ArePremises r (map numbered x) now last (q ∷ qs)) (sym split) (new, line, h)));
-      bad = λ e h. before.bad e (subst (λ x. IsBadPremise r (map numbered x) now e) (sym split) (inr (new, q, line, h)));
+      goes = λ last qs h. subst (ArePremises r (map numbered_rule_line lines) [] last) (sym (ap (λ x. x ++ qs) grown ∙ append_assoc made (q ∷ []) qs))
+          (before.goes last (q ∷ qs) (subst (λ x. ArePremises r (map numbered_rule_line x) now last (q ∷ qs)) (sym split) (new, line, h)));
+      bad = λ e h. before.bad e (subst (λ x. IsBadPremise r (map numbered_rule_line x) now e) (sym split) (inr (new, q, line, h)));
       few = omega (arith, before.few, grows);
     }
 
     -- the line is bad
-    pub one_bad : (e : NotationError) → IsBadLine r (numbered l) e → OrMemory (IsBadPremise r (map numbered lines) []) e
-    one_bad e h = or_memory (IsBadPremise r (map numbered lines) []) e (before.bad e (subst (λ x. IsBadPremise r (map numbered x) now e) (sym split) (inl h)))
+    pub one_bad : (e : NotationError) → IsBadLine r (numbered_rule_line l) e → OrMemory (IsBadPremise r (map numbered_rule_line lines) []) e
+    one_bad e h = or_memory (IsBadPremise r (map numbered_rule_line lines) []) e (before.bad e (subst (λ x. IsBadPremise r (map numbered_rule_line x) now e) (sym split) (inl h)))
 
   -- none is left
-  pub at_end : (i : ℕ) (now : List Text) (made : List Premise) → length lines ≤ i → Before r lines i now made → ArePremises r (map numbered lines) [] now made
+  pub at_end : (i : ℕ) (now : List Text) (made : List Premise) → length lines ≤ i → Before r lines i now made → ArePremises r (map numbered_rule_line lines) [] now made
   at_end i now made past before =
-      subst (ArePremises r (map numbered lines) [] now) (append-nil made)
-      (before.goes now [] (subst (λ x. ArePremises r (map numbered x) now now []) (sym (drop_all i lines past)) refl))
+      subst (ArePremises r (map numbered_rule_line lines) [] now) (append-nil made)
+      (before.goes now [] (subst (λ x. ArePremises r (map numbered_rule_line x) now now []) (sym (drop_all i lines past)) refl))

@@ -8,7 +8,7 @@ use Rattle.sx_outline.specs.declared.rule_lines.RuleLines.{RuleLines}
 use Rattle.sx_outline.specs.Stages.{rule_data}
 use Rattle.sx_notation.specs.declared.notation_error.NotationError.{NotationError}
 use Rattle.sx_language.specs.RuleLine.{Reader}
-use Rattle.sx_language.specs.RuleTexts.{IsRule, AreRules, IsBadRule, IsFirstBad, OrMemory}
+use Rattle.sx_language.specs.RuleTexts.{IsRule, AreRules, IsBadRule, IsFirstBadRule, OrMemory}
 use Rattle.sx_language.proofs.Premising.{or_memory_map}
 
 -- what holds of the rest holds of the whole
@@ -17,7 +17,7 @@ pub record Before (r : Reader) (lines : List RuleLines) (i : ℕ) (names : List 
   pub goes : (ns : List (List Text)) (qs : List NamedRule) (bs : List (Option Tree)) →
       AreRules r (map rule_data (drop i lines)) ns qs bs →
       AreRules r (map rule_data lines) (names ++ ns) (made ++ qs) (bodies ++ bs)
-  pub bad : (e : NotationError) → IsFirstBad r (map rule_data (drop i lines)) e → IsFirstBad r (map rule_data lines) e
+  pub bad : (e : NotationError) → IsFirstBadRule r (map rule_data (drop i lines)) e → IsFirstBadRule r (map rule_data lines) e
 
 module _ (r : Reader) (lines : List RuleLines) where
   module _ (i : ℕ) (names : List (List Text)) (made : List NamedRule) (bodies : List (Option Tree))
@@ -41,15 +41,15 @@ module _ (r : Reader) (lines : List RuleLines) where
           subst (λ x. AreRules r (map rule_data lines) (names' ++ ns) (made' ++ qs) x) (sym last)
           (subst (λ x. AreRules r (map rule_data lines) (names' ++ ns) x (bodies ++ b ∷ bs)) (sym right)
           (subst (λ x. AreRules r (map rule_data lines) x (made ++ q ∷ qs) (bodies ++ b ∷ bs)) (sym left) whole));
-      bad = λ e h. before.bad e (subst (λ x. IsFirstBad r (map rule_data x) e) (sym split) (inr (n, q, b, rule, h)));
+      bad = λ e h. before.bad e (subst (λ x. IsFirstBadRule r (map rule_data x) e) (sym split) (inr (n, q, b, rule, h)));
     }
 
     -- the rule is bad
     pub one_bad : (e : NotationError) → OrMemory (IsBadRule r (rule_data l)) e →
-        OrMemory (IsFirstBad r (map rule_data lines)) e
+        OrMemory (IsFirstBadRule r (map rule_data lines)) e
     one_bad e h =
-        or_memory_map (IsBadRule r (rule_data l)) (IsFirstBad r (map rule_data lines)) e
-        (λ x k. before.bad x (subst (λ y. IsFirstBad r (map rule_data y) x) (sym split) (inl k))) h
+        or_memory_map (IsBadRule r (rule_data l)) (IsFirstBadRule r (map rule_data lines)) e
+        (λ x k. before.bad x (subst (λ y. IsFirstBadRule r (map rule_data y) x) (sym split) (inl k))) h
 
   -- none is left
   pub at_end : (i : ℕ) (names : List (List Text)) (made : List NamedRule)

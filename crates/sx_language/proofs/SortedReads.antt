@@ -19,22 +19,25 @@ use Rattle.sx_grammar.specs.Grammar as plain
 use Rattle.sx_grammar.specs.Grammar.{Text, Symbol, Production}
 use Rattle.sx_grammar.specs.Parts.{Parts, names, number_of, numbered}
 use Rattle.sx_grammar.specs.Told.{sort_with, is_typed, kid_sorts, shape_of, shapes_of}
-use Rattle.sx_grammar.specs.Reading.{Reading, Readings, Marked, Reads, ReadsAll, by_production, by_brackets, by_variable, all_read, by_literal, by_lexeme, by_lexical_variable, by_part}
+use Rattle.sx_grammar.specs.Reading.{Reading, Readings, Marked, Reads, ReadsAll, by_production}
+use Rattle.sx_grammar.specs.Reading.{by_brackets, by_variable, all_read, by_literal, by_lexeme}
+use Rattle.sx_grammar.specs.Reading.{by_lexical_variable, by_part}
 use Rattle.sx_grammar.specs.Print.{leaf_term, variable_term, term_of, terms_of}
 use Rattle.sx_grammar.proofs.Finding.{at_contains, named_at}
-use Rattle.sx_earley.specs.Completed.{IsSort, number_of as sort_number}
-use Rattle.sx_earley.specs.Tokens.{Stems, sort_of, without_digits, stem_of, as_stem, found_stem, shown, plain_tokens}
-use Rattle.sx_forest.specs.Text.{texts}
+use Rattle.sx_earley.specs.Completed.{IsSort, sort_number}
+use Rattle.sx_earley.specs.Tokens.{Stems, stem_sort, without_digits, meta_stem, as_stem, found_stem}
+use Rattle.sx_earley.specs.Tokens.{read_token, plain_tokens}
+use Rattle.sx_forest.specs.Text.{token_texts}
 use Rattle.sx_forest.specs.Names.{names_in, names_of, AddsEach}
 use Rattle.sx_forest.proofs.Naming.{each_more}
 use Rattle.sx_directives.specs.declared.rows.FormLine.{FormLine}
 use Rattle.sx_directives.specs.declared.rows.VarLine.{VarLine}
 use Rattle.sx_outline.specs.Stages.{Numbered}
-use Rattle.sx_notation.specs.ReadText.{IsRead}
+use Rattle.sx_notation.specs.ReadText.{IsReadLine}
 use Rattle.sx_notation.specs.RuleParts.{judgement_sort, rule_parts}
 use Rattle.sx_notation.proofs.Growing.{got_before}
 use Rattle.sx_language.specs.RuleLine.{Reader, subject_sort}
-use Rattle.sx_language.specs.RuleTexts.{HaveStemSorts, IsBody}
+use Rattle.sx_language.specs.RuleTexts.{HaveStemSorts, IsRuleBody}
 use Rattle.sx_language.specs.States.{IsSortNamed, AreStems}
 use Rattle.sx_language.specs.Laws.{ReadsAreSorted, BodiesAreSorted}
 
@@ -59,13 +62,13 @@ module _ (p : Parts) (fs : List FormLine) where
       let same : is_typed (slice_get (rule_parts p fs).sorts n) ≡ is_typed (slice_get p.sorts n) = ap is_typed (got_before p.sorts (judgement_sort ∷ []) n low) in
       subst (IsOwn (rule_parts p fs)) (sym h.2) (own_line (rule_parts p fs) n (is_typed (slice_get p.sorts n)) same)
 
-  own_stem : (vs : List VarLine) (stems : Stems) (stem : Text) (s : Sort) → AreStems p vs stems → sort_of stems stem ≡ Some s → IsOwn (rule_parts p fs) s
+  own_stem : (vs : List VarLine) (stems : Stems) (stem : Text) (s : Sort) → AreStems p vs stems → stem_sort stems stem ≡ Some s → IsOwn (rule_parts p fs) s
   own_stem [] [] stem s are e = absurd (none-some s e)
   own_stem [] (x ∷ xs) stem s are e = absurd are
   own_stem (v ∷ vs) [] stem s are e = absurd are
   own_stem (v ∷ vs) (x ∷ xs) stem s are e = by (bytes_eq x.0 stem) (own_stem vs xs stem s are.2) e
     where
-      by : (b : Bool) → (sort_of xs stem ≡ Some s → IsOwn (rule_parts p fs) s) → (if b then Some x.1 else sort_of xs stem) ≡ Some s → IsOwn (rule_parts p fs) s
+      by : (b : Bool) → (stem_sort xs stem ≡ Some s → IsOwn (rule_parts p fs) s) → (if b then Some x.1 else stem_sort xs stem) ≡ Some s → IsOwn (rule_parts p fs) s
       by true rest e = let same : x.1 ≡ s = cc in subst (IsOwn (rule_parts p fs)) same (own_named v.sort x.1 are.1)
       by false rest e = rest e
 
@@ -75,13 +78,13 @@ some_same : {A : Type 0} (x y : A) → Some x ≡ Some y → x ≡ y
 some_same x y e = cc
 
 -- the token of a variable is a metavariable, whose stem is the variable's
-shown_stem : (stems : Stems) (m : Mark) (text : Text) (stem : plain.Stem) (other : Text) → shown stems m text ≡ record { mark = plain.is_variable stem; text = other } →
-    (found_stem (sort_of stems (stem_of text)) ≡ stem) × (other ≡ text)
+shown_stem : (stems : Stems) (m : Mark) (text : Text) (stem : plain.Stem) (other : Text) → read_token stems m text ≡ record { mark = plain.is_variable stem; text = other } →
+    (found_stem (stem_sort stems (meta_stem text)) ≡ stem) × (other ≡ text)
 shown_stem stems (marks.Lit n) text stem other e = let f : plain.is_literal ≡ plain.is_variable stem = ap (λ (t : plain.Token). t.mark) e in cc
 shown_stem stems (marks.Lex kind) text stem other e = let f : plain.is_lexeme kind ≡ plain.is_variable stem = ap (λ (t : plain.Token). t.mark) e in cc
 shown_stem stems marks.Meta text stem other e =
-    let f : plain.is_variable (found_stem (sort_of stems (stem_of text))) ≡ plain.is_variable stem = ap (λ (t : plain.Token). t.mark) e in
-    let g : found_stem (sort_of stems (stem_of text)) ≡ stem = cc in
+    let f : plain.is_variable (found_stem (stem_sort stems (meta_stem text))) ≡ plain.is_variable stem = ap (λ (t : plain.Token). t.mark) e in
+    let g : found_stem (stem_sort stems (meta_stem text)) ≡ stem = cc in
     (g, sym (ap (λ (t : plain.Token). t.text) e))
 
 -- the number of a name that is there
@@ -94,11 +97,11 @@ place_of ns name has = by (position (λ other. bytes_eq other name) ns) (named_a
 
 -- the sort of a variable is that of its stem
 sort_at : (stems : Stems) (ns : List Text) (sorts : List Sort) (n : ℕ) (name : Text) → HaveStemSorts stems ns sorts → slice_get ns n ≡ Some name →
-    (s : Sort) × (slice_get sorts n ≡ Some s) × (sort_of stems (without_digits name) ≡ Some s)
+    (s : Sort) × (slice_get sorts n ≡ Some s) × (stem_sort stems (without_digits name) ≡ Some s)
 sort_at stems ns sorts n name have at = by (slice_get sorts n) whole
   where
     f : Text → Option Sort
-    f x = sort_of stems (without_digits x)
+    f x = stem_sort stems (without_digits x)
 
     whole : option_map Some (slice_get sorts n) ≡ Some (f name)
     whole = sym (slice_get-map Some sorts n) ∙ ap (λ l. slice_get l n) (sym have) ∙ slice_get-map f ns n ∙ ap (option_map f) at
@@ -137,7 +140,7 @@ all_right P (x ∷ xs) ys h = all_right P xs ys h.1
 
 -- ---- readings
 
-module _ (p : Parts) (stems : Stems) (own : (stem : Text) (s : Sort) → sort_of stems stem ≡ Some s → IsOwn p s) (ts : List Token) (ns : List Text) (sorts : List Sort) (have : HaveStemSorts stems ns sorts) where
+module _ (p : Parts) (stems : Stems) (own : (stem : Text) (s : Sort) → stem_sort stems stem ≡ Some s → IsOwn p s) (ts : List Token) (ns : List Text) (sorts : List Sort) (have : HaveStemSorts stems ns sorts) where
   shape_at : (label : ℕ) (r : Production) → slice_get (numbered p).productions label ≡ Some r → slice_get (shapes_of p) label ≡ Some (shape_of p.sorts r)
   shape_at label r at = slice_get-map (shape_of p.sorts) (numbered p).productions label ∙ ap (option_map (shape_of p.sorts)) at
 
@@ -151,20 +154,20 @@ module _ (p : Parts) (stems : Stems) (own : (stem : Text) (s : Sort) → sort_of
     is_own : IsOwn p sort
     sorted : HasSort (shapes_of p) sorts (variable_term ns o) sort
 
-  found : (us : List Token) (n : ℕ) (stem : plain.Stem) → Marked (plain_tokens stems us) n (plain.is_variable stem) → Contains ns (without_tilde (slice_index_or (texts us) n [])) →
+  found : (us : List Token) (n : ℕ) (stem : plain.Stem) → Marked (plain_tokens stems us) n (plain.is_variable stem) → Contains ns (without_tilde (slice_index_or (token_texts us) n [])) →
       IsVariable (slice_get (plain_tokens stems us) n) stem
   found [] n stem h has = absurd (none-some _ h.1)
   found (t ∷ us) zero stem h has =
-      let here : shown stems t.mark t.text ≡ record { mark = plain.is_variable stem; text = h.0 } = some_same _ _ h.1 in
+      let here : read_token stems t.mark t.text ≡ record { mark = plain.is_variable stem; text = h.0 } = some_same _ _ h.1 in
       let w = shown_stem stems t.mark t.text stem h.0 here in
       let at = place_of ns (without_tilde t.text) has in
       let x = sort_at stems ns sorts (unwrap_or (position (λ other. bytes_eq other (without_tilde t.text)) ns) 0) (without_tilde t.text) have at in
-      let token : Some (record { mark = plain.is_variable stem; text = t.text }) ≡ Some (shown stems t.mark t.text) =
+      let token : Some (record { mark = plain.is_variable stem; text = t.text }) ≡ Some (read_token stems t.mark t.text) =
       ap (λ (text : Text). let k : plain.Token = record { mark = plain.is_variable stem; text = text } in Some k) (sym w.1) ∙ sym h.1 in
       record {
         sort = x.0;
         stemmed = sym (ap found_stem x.2) ∙ w.0;
-        is_own = own (stem_of t.text) x.0 x.2;
+        is_own = own (meta_stem t.text) x.0 x.2;
         sorted = subst (λ (o : Option plain.Token). HasSort (shapes_of p) sorts (variable_term ns o) x.0) token x.1;
       }
   found (t ∷ us) (suc n) stem h has = found us n stem h has
@@ -204,8 +207,8 @@ reads_are_sorted p fs vars stems sort line old new t sorts are is read have =
     (subst (HasSort (shapes_of q) sorts (term_of (plain_tokens stems read.tokens) new read.reading)) (sort_is q sort is) here)
 
 -- the body is read as the subject's sort
-body_read : (r : Reader) (line : Option Numbered) (subject : Option Sort) (old new : List Text) (t : Tree) → IsBody r line subject old new (Some t) →
-    (l : Numbered) × (sort : Sort) × (subject ≡ Some sort) × IsRead r.parts r.stems sort l.text old new t
+body_read : (r : Reader) (line : Option Numbered) (subject : Option Sort) (old new : List Text) (t : Tree) → IsRuleBody r line subject old new (Some t) →
+    (l : Numbered) × (sort : Sort) × (subject ≡ Some sort) × IsReadLine r.parts r.stems sort l.text old new t
 body_read r None subject old new t h = absurd (none-some t (sym h.1))
 body_read r (Some l) None old new t h = absurd (none-some t (sym h.1))
 body_read r (Some l) (Some sort) old new t h = (l, sort, refl, h)
@@ -214,6 +217,6 @@ pub bodies_are_sorted : BodiesAreSorted
 bodies_are_sorted p fs vars r l names q body by are can rule =
     let x = body_read r l.body (subject_sort r.forms q.rule.conclusion.form) rule.stated.last names body rule.stated.bodied in
     let is : IsSort (rule_parts p fs) x.1 = subst (λ (y : Parts). IsSort y x.1) by (can.subjects q.rule.conclusion.form x.1 x.2) in
-    let read = subst (λ (y : Parts). IsRead y r.stems x.1 x.0.text rule.stated.last names body) by x.3 in
+    let read = subst (λ (y : Parts). IsReadLine y r.stems x.1 x.0.text rule.stated.last names body) by x.3 in
     let sorted = reads_are_sorted p fs vars r.stems x.1 x.0.text rule.stated.last names body q.rule.sorts are is read rule.sorts in
     (x.1, x.2, subst (λ (y : Parts). HasSort (shapes_of y) q.rule.sorts body x.1) (sym by) sorted)

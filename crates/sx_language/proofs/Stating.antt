@@ -9,7 +9,7 @@ use Rattle.sx_grammar.specs.declared.grammar_error.GrammarError.{GrammarError}
 use Rattle.sx_grammar.specs.declared.grammar_error.GrammarError.TheVariants as grammar
 use Rattle.sx_grammar.specs.Grammar.{Text}
 use Rattle.sx_grammar.specs.Parts.{Parts, names, literals, parts}
-use Rattle.sx_grammar.specs.Made.{IsGrammar, IsRefused as IsNotMade}
+use Rattle.sx_grammar.specs.Made.{IsGrammar, IsGrammarRefused as IsNotMade}
 use Rattle.sx_grammar.specs.Tables.{GrammarData, literals_of}
 use Rattle.sx_grammar.specs.Told.{sort_with, shapes_of}
 use Rattle.sx_grammar.proofs.Finding.{at_contains}
@@ -23,29 +23,36 @@ use Rattle.sx_rules.specs.Deep.{RulesAreShallow}
 use Rattle.sx_rules.specs.Views.{NamedRule, forms, named, rule}
 use Rattle.sx_rules.specs.Sets.{shapes_in, forms_in, rules_in}
 use Rattle.sx_rules.specs.Good.{IsRuleSet}
-use Rattle.sx_rules.specs.Made.{IsMade}
+use Rattle.sx_rules.specs.Made.{IsRuleSetMade}
 use Rattle.sx_directives.specs.Spelling.{NotLexical}
 use Rattle.sx_directives.specs.declared.rows.VarLine.{VarLine}
 use Rattle.sx_directives.specs.declared.rows.FormLine.{FormLine}
 use Rattle.sx_outline.specs.declared.outline.Outline.{Outline}
 use Rattle.sx_outline.specs.declared.rule_lines.RuleLines.{RuleLines}
-use Rattle.sx_outline.specs.Declarations.{form}
+use Rattle.sx_outline.specs.Declarations.{declared_form}
 use Rattle.sx_outline.specs.Stages.{Numbered, RuleData, rule_data}
 use Rattle.sx_outline.specs.Outlined.{IsOutlined, outline, declared_by}
-use Rattle.sx_outline.specs.Sized.{HasShortLines, IsSized, IsFit}
+use Rattle.sx_outline.specs.Sized.{HasShortLines, IsSized, IsFitOutline}
 use Rattle.sx_notation.specs.declared.language.Language.{Language}
 use Rattle.sx_notation.specs.declared.notation_error.NotationError.{NotationError}
-use Rattle.sx_notation.specs.declared.notation_error.NotationError.TheVariants.{Memory, NotUtf8, Notation, Token, Grammar, Read, Rules}
-use Rattle.sx_notation.specs.ReadText.{IsRefused as IsUnreadText}
+use Rattle.sx_notation.specs.declared.notation_error.NotationError.TheVariants.{Memory, NotUtf8}
+use Rattle.sx_notation.specs.declared.notation_error.NotationError.TheVariants.{Notation, Token}
+use Rattle.sx_notation.specs.declared.notation_error.NotationError.TheVariants.{Grammar, Read}
+use Rattle.sx_notation.specs.declared.notation_error.NotationError.TheVariants.{Rules}
+use Rattle.sx_notation.specs.ReadText.{IsTextRefused as IsUnreadText}
 use Rattle.sx_notation.specs.RuleParts.{rule_parts}
 use Rattle.sx_notation.specs.RuleLaws.{HaveSortsOf, form_of}
 use Rattle.sx_notation.specs.Language.{FormFits, RuleHasLexemes, IsMain, IsLanguage}
 use Rattle.sx_notation.proofs.Numbers.{number_is}
 use Rattle.sx_language.specs.declared.preparing.Prepared.{Prepared}
 use Rattle.sx_language.specs.RuleLine.{Reader, judgements, subject_sort, IsBadLine}
-use Rattle.sx_language.specs.RuleTexts.{AreBareRules, IsBadPremise, IsBadConclusion, IsBadBody, IsBadEnd, IsBadRule, IsFirstBad, OrMemory}
-use Rattle.sx_language.specs.States.{IsNameOfSort, IsSortNamed, AreStems, States, IsNoRules, HasBadRule, HasNoRuleSet, IsRefused, forms_of, name_unbound}
-use Rattle.sx_language.specs.Prepared.{whole, reader_in, IsPrepared, IsUsable, IsReason, IsRuleRefusal, IsGrammarRefusal, IsNoGrammars}
+use Rattle.sx_language.specs.RuleTexts.{AreBareRules, IsBadPremise, IsBadConclusion, IsBadBody}
+use Rattle.sx_language.specs.RuleTexts.{IsBadEnd, IsBadRule, IsFirstBadRule, OrMemory}
+use Rattle.sx_language.specs.States.{IsNameOfSort, IsSortNamed, AreStems, IsLanguageIn, IsNoRules}
+use Rattle.sx_language.specs.States.{HasBadRule, HasNoRuleSet, IsLanguageTextRefused, forms_of}
+use Rattle.sx_language.specs.States.{name_unbound}
+use Rattle.sx_language.specs.Prepared.{whole, reader_in, IsPreparedLanguage, IsUsableOutline}
+use Rattle.sx_language.specs.Prepared.{IsReason, IsRuleRefusal, IsGrammarRefusal, IsNoGrammars}
 use Rattle.sx_language.proofs.Judgements.{can_read}
 use Rattle.sx_language.proofs.KnownForms.{within_limits, rule_limits, have_sorts}
 use Rattle.sx_language.proofs.UsableRules.{rules_shallow, rules_lexical, rule_names}
@@ -104,7 +111,7 @@ pub rule_made : (p : Parts) (b : GrammarData) (fs : List FormLine) (g : GrammarD
 rule_made p b fs g base h = subst (λ y. (g ≡ whole (rule_parts y.parts fs)) × IsGrammar (rule_parts y.parts fs)) base h
 
 -- the refusal of parts is that of the text
-pub grammar_refused : (name bytes : Text) (o : Outline) (x : NotationError) → IsOutlined name bytes (Ok o) → IsNoGrammars (parts o.parts) o.forms.items x → IsRefused name bytes x
+pub grammar_refused : (name bytes : Text) (o : Outline) (x : NotationError) → IsOutlined name bytes (Ok o) → IsNoGrammars (parts o.parts) o.forms.items x → IsLanguageTextRefused name bytes x
 grammar_refused name bytes o Memory outlined h = tt
 grammar_refused name bytes o (NotUtf8 place) outlined h = absurd h
 grammar_refused name bytes o (Notation l k) outlined h = absurd h
@@ -127,7 +134,7 @@ short_rules : (size : ℕ) (ls : List RuleLines) → size ≤ 262144 → AllByRe
 short_rules size [] low h = tt
 short_rules size (l ∷ ls) low h = ((omega (arith, low, h.0.0), short_line size (rule_data l).premises low h.0.1, omega (arith, low, h.0.2), short_body size (rule_data l).body low h.0.3), short_rules size ls low h.1)
 
-pub usable : (name bytes : Text) (o : Outline) → length bytes ≤ 262144 → IsOutlined name bytes (Ok o) → IsSized (length bytes) (outline o) → IsFit (outline o) → IsUsable name bytes o
+pub usable : (name bytes : Text) (o : Outline) → length bytes ≤ 262144 → IsOutlined name bytes (Ok o) → IsSized (length bytes) (outline o) → IsFitOutline (outline o) → IsUsableOutline name bytes o
 usable name bytes o low outlined sized fit = record {
   outlined = outlined;
   fit = fit;
@@ -136,23 +143,23 @@ usable name bytes o low outlined sized fit = record {
   short = short_rules (length bytes) o.rules.items low sized.lines;
 }
   where
-    few : length (parts o.parts).sorts + length (parts o.parts).productions + length o.forms.items + (length (literals (parts o.parts)) + length (flat_map (λ f. f.symbols) (map form o.forms.items))) ≤ length bytes
-    few = omega (arith, sized.many, length-map o.forms.items form)
+    few : length (parts o.parts).sorts + length (parts o.parts).productions + length o.forms.items + (length (literals (parts o.parts)) + length (flat_map (λ f. f.symbols) (map declared_form o.forms.items))) ≤ length bytes
+    few = omega (arith, sized.many, length-map o.forms.items declared_form)
 
 -- ---- languages
 
-module _ (name bytes : Text) (x : Prepared) (h : IsPrepared name bytes x) (names : List (List Text)) (qs : List NamedRule) (read : AreBareRules (reader_in x) (map rule_data x.rules.items) names qs) where
+module _ (name bytes : Text) (x : Prepared) (h : IsPreparedLanguage name bytes x) (names : List (List Text)) (qs : List NamedRule) (read : AreBareRules (reader_in x) (map rule_data x.rules.items) names qs) where
   read_here : AreBareRules (reader_in x) (map rule_data h.from.rules.items) names qs
   read_here = subst (λ l. AreBareRules (reader_in x) (map rule_data l) names qs) h.rules read
 
   shapes_same : shapes_of x.grammar.parts ≡ shapes_of (parts h.from.parts)
   shapes_same = ap (λ g. shapes_of g.parts) h.grammar
 
-  module _ (set : RuleSet) (made : IsMade (shapes_of x.grammar.parts) (forms x.forms.items) qs (Ok set)) where
+  module _ (set : RuleSet) (made : IsRuleSetMade (shapes_of x.grammar.parts) (forms x.forms.items) qs (Ok set)) where
     read_set : AreBareRules (reader_in x) (map rule_data h.from.rules.items) names (rules_in set)
     read_set = subst (AreBareRules (reader_in x) (map rule_data h.from.rules.items) names) (sym made.2) read_here
 
-    pub states : (l : Language) → l.name ≡ name → l.grammar ≡ x.grammar → l.rule_grammar ≡ x.rule_grammar → l.metas ≡ x.metas → l.rules ≡ set → l.names.items ≡ names → l.main ≡ x.main → States name bytes l
+    pub states : (l : Language) → l.name ≡ name → l.grammar ≡ x.grammar → l.rule_grammar ≡ x.rule_grammar → l.metas ≡ x.metas → l.rules ≡ set → l.names.items ≡ names → l.main ≡ x.main → IsLanguageIn name bytes l
     states l named base rule metas rules called main = record {
       outline = h.from;
       reader = reader_in x;
@@ -213,10 +220,10 @@ module _ (name bytes : Text) (x : Prepared) (h : IsPrepared name bytes x) (names
       lines_named [] = refl
       lines_named (l ∷ ls) = ap (λ z. l.name ∷ z) (lines_named ls)
 
-  refused_here : (e : RuleError) → IsMade (shapes_of x.grammar.parts) (forms x.forms.items) qs (Err e) → IsMade (shapes_of (parts h.from.parts)) (forms_of h.from) qs (Err e)
-  refused_here e m = subst (λ f. IsMade (shapes_of (parts h.from.parts)) f qs (Err e)) h.forms (subst (λ s. IsMade s (forms x.forms.items) qs (Err e)) shapes_same m)
+  refused_here : (e : RuleError) → IsRuleSetMade (shapes_of x.grammar.parts) (forms x.forms.items) qs (Err e) → IsRuleSetMade (shapes_of (parts h.from.parts)) (forms_of h.from) qs (Err e)
+  refused_here e m = subst (λ f. IsRuleSetMade (shapes_of (parts h.from.parts)) f qs (Err e)) h.forms (subst (λ s. IsRuleSetMade s (forms x.forms.items) qs (Err e)) shapes_same m)
 
-  reason : (e : RuleError) → IsReason e → IsMade (shapes_of (parts h.from.parts)) (forms_of h.from) qs (Err e) → IsNoRules h.from qs e
+  reason : (e : RuleError) → IsReason e → IsRuleSetMade (shapes_of (parts h.from.parts)) (forms_of h.from) qs (Err e) → IsNoRules h.from qs e
   reason rules.Memory r m = absurd r
   reason rules.TooManyRules r m = m
   reason (rules.TooManyVars t) r m = m
@@ -225,10 +232,10 @@ module _ (name bytes : Text) (x : Prepared) (h : IsPrepared name bytes x) (names
   reason (rules.Discipline t a b) r m = m
   reason (rules.NotModed t v) r m = m
 
-  pub rules_refused : (e : RuleError) (y : NotationError) → IsMade (shapes_of x.grammar.parts) (forms x.forms.items) qs (Err e) → IsRuleRefusal (map (λ l. l.name) x.rules.items) names e y → IsRefused name bytes y
-  rules_refused e y m (inl none) = subst (IsRefused name bytes) (sym none) tt
+  pub rules_refused : (e : RuleError) (y : NotationError) → IsRuleSetMade (shapes_of x.grammar.parts) (forms x.forms.items) qs (Err e) → IsRuleRefusal (map (λ l. l.name) x.rules.items) names e y → IsLanguageTextRefused name bytes y
+  rules_refused e y m (inl none) = subst (IsLanguageTextRefused name bytes) (sym none) tt
   rules_refused e y m (inr (r, (unbound, is, called))) =
-      subst (IsRefused name bytes) (sym is) (subst (HasNoRuleSet name bytes e) (sym called) (no_set e (reason e r (refused_here e m))))
+      subst (IsLanguageTextRefused name bytes) (sym is) (subst (HasNoRuleSet name bytes e) (sym called) (no_set e (reason e r (refused_here e m))))
 
 -- ---- lines
 
@@ -273,17 +280,17 @@ rule_kind : (r : Reader) (l : RuleData) (e : NotationError) → IsBadRule r l e 
 rule_kind r l e (inl h) = premise_kind r l.premises [] e h
 rule_kind r l e (inr h) = end_kind r l h.0 e h.3
 
-pub rules_kind : (r : Reader) (ls : List RuleData) (e : NotationError) → IsFirstBad r ls e → IsLineError e
+pub rules_kind : (r : Reader) (ls : List RuleData) (e : NotationError) → IsFirstBadRule r ls e → IsLineError e
 rules_kind r [] e h = absurd h
 rules_kind r (l ∷ ls) e (inl h) = rule_kind r l e h
 rules_kind r (l ∷ ls) e (inr h) = rules_kind r ls e h.4
 
 -- the first bad line of the rules is the refusal of the text
-module _ (name bytes : Text) (x : Prepared) (h : IsPrepared name bytes x) where
-  bad_rule : (e : NotationError) → IsFirstBad (reader_in x) (map rule_data x.rules.items) e → HasBadRule name bytes e
-  bad_rule e b = (h.from, reader_in x, h.readable, subst (λ l. IsFirstBad (reader_in x) (map rule_data l) e) h.rules b)
+module _ (name bytes : Text) (x : Prepared) (h : IsPreparedLanguage name bytes x) where
+  bad_rule : (e : NotationError) → IsFirstBadRule (reader_in x) (map rule_data x.rules.items) e → HasBadRule name bytes e
+  bad_rule e b = (h.from, reader_in x, h.readable, subst (λ l. IsFirstBadRule (reader_in x) (map rule_data l) e) h.rules b)
 
-  first_refused : (e : NotationError) → OrMemory (IsFirstBad (reader_in x) (map rule_data x.rules.items)) e → IsRefused name bytes e
+  first_refused : (e : NotationError) → OrMemory (IsFirstBadRule (reader_in x) (map rule_data x.rules.items)) e → IsLanguageTextRefused name bytes e
   first_refused Memory b = tt
   first_refused (NotUtf8 place) b = absurd (rules_kind (reader_in x) (map rule_data x.rules.items) (NotUtf8 place) b)
   first_refused (Notation n k) b = inr (bad_rule (Notation n k) b)
@@ -292,8 +299,8 @@ module _ (name bytes : Text) (x : Prepared) (h : IsPrepared name bytes x) where
   first_refused (Read n e) b = bad_rule (Read n e) b
   first_refused (Rules e v) b = absurd (rules_kind (reader_in x) (map rule_data x.rules.items) (Rules e v) b)
 
-  pub line_refused : (lines : List RuleLines) → lines ≡ x.rules.items → (e : NotationError) → OrMemory (IsFirstBad (reader_in x) (map rule_data lines)) e → IsRefused name bytes e
-  line_refused lines same e b = first_refused e (subst (λ l. OrMemory (IsFirstBad (reader_in x) (map rule_data l)) e) same b)
+  pub line_refused : (lines : List RuleLines) → lines ≡ x.rules.items → (e : NotationError) → OrMemory (IsFirstBadRule (reader_in x) (map rule_data lines)) e → IsLanguageTextRefused name bytes e
+  line_refused lines same e b = first_refused e (subst (λ l. OrMemory (IsFirstBadRule (reader_in x) (map rule_data l)) e) same b)
 
 -- the terms of the rules are not too deep
 pub shallow : (r : Reader) (ls : List RuleData) (names : List (List Text)) (rs : List Rule) → AreBareRules r ls names (map named rs) → RulesAreShallow (map rule rs)
@@ -305,18 +312,18 @@ shallow r ls names rs read = subst RulesAreShallow (bare rs) (rules_shallow r ls
 
 -- ---- stems of an outline
 
-pub sorts_named : (name bytes : Text) (o : Outline) (b : GrammarData) → b ≡ whole (parts o.parts) → IsUsable name bytes o → AllByRecursion (λ v. IsNameOfSort b.parts v.sort) o.vars.items
+pub sorts_named : (name bytes : Text) (o : Outline) (b : GrammarData) → b ≡ whole (parts o.parts) → IsUsableOutline name bytes o → AllByRecursion (λ v. IsNameOfSort b.parts v.sort) o.vars.items
 sorts_named name bytes o b base h = subst (λ y. AllByRecursion (λ v. IsNameOfSort y.parts v.sort) o.vars.items) (sym base) h.fit.vars
 
 pub stems_are : (p : Parts) (b : GrammarData) (vs : List VarLine) (ss : Stems) → b ≡ whole p → AreStems b.parts vs ss → AreStems p vs ss
 stems_are p b vs ss base are = subst (λ y. AreStems y.parts vs ss) base are
 
-pub forms_known : (name bytes : Text) (o : Outline) (b : GrammarData) → b ≡ whole (parts o.parts) → IsGrammar (rule_parts (parts o.parts) o.forms.items) → IsUsable name bytes o → HaveSortsOf b.parts o.forms.items
+pub forms_known : (name bytes : Text) (o : Outline) (b : GrammarData) → b ≡ whole (parts o.parts) → IsGrammar (rule_parts (parts o.parts) o.forms.items) → IsUsableOutline name bytes o → HaveSortsOf b.parts o.forms.items
 forms_known name bytes o b base is h = subst (λ y. HaveSortsOf y.parts o.forms.items) (sym base) (have_sorts (parts o.parts) o.forms.items is h.fit.named)
 
-pub prepared : (name bytes : Text) (o : Outline) (x : Prepared) (b : GrammarData) → IsUsable name bytes o → b ≡ whole (parts o.parts) → IsGrammar (parts o.parts)
+pub prepared : (name bytes : Text) (o : Outline) (x : Prepared) (b : GrammarData) → IsUsableOutline name bytes o → b ≡ whole (parts o.parts) → IsGrammar (parts o.parts)
     → (x.rule_grammar ≡ whole (rule_parts (parts o.parts) o.forms.items)) × IsGrammar (rule_parts (parts o.parts) o.forms.items) → x.grammar ≡ b → AreStems b.parts o.vars.items x.metas.stems.items
-    → forms x.forms.items ≡ map (form_of b.parts) o.forms.items → x.main ≡ o.main → x.rules.items ≡ o.rules.items → IsPrepared name bytes x
+    → forms x.forms.items ≡ map (form_of b.parts) o.forms.items → x.main ≡ o.main → x.rules.items ≡ o.rules.items → IsPreparedLanguage name bytes x
 prepared name bytes o x b h base is rule same stems known main lines =
     let p = parts o.parts in
     let read_by : x.rule_grammar.parts ≡ rule_parts p o.forms.items = ap (λ g. g.parts) rule.0 in

@@ -9,7 +9,7 @@ use Rattle.sx_grammar.specs.Grammar.{Text}
 use Rattle.sx_grammar.specs.Parts.{Parts, names, number_of}
 use Rattle.sx_grammar.specs.Told.{is_typed}
 use Rattle.sx_grammar.proofs.Finding.{named_at}
-use Rattle.sx_earley.specs.Completed.{number_of as sort_number}
+use Rattle.sx_earley.specs.Completed.{sort_number}
 use Rattle.sx_earley.specs.Tokens.{Stems}
 use Rattle.sx_directives.specs.declared.rows.VarLine.{VarLine}
 use Rattle.sx_language.specs.States.{IsSortNamed, AreStems}

@@ -5,7 +5,8 @@ use Rattle.std.specs.List.{AllByRecursion}
 use Rattle.std.proofs.Math.Nat.{le-max_left, le-max_right}
 use Rattle.sx_term.specs.declared.lex_kind.LexKind.TheVariants.{Id, Num, Str}
 use Rattle.sx_term.specs.declared.sort.Sort.{Sort}
-use Rattle.sx_term.specs.Tree.{Tree, Trees, node, lexeme, hole, none, ◌▹◌, forest, depth_of, greatest_depth}
+use Rattle.sx_term.specs.Tree.{Tree, Trees, node, lexeme, hole, none, ◌▹◌, forest, depth_of}
+use Rattle.sx_term.specs.Tree.{greatest_depth}
 use Rattle.sx_grammar.specs.Grammar.{Text}
 use Rattle.sx_grammar.specs.Parts.{Parts}
 use Rattle.sx_grammar.specs.Tables.{literals_of}
@@ -18,12 +19,12 @@ use Rattle.sx_rules.specs.Deep.{AreShallow, PremisesAreShallow, RulesAreShallow}
 use Rattle.sx_directives.specs.declared.rows.FormLine.{FormLine}
 use Rattle.sx_outline.specs.Stages.{Numbered, RuleData}
 use Rattle.sx_notation.specs.RuleParts.{rule_parts}
-use Rattle.sx_notation.specs.ReadText.{IsRead}
+use Rattle.sx_notation.specs.ReadText.{IsReadLine}
 use Rattle.sx_notation.specs.Language.{PremiseHasLexemes, RuleHasLexemes}
 use Rattle.sx_notation.proofs.ReadLexemes.{reads_have_lexemes, reads_are_shallow}
 use Rattle.sx_language.specs.Laws.{RulesAreUsable}
 use Rattle.sx_language.specs.RuleLine.{Reader, judgements, subject_sort, Says, IsLine}
-use Rattle.sx_language.specs.RuleTexts.{ArePremises, IsBody, IsRule, AreRules, AreBareRules}
+use Rattle.sx_language.specs.RuleTexts.{ArePremises, IsRuleBody, IsRule, AreRules, AreBareRules}
 use Rattle.sx_language.proofs.KnownForms.{literal_stays}
 
 -- it holds of the terms of the premise
@@ -39,7 +40,7 @@ OfBody P body = IfSome body P
 
 -- a property that passes from a node to its kids, and that holds of what is read
 module _ (r : Reader) (P : Tree → Type 0) (down : (label : ℕ) (ts : List Tree) → P (node label (forest ts)) → AllByRecursion P ts)
-    (read : (sort : Sort) (text : Text) (old new : List Text) (t : Tree) → IsRead r.parts r.stems sort text old new t → P t) where
+    (read : (sort : Sort) (text : Text) (old new : List Text) (t : Tree) → IsReadLine r.parts r.stems sort text old new t → P t) where
   said : (t : Tree) (q : Premise) → Says r t q → P t → OfPremise P q
   said t (holds j) h k = down _ j.places (subst P h.1 k)
   said t (apart u v) h k = let both = down _ (u ∷ v ∷ []) (subst P h.2 k) in (both.0, both.1.0)
@@ -53,7 +54,7 @@ module _ (r : Reader) (P : Tree → Type 0) (down : (label : ℕ) (ts : List Tre
   of_premises (l ∷ ls) old new [] h = absurd h
   of_premises (l ∷ ls) old new (q ∷ qs) h = (of_line l.text old h.0 q h.1, of_premises ls h.0 new qs h.2)
 
-  of_body : (line : Option Numbered) (subject : Option Sort) (old new : List Text) (body : Option Tree) → IsBody r line subject old new body → OfBody P body
+  of_body : (line : Option Numbered) (subject : Option Sort) (old new : List Text) (body : Option Tree) → IsRuleBody r line subject old new body → OfBody P body
   of_body None subject old new body h = subst (OfBody P) (sym h.1) tt
   of_body (Some l) None old new body h = subst (OfBody P) (sym h.1) tt
   of_body (Some l) (Some sort) old new None h = absurd h
@@ -176,7 +177,7 @@ none_bodied r (l ∷ ls) (n ∷ ns) [] bs bare h = absurd h
 none_bodied r (l ∷ ls) (n ∷ ns) (q ∷ qs) [] bare h = absurd h
 none_bodied r (l ∷ ls) (n ∷ ns) (q ∷ qs) (b ∷ bs) bare h =
     let subject = subject_sort r.forms q.rule.conclusion.form in
-    let read = subst (λ (o : Option Numbered). IsBody r o subject h.0.stated.last n b) bare.0 h.0.stated.bodied in
+    let read = subst (λ (o : Option Numbered). IsRuleBody r o subject h.0.stated.last n b) bare.0 h.0.stated.bodied in
     (subst (λ (o : Option Tree). IsRule r l n q o) read.1 h.0, none_bodied r ls ns qs bs bare.1 h.1)
 
 pub rules_are_usable : RulesAreUsable

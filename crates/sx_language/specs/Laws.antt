@@ -24,11 +24,11 @@ use Rattle.sx_notation.specs.declared.language.Language.{Language}
 use Rattle.sx_notation.specs.declared.notation_error.NotationError.{NotationError}
 use Rattle.sx_notation.specs.declared.notation_error.NotationError.TheVariants.{Memory}
 use Rattle.sx_notation.specs.Language.{RuleHasLexemes, language_data}
-use Rattle.sx_notation.specs.ReadText.{IsRead}
+use Rattle.sx_notation.specs.ReadText.{IsReadLine}
 use Rattle.sx_notation.specs.RuleParts.{rule_parts}
-use Rattle.sx_language.specs.RuleLine.{Reader, subject_sort, CanRead}
-use Rattle.sx_language.specs.RuleTexts.{HaveStemSorts, IsRule, AreRules, IsFirstBad}
-use Rattle.sx_language.specs.States.{AreStems, States, name_unbound, IsRefused}
+use Rattle.sx_language.specs.RuleLine.{Reader, subject_sort, CanReadRules}
+use Rattle.sx_language.specs.RuleTexts.{HaveStemSorts, IsRule, AreRules, IsFirstBadRule}
+use Rattle.sx_language.specs.States.{AreStems, IsLanguageIn, name_unbound, IsLanguageTextRefused}
 use Rattle.sx_language.specs.Alike.{RulesHaveThree, LanguageHasThree, ShowOthers}
 use Rattle.sx_term.specs.Limits.{most_depth}
 
@@ -52,12 +52,13 @@ pub record SameLanguage (l k : Language) : Type 0 where
 -- A text states one language, or has one refusal, but for the two readings that it shows of a line
 -- with more than two. Out of memory is free.
 pub record OneLanguage : Type 0 where
-  pub found : (name bytes : List ℕ) (l k : Language) → States name bytes l →
-      States name bytes k → SameLanguage l k
-  pub either : (name bytes : List ℕ) (l : Language) (e : NotationError) → States name bytes l →
-      IsRefused name bytes e → e ≡ Memory
-  pub refused : (name bytes : List ℕ) (e d : NotationError) → IsRefused name bytes e →
-      IsRefused name bytes d → e ≢ Memory → d ≢ Memory →
+  pub found : (name bytes : List ℕ) (l k : Language) → IsLanguageIn name bytes l →
+      IsLanguageIn name bytes k → SameLanguage l k
+  pub either : (name bytes : List ℕ) (l : Language) (e : NotationError) →
+      IsLanguageIn name bytes l →
+      IsLanguageTextRefused name bytes e → e ≡ Memory
+  pub refused : (name bytes : List ℕ) (e d : NotationError) → IsLanguageTextRefused name bytes e →
+      IsLanguageTextRefused name bytes d → e ≢ Memory → d ≢ Memory →
       (e ≡ d) ⊎ ShowOthers (LanguageHasThree name bytes) e d
 
 -- Lines state one list of rules with their bodies and names, or have one first bad line, but for
@@ -68,9 +69,9 @@ pub record OneRules : Type 0 where
       (ns ≡ ms) × (qs ≡ ws) × (ts ≡ us)
   pub either : (r : Reader) (ls : List RuleData) (ns : List (List Text)) (qs : List NamedRule)
       (ts : List (Option Tree)) (e : NotationError) → AreRules r ls ns qs ts →
-      IsFirstBad r ls e → e ≡ Memory
-  pub refused : (r : Reader) (ls : List RuleData) (e d : NotationError) → IsFirstBad r ls e →
-      IsFirstBad r ls d → e ≢ Memory → d ≢ Memory →
+      IsFirstBadRule r ls e → e ≡ Memory
+  pub refused : (r : Reader) (ls : List RuleData) (e d : NotationError) → IsFirstBadRule r ls e →
+      IsFirstBadRule r ls d → e ≢ Memory → d ≢ Memory →
       (e ≡ d) ⊎ ShowOthers (RulesHaveThree r ls) e d
 
 -- what is read at a sort of the grammar of rules has it, where variables have the sorts of their
@@ -79,14 +80,14 @@ abbrev pub ReadsAreSorted : Type 0
 ReadsAreSorted = (p : Parts) (fs : List FormLine) (vars : List VarLine) (stems : Stems)
     (sort : Sort) (line : Text) (old new : List Text) (t : Tree) (sorts : List Sort) →
     AreStems p vars stems → IsSort (rule_parts p fs) sort →
-    IsRead (rule_parts p fs) stems sort line old new t → HaveStemSorts stems new sorts →
+    IsReadLine (rule_parts p fs) stems sort line old new t → HaveStemSorts stems new sorts →
     HasSort (shapes_of (rule_parts p fs)) sorts t sort
 
 -- so the body of a rule has the sort of the conclusion's subject
 abbrev pub BodiesAreSorted : Type 0
 BodiesAreSorted = (p : Parts) (fs : List FormLine) (vars : List VarLine) (r : Reader)
     (l : RuleData) (names : List Text) (q : NamedRule) (body : Tree) →
-    r.parts ≡ rule_parts p fs → AreStems p vars r.stems → CanRead r →
+    r.parts ≡ rule_parts p fs → AreStems p vars r.stems → CanReadRules r →
     IsRule r l names q (Some body) →
     (sort : Sort) × (subject_sort r.forms q.rule.conclusion.form ≡ Some sort) ×
     HasSort (shapes_of r.parts) q.rule.sorts body sort

@@ -15,14 +15,14 @@ use Rattle.sx_rules.specs.Views as view
 use Rattle.sx_outline.specs.declared.outline.Outline.{Outline}
 use Rattle.sx_outline.specs.Stages.{rule_data}
 use Rattle.sx_outline.specs.Outlined.{IsOutlined, outline}
-use Rattle.sx_outline.specs.Sized.{IsFit}
+use Rattle.sx_outline.specs.Sized.{IsFitOutline}
 use Rattle.sx_notation.specs.declared.notation_error.NotationError.{NotationError}
 use Rattle.sx_notation.specs.declared.notation_error.NotationError.TheVariants.{Memory, Grammar}
 use Rattle.sx_notation.specs.declared.notation_error.NotationError.TheVariants.{Rules}
 use Rattle.sx_notation.specs.RuleParts.{rule_parts}
 use Rattle.sx_notation.specs.RuleLaws.{HaveSortsOf}
 use Rattle.sx_language.specs.declared.preparing.Prepared.{Prepared}
-use Rattle.sx_language.specs.RuleLine.{Reader, CanRead}
+use Rattle.sx_language.specs.RuleLine.{Reader, CanReadRules}
 use Rattle.sx_language.specs.States.{IsReadable, IsNoGrammar, forms_of, name_unbound}
 use Rattle.sx_term.specs.Limits.{most_bytes}
 
@@ -39,10 +39,10 @@ reader_in x = record {
 }
 
 -- the text has an outline, which fits, and this is made of it
-pub record IsPrepared (name bytes : Text) (x : Prepared) : Type 0 where
+pub record IsPreparedLanguage (name bytes : Text) (x : Prepared) : Type 0 where
   pub from : Outline
   pub readable : IsReadable name bytes from (reader_in x)
-  pub fit : IsFit (outline from)
+  pub fit : IsFitOutline (outline from)
   pub known : HaveSortsOf (parts from.parts) from.forms.items
   pub grammar : x.grammar ≡ whole (parts from.parts)
   pub rule_grammar : x.rule_grammar ≡ whole (rule_parts (parts from.parts) from.forms.items)
@@ -51,12 +51,12 @@ pub record IsPrepared (name bytes : Text) (x : Prepared) : Type 0 where
   pub rules : x.rules.items ≡ from.rules.items
   pub short : AllByRecursion (λ l. HasShortLines most_bytes (rule_data l)) x.rules.items
   pub bare : AllByRecursion (λ l. l.body ≡ None) (map rule_data x.rules.items)
-  pub can : CanRead (reader_in x)
+  pub can : CanReadRules (reader_in x)
 
 -- the outline of the text, within the limits of grammars
-pub record IsUsable (name bytes : Text) (o : Outline) : Type 0 where
+pub record IsUsableOutline (name bytes : Text) (o : Outline) : Type 0 where
   pub outlined : IsOutlined name bytes (Ok o)
-  pub fit : IsFit (outline o)
+  pub fit : IsFitOutline (outline o)
   pub limits : IsWithinLimits (parts o.parts)
   pub rule_limits : IsWithinLimits (rule_parts (parts o.parts) o.forms.items)
   pub short : AllByRecursion (λ l. HasShortLines most_bytes (rule_data l)) o.rules.items

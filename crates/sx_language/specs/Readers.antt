@@ -14,5 +14,5 @@ reader r = record {
 }
 
 -- the tables are made of its parts and stems
-abbrev pub AreTables : Reader → ReaderData → Type 0
-AreTables r d = (d.parts ≡ r.parts) × (d.stems ≡ r.stems)
+abbrev pub AreReaderTables : Reader → ReaderData → Type 0
+AreReaderTables r d = (d.parts ≡ r.parts) × (d.stems ≡ r.stems)

@@ -14,7 +14,7 @@ use Rattle.sx_rules.specs.Views.{FormData, places_at, is_sub}
 use Rattle.sx_outline.specs.Stages.{Numbered}
 use Rattle.sx_notation.specs.declared.notation_error.NotationError.{NotationError}
 use Rattle.sx_notation.specs.GoalText.{form_label}
-use Rattle.sx_notation.specs.ReadText.{IsRead, IsRefused}
+use Rattle.sx_notation.specs.ReadText.{IsReadLine, IsTextRefused}
 
 -- what the lines of rules are read by: the grammar of rules, the stems with their sorts, the forms
 pub record Reader : Type 0 where
@@ -48,18 +48,18 @@ Says r t (apart u v) =
 -- are added to it
 pub record IsLine (r : Reader) (text : Text) (old new : List Text) (q : Premise) : Type 0 where
   pub term : Tree
-  pub read : IsRead r.parts r.stems (judgements r.parts) text old new term
+  pub read : IsReadLine r.parts r.stems (judgements r.parts) text old new term
   pub says : Says r term q
 
 -- why the line is not read, out of memory aside
 abbrev pub IsBadLine : Reader → Numbered → NotationError → Type 0
-IsBadLine r l e = IsRefused r.parts r.stems (judgements r.parts) l.text l.number e
+IsBadLine r l e = IsTextRefused r.parts r.stems (judgements r.parts) l.text l.number e
 
 -- each line that is read says a premise, and bodies can be read at the sorts of subjects
-pub record CanRead (r : Reader) : Type 0 where
+pub record CanReadRules (r : Reader) : Type 0 where
   pub room : length r.forms + 3 ≤ length r.parts.productions
   pub sort : IsSort r.parts (judgements r.parts)
   pub says : (text : Text) (old new : List Text) (t : Tree) →
-      IsRead r.parts r.stems (judgements r.parts) text old new t → (q : Premise) × Says r t q
+      IsReadLine r.parts r.stems (judgements r.parts) text old new t → (q : Premise) × Says r t q
   pub subjects : (form : ℕ) (sort : Sort) → subject_sort r.forms form ≡ Some sort →
       IsSort r.parts sort

@@ -5,14 +5,14 @@ use Rattle.std.specs.List.{AllByRecursion}
 use Rattle.sx_term.specs.declared.sort.Sort.{Sort}
 use Rattle.sx_term.specs.Tree.{Tree}
 use Rattle.sx_grammar.specs.Grammar.{Text}
-use Rattle.sx_earley.specs.Tokens.{Stems, sort_of, without_digits}
+use Rattle.sx_earley.specs.Tokens.{Stems, stem_sort, without_digits}
 use Rattle.sx_rules.specs.Rules.{Judgement, Premise, holds, apart}
 use Rattle.sx_rules.specs.Views.{NamedRule}
 use Rattle.sx_lines.specs.declared.kind.Kind.TheVariants.{Shape}
 use Rattle.sx_outline.specs.Stages.{Numbered, RuleData}
 use Rattle.sx_notation.specs.declared.notation_error.NotationError.{NotationError}
 use Rattle.sx_notation.specs.declared.notation_error.NotationError.TheVariants.{Memory, Notation}
-use Rattle.sx_notation.specs.ReadText.{IsRead, IsRefused}
+use Rattle.sx_notation.specs.ReadText.{IsReadLine, IsTextRefused}
 use Rattle.sx_language.specs.RuleLine.{Reader, subject_sort, IsLine, IsBadLine}
 
 -- the lines state the premises in order, and each adds the names that it is the first to have
@@ -25,22 +25,23 @@ ArePremises r (l ∷ ls) old new [] = ⊥
 
 -- The body is the term of the only reading of its line at the subject's sort, and adds the names
 -- that it is the first to have. There is none where there is no line, or no subject.
-abbrev pub IsBody : Reader → Option Numbered → (subject : Option Sort) → (old new : List Text) →
+abbrev pub IsRuleBody : Reader → Option Numbered → (subject : Option Sort) → (old new : List Text) →
     Option Tree → Type 0
-IsBody r None subject old new body = (new ≡ old) × (body ≡ None)
-IsBody r (Some l) None old new body = (new ≡ old) × (body ≡ None)
-IsBody r (Some l) (Some sort) old new None = ⊥
-IsBody r (Some l) (Some sort) old new (Some t) = IsRead r.parts r.stems sort l.text old new t
+IsRuleBody r None subject old new body = (new ≡ old) × (body ≡ None)
+IsRuleBody r (Some l) None old new body = (new ≡ old) × (body ≡ None)
+IsRuleBody r (Some l) (Some sort) old new None = ⊥
+IsRuleBody r (Some l) (Some sort) old new (Some t) = IsReadLine r.parts r.stems sort l.text old new
+    t
 
 -- each variable has the sort of its stem, which is its name without the digits at its end
 abbrev pub HaveStemSorts : Stems → (names : List Text) → List Sort → Type 0
 HaveStemSorts stems names sorts =
-    map (λ name. sort_of stems (without_digits name)) names ≡ map Some sorts
+    map (λ name. stem_sort stems (without_digits name)) names ≡ map Some sorts
 
 -- the stem of each name has a sort
-abbrev pub HaveStems : Stems → (names : List Text) → Type 0
-HaveStems stems names =
-    AllByRecursion (λ name. is_some (sort_of stems (without_digits name)) ≡ true) names
+abbrev pub NamesHaveStems : Stems → (names : List Text) → Type 0
+NamesHaveStems stems names =
+    AllByRecursion (λ name. is_some (stem_sort stems (without_digits name)) ≡ true) names
 
 -- the lines state the premises, the conclusion and the body, one after the other, with these names
 pub record AreStated (r : Reader) (lines : RuleData) (names : List Text) (qs : List Premise)
@@ -49,7 +50,7 @@ pub record AreStated (r : Reader) (lines : RuleData) (names : List Text) (qs : L
   pub last : List Text
   pub premises : ArePremises r lines.premises [] middle qs
   pub conclusion : IsLine r lines.conclusion.text middle last (holds j)
-  pub bodied : IsBody r lines.body (subject_sort r.forms j.form) last names body
+  pub bodied : IsRuleBody r lines.body (subject_sort r.forms j.form) last names body
 
 -- the lines state the rule and its body, whose variables have these names
 pub record IsRule (r : Reader) (lines : RuleData) (names : List Text) (q : NamedRule)
@@ -89,7 +90,7 @@ IsBadConclusion r l old e =
 abbrev pub IsBadBody : Reader → Option Numbered → (subject : Option Sort) → NotationError → Type 0
 IsBadBody r None subject e = ⊥
 IsBadBody r (Some l) None e = ⊥
-IsBadBody r (Some l) (Some sort) e = IsRefused r.parts r.stems sort l.text l.number e
+IsBadBody r (Some l) (Some sort) e = IsTextRefused r.parts r.stems sort l.text l.number e
 
 -- the conclusion is bad, or it is read and the body is bad
 abbrev pub IsBadEnd : Reader → RuleData → (old : List Text) → NotationError → Type 0
@@ -106,12 +107,12 @@ IsBadRule r lines e =
     IsBadEnd r lines middle e)
 
 -- the first bad rule is refused so
-abbrev pub IsFirstBad : Reader → List RuleData → NotationError → Type 0
-IsFirstBad r [] e = ⊥
-IsFirstBad r (l ∷ ls) e =
+abbrev pub IsFirstBadRule : Reader → List RuleData → NotationError → Type 0
+IsFirstBadRule r [] e = ⊥
+IsFirstBadRule r (l ∷ ls) e =
     IsBadRule r l e
     ⊎ ((names : List Text) × (q : NamedRule) × (body : Option Tree) × IsRule r l names q body ×
-    IsFirstBad r ls e)
+    IsFirstBadRule r ls e)
 
 -- this is why, or memory is lacking
 abbrev pub OrMemory : (NotationError → Type 0) → NotationError → Type 0

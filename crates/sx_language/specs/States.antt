@@ -9,14 +9,14 @@ use Rattle.sx_grammar.specs.declared.grammar_error.GrammarError.{GrammarError}
 use Rattle.sx_grammar.specs.declared.grammar_error.GrammarError.TheVariants as grammar
 use Rattle.sx_grammar.specs.Grammar.{Text}
 use Rattle.sx_grammar.specs.Parts.{Parts, names, number_of, parts}
-use Rattle.sx_grammar.specs.Made.{IsGrammar, IsRefused as IsNotMade}
+use Rattle.sx_grammar.specs.Made.{IsGrammar, IsGrammarRefused as IsNotMade}
 use Rattle.sx_grammar.specs.Told.{sort_with, shapes_of}
 use Rattle.sx_earley.specs.Tokens.{Stems}
 use Rattle.sx_rules.specs.declared.error.RuleError.{RuleError}
 use Rattle.sx_rules.specs.declared.error.RuleError.TheVariants as rules
 use Rattle.sx_rules.specs.Views.{FormData, NamedRule}
 use Rattle.sx_rules.specs.Sets.{shapes_in, forms_in, rules_in}
-use Rattle.sx_rules.specs.Good.{IsRuleSet, IsRefused as IsNoRuleSet}
+use Rattle.sx_rules.specs.Good.{IsRuleSet, IsRuleSetRefused as IsNoRuleSet}
 use Rattle.sx_directives.specs.Spelling.{lex_text, NotLexical}
 use Rattle.sx_directives.specs.declared.rows.VarLine.{VarLine}
 use Rattle.sx_outline.specs.declared.outline.Outline.{Outline}
@@ -32,7 +32,7 @@ use Rattle.sx_notation.specs.declared.notation_error.NotationError.TheVariants.{
 use Rattle.sx_notation.specs.RuleParts.{rule_parts}
 use Rattle.sx_notation.specs.RuleLaws.{form_of}
 use Rattle.sx_language.specs.RuleLine.{Reader}
-use Rattle.sx_language.specs.RuleTexts.{AreBareRules, IsFirstBad}
+use Rattle.sx_language.specs.RuleTexts.{AreBareRules, IsFirstBadRule}
 
 -- the name is that of a lexical sort, or of a sort line
 abbrev pub IsNameOfSort : Parts → (name : Text) → Type 0
@@ -66,7 +66,7 @@ pub record IsReadable (name bytes : Text) (o : Outline) (r : Reader) : Type 0 wh
   pub forms : r.forms ≡ forms_of o
 
 -- the text states the language
-pub record States (name bytes : Text) (l : Language) : Type 0 where
+pub record IsLanguageIn (name bytes : Text) (l : Language) : Type 0 where
   pub outline : Outline
   pub reader : Reader
   pub readable : IsReadable name bytes outline reader
@@ -97,20 +97,21 @@ HasNoGrammar name bytes e = (o : Outline) × IsOutlined name bytes (Ok o) ×
 -- the text has its grammars, and the first bad line of its rules is refused
 abbrev pub HasBadRule : (name bytes : Text) → NotationError → Type 0
 HasBadRule name bytes e = (o : Outline) × (r : Reader) × IsReadable name bytes o r ×
-    IsFirstBad r (map rule_data o.rules.items) e
+    IsFirstBadRule r (map rule_data o.rules.items) e
 
 -- the names of the variables of the first rule with this name
-abbrev pub names_in : (rules : List Text) → (names : List (List Text)) → Text → List Text
-names_in [] names name = []
-names_in (rule ∷ rules) [] name = []
-names_in (rule ∷ rules) (n ∷ ns) name = if bytes_eq rule name then n else names_in rules ns name
+abbrev pub variable_names : (rules : List Text) → (names : List (List Text)) → Text → List Text
+variable_names [] names name = []
+variable_names (rule ∷ rules) [] name = []
+variable_names (rule ∷ rules) (n ∷ ns) name = if bytes_eq rule name then n else variable_names rules
+    ns name
 
 -- the name of the variable that is not bound, if that is why the rules with these names are no rule
 -- set
 abbrev pub name_unbound : (known : List Text) → (names : List (List Text)) → RuleError →
     Option Text
 name_unbound known names (rules.NotModed name variable) =
-    slice_get (names_in known names name) variable
+    slice_get (variable_names known names name) variable
 name_unbound known names _ = None
 
 -- why the rules are no rule set
@@ -130,13 +131,14 @@ pub record HasNoRuleSet (name bytes : Text) (e : RuleError) (unbound : Option Te
   pub named : unbound ≡ name_unbound (map (λ q. q.name) rules) names e
 
 -- why the text states no language, out of memory aside
-abbrev pub IsRefused : (name bytes : Text) → NotationError → Type 0
-IsRefused name bytes Memory = Unit {0}
-IsRefused name bytes (NotUtf8 place) = IsOutlined name bytes (Err (outline.NotUtf8 place))
-IsRefused name bytes (Notation line kind) =
+abbrev pub IsLanguageTextRefused : (name bytes : Text) → NotationError → Type 0
+IsLanguageTextRefused name bytes Memory = Unit {0}
+IsLanguageTextRefused name bytes (NotUtf8 place) = IsOutlined name bytes (Err
+    (outline.NotUtf8 place))
+IsLanguageTextRefused name bytes (Notation line kind) =
     IsOutlined name bytes (Err (outline.Notation line kind))
     ⊎ HasBadRule name bytes (Notation line kind)
-IsRefused name bytes (Token line e) = HasBadRule name bytes (Token line e)
-IsRefused name bytes (Grammar e) = HasNoGrammar name bytes e
-IsRefused name bytes (Read line e) = HasBadRule name bytes (Read line e)
-IsRefused name bytes (Rules e variable) = HasNoRuleSet name bytes e variable
+IsLanguageTextRefused name bytes (Token line e) = HasBadRule name bytes (Token line e)
+IsLanguageTextRefused name bytes (Grammar e) = HasNoGrammar name bytes e
+IsLanguageTextRefused name bytes (Read line e) = HasBadRule name bytes (Read line e)
+IsLanguageTextRefused name bytes (Rules e variable) = HasNoRuleSet name bytes e variable

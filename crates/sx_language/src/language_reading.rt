@@ -4,15 +4,15 @@ ghost use Rattle.std.specs.Prelude.{◌≡◌, ◌≤◌, ℕ, List, length, map
 ghost use Rattle.std.specs.List.{AllByRecursion};
 ghost use Rattle.sx_grammar.specs.Told.{shapes_of};
 ghost use Rattle.sx_rules.specs.Deep.{RulesAreShallow};
-ghost use Rattle.sx_rules.specs.Made.{IsMade};
+ghost use Rattle.sx_rules.specs.Made.{IsRuleSetMade};
 ghost use Rattle.sx_rules.specs.Views as view;
 ghost use Rattle.sx_outline.specs.Stages.{rule_data};
 ghost use Rattle.sx_notation.specs.Language.{IsLanguage};
-ghost use Rattle.sx_language.specs.RuleLine.{CanRead};
+ghost use Rattle.sx_language.specs.RuleLine.{CanReadRules};
 ghost use Rattle.sx_outline.specs.Sized.{HasShortLines};
-ghost use Rattle.sx_language.specs.RuleTexts.{AreBareRules, IsFirstBad, OrMemory};
-ghost use Rattle.sx_language.specs.States.{States, IsRefused};
-ghost use Rattle.sx_language.specs.Prepared.{reader_in, IsPrepared};
+ghost use Rattle.sx_language.specs.RuleTexts.{AreBareRules, IsFirstBadRule, OrMemory};
+ghost use Rattle.sx_language.specs.States.{IsLanguageIn, IsLanguageTextRefused};
+ghost use Rattle.sx_language.specs.Prepared.{reader_in, IsPreparedLanguage};
 ghost use Rattle.sx_term.specs.Limits.{most_bytes};
 
 use crate::preparing::{Prepared, prepare};
@@ -27,13 +27,13 @@ use sx_term::Text;
 
 /// The rules of the language.
 fn read_prepared(alloc: Global, prepared: &Prepared) -> Result<ReadRules, NotationError>
-    requires can { CanRead (reader_in prepared.now) }
+    requires can { CanReadRules (reader_in prepared.now) }
     requires short { AllByRecursion (λ l. HasShortLines most_bytes (rule_data l))
         prepared.now.rules.items }
     requires bare { AllByRecursion (λ l. l.body ≡ None) (map rule_data prepared.now.rules.items) }
     ensures read { IfOk result (λ x. AreBareRules (reader_in prepared.now)
         (map rule_data prepared.now.rules.items) x.names.items (map view.named x.rules.items)) }
-    ensures refused { IfErr result (OrMemory (IsFirstBad (reader_in prepared.now)
+    ensures refused { IfErr result (OrMemory (IsFirstBadRule (reader_in prepared.now)
         (map rule_data prepared.now.rules.items))) }
 {
     let by = RuleReader {
@@ -52,7 +52,7 @@ fn rule_set(
     rules: Vec<Rule>,
 ) -> Result<RuleSet, RuleError>
     requires { RulesAreShallow (map view.rule rules.items) }
-    ensures { IsMade (shapes_of grammar.now.parts) (view.forms forms.items)
+    ensures { IsRuleSetMade (shapes_of grammar.now.parts) (view.forms forms.items)
         (map view.named rules.items) result }
 {
     let shapes = grammar.shapes(alloc)?;
@@ -69,11 +69,12 @@ fn with_rules(
 ) -> Result<Language, NotationError>
     requires { AreBareRules (reader_in prepared) (map rule_data prepared.rules.items)
         read.names.items (map view.named read.rules.items) }
-    ensures stated { (bytes : List ℕ) → IsPrepared name bytes prepared →
-        IfOk result (States name bytes) }
-    ensures refused { (bytes : List ℕ) → IsPrepared name bytes prepared →
-        IfErr result (IsRefused name bytes) }
-    ensures fit { (bytes : List ℕ) → IsPrepared name bytes prepared → IfOk result IsLanguage }
+    ensures stated { (bytes : List ℕ) → IsPreparedLanguage name bytes prepared →
+        IfOk result (IsLanguageIn name bytes) }
+    ensures refused { (bytes : List ℕ) → IsPreparedLanguage name bytes prepared →
+        IfErr result (IsLanguageTextRefused name bytes) }
+    ensures fit { (bytes : List ℕ) → IsPreparedLanguage name bytes prepared →
+        IfOk result IsLanguage }
 {
     let ReadRules {
         rules,
@@ -119,8 +120,8 @@ fn with_rules(
 /// in this order.
 pub fn read_language(alloc: Global, name: &Text, bytes: &[u8]) -> Result<Language, NotationError>
     requires short { length bytes.now ≤ most_bytes }
-    ensures stated { IfOk result (States name.now bytes.now) }
-    ensures refused { IfErr result (IsRefused name.now bytes.now) }
+    ensures stated { IfOk result (IsLanguageIn name.now bytes.now) }
+    ensures refused { IfErr result (IsLanguageTextRefused name.now bytes.now) }
     ensures fit { IfOk result IsLanguage }
 {
     let own_name = name.copy(alloc)?;

@@ -5,8 +5,9 @@ ghost use Rattle.sx_grammar.specs.Parts.{parts};
 ghost use Rattle.sx_grammar.specs.Tables.{IsWithinLimits};
 ghost use Rattle.sx_grammar.specs.Made.{IsGrammar};
 ghost use Rattle.sx_notation.specs.RuleParts.{rule_parts};
-ghost use Rattle.sx_language.specs.States.{IsRefused};
-ghost use Rattle.sx_language.specs.Prepared.{whole, IsUsable, IsPrepared, IsGrammarRefusal};
+ghost use Rattle.sx_language.specs.States.{IsLanguageTextRefused};
+ghost use Rattle.sx_language.specs.Prepared.{whole, IsUsableOutline, IsPreparedLanguage};
+ghost use Rattle.sx_language.specs.Prepared.{IsGrammarRefusal};
 ghost use Rattle.sx_language.specs.Prepared.{IsNoGrammars};
 ghost use Rattle.sx_term.specs.Limits.{most_bytes};
 
@@ -42,8 +43,8 @@ struct Grammars {
 /// The outline of the text.
 fn outline_of(alloc: Global, name: &Text, bytes: &[u8]) -> Result<Outline, NotationError>
     requires { length bytes.now ≤ most_bytes }
-    ensures usable { IfOk result (IsUsable name.now bytes.now) }
-    ensures refused { IfErr result (IsRefused name.now bytes.now) }
+    ensures usable { IfOk result (IsUsableOutline name.now bytes.now) }
+    ensures refused { IfErr result (IsLanguageTextRefused name.now bytes.now) }
 {
     match read_outline(alloc, name, bytes) {
         Ok(outline) => Ok(outline),
@@ -92,8 +93,8 @@ fn make_grammars(
 /// What the text states before the lines of its rules are read.
 pub(crate) fn prepare(alloc: Global, name: &Text, bytes: &[u8]) -> Result<Prepared, NotationError>
     requires { length bytes.now ≤ most_bytes }
-    ensures prepared { IfOk result (IsPrepared name.now bytes.now) }
-    ensures refused { IfErr result (IsRefused name.now bytes.now) }
+    ensures prepared { IfOk result (IsPreparedLanguage name.now bytes.now) }
+    ensures refused { IfErr result (IsLanguageTextRefused name.now bytes.now) }
 {
     let Outline {
         parts,

@@ -7,9 +7,9 @@ ghost use Rattle.sx_term.specs.Term.{tree};
 ghost use Rattle.sx_rules.specs.Views as view;
 ghost use Rattle.sx_rules.specs.Views.{is_sub};
 ghost use Rattle.sx_outline.specs.Stages.{rule_data};
-ghost use Rattle.sx_language.specs.RuleLine.{subject_sort, CanRead};
-ghost use Rattle.sx_language.specs.RuleTexts.{IsBody, IsBadBody, OrMemory};
-ghost use Rattle.sx_language.specs.Readers.{reader, AreTables};
+ghost use Rattle.sx_language.specs.RuleLine.{subject_sort, CanReadRules};
+ghost use Rattle.sx_language.specs.RuleTexts.{IsRuleBody, IsBadBody, OrMemory};
+ghost use Rattle.sx_language.specs.Readers.{reader, AreReaderTables};
 ghost use Rattle.sx_term.specs.Limits.{most_bytes, most_tokens};
 
 use crate::rule_line::line_term;
@@ -71,11 +71,11 @@ pub(crate) fn read_body(
     lines: &RuleLines,
     vars: &mut Vars,
 ) -> Result<Option<Term>, NotationError>
-    requires can { CanRead (reader by.now) }
-    requires tables { AreTables (reader by.now) tables.now }
+    requires can { CanReadRules (reader by.now) }
+    requires tables { AreReaderTables (reader by.now) tables.now }
     requires short { IfSome (rule_data lines.now).body (λ l. length l.text ≤ most_bytes) }
     requires room { length vars.now + most_tokens < 2 ^ 32 }
-    ensures read { IfOk result (λ b. IsBody (reader by.now) (rule_data lines.now).body
+    ensures read { IfOk result (λ b. IsRuleBody (reader by.now) (rule_data lines.now).body
         (subject_sort (reader by.now).forms form) vars.old vars.new (option_map tree b)) }
     ensures refused { IfErr result (OrMemory (IsBadBody (reader by.now) (rule_data lines.now).body
         (subject_sort (reader by.now).forms form))) }

@@ -4,10 +4,10 @@ ghost use Rattle.std.specs.Prelude.{◌≡◌, ◌+◌, ◌<◌, ◌≤◌, ◌^
 ghost use Rattle.sx_term.specs.Term.{tree};
 ghost use Rattle.sx_earley.specs.Completed.{IsSort};
 ghost use Rattle.sx_rules.specs.Views as view;
-ghost use Rattle.sx_outline.specs.Stages.{numbered};
-ghost use Rattle.sx_notation.specs.ReadText.{IsRead, IsRefused};
-ghost use Rattle.sx_language.specs.RuleLine.{judgements, CanRead, IsLine, IsBadLine};
-ghost use Rattle.sx_language.specs.Readers.{reader, AreTables};
+ghost use Rattle.sx_outline.specs.Stages.{numbered_rule_line};
+ghost use Rattle.sx_notation.specs.ReadText.{IsReadLine, IsTextRefused};
+ghost use Rattle.sx_language.specs.RuleLine.{judgements, CanReadRules, IsLine, IsBadLine};
+ghost use Rattle.sx_language.specs.Readers.{reader, AreReaderTables};
 ghost use Rattle.sx_term.specs.Limits.{most_bytes, most_tokens};
 
 use crate::premise::premise_of;
@@ -38,12 +38,12 @@ pub(crate) fn line_term(
     vars: &mut Vars,
 ) -> Result<Term, NotationError>
     requires sort { IsSort (reader by.now).parts sort }
-    requires tables { AreTables (reader by.now) tables.now }
+    requires tables { AreReaderTables (reader by.now) tables.now }
     requires short { length line.now.text ≤ most_bytes }
     requires room { length vars.now + most_tokens < 2 ^ 32 }
-    ensures read { IfOk result (λ t. IsRead (reader by.now).parts (reader by.now).stems sort
+    ensures read { IfOk result (λ t. IsReadLine (reader by.now).parts (reader by.now).stems sort
         line.now.text vars.old vars.new (tree t)) }
-    ensures refused { IfErr result (IsRefused (reader by.now).parts (reader by.now).stems sort
+    ensures refused { IfErr result (IsTextRefused (reader by.now).parts (reader by.now).stems sort
         line.now.text line.now.number) }
     ensures grows { length vars.new ≤ length vars.old + most_tokens }
 {
@@ -58,13 +58,13 @@ fn judgement_term(
     line: &RuleLine,
     vars: &mut Vars,
 ) -> Result<Term, NotationError>
-    requires can { CanRead (reader by.now) }
-    requires tables { AreTables (reader by.now) tables.now }
+    requires can { CanReadRules (reader by.now) }
+    requires tables { AreReaderTables (reader by.now) tables.now }
     requires short { length line.now.text ≤ most_bytes }
     requires room { length vars.now + most_tokens < 2 ^ 32 }
-    ensures read { IfOk result (λ t. IsRead (reader by.now).parts (reader by.now).stems
+    ensures read { IfOk result (λ t. IsReadLine (reader by.now).parts (reader by.now).stems
         (judgements (reader by.now).parts) line.now.text vars.old vars.new (tree t)) }
-    ensures refused { IfErr result (IsBadLine (reader by.now) (numbered line.now)) }
+    ensures refused { IfErr result (IsBadLine (reader by.now) (numbered_rule_line line.now)) }
     ensures grows { length vars.new ≤ length vars.old + most_tokens }
 {
     let sort = judgements(by.grammar);
@@ -79,13 +79,13 @@ pub(crate) fn read_line(
     line: &RuleLine,
     vars: &mut Vars,
 ) -> Result<Premise, NotationError>
-    requires can { CanRead (reader by.now) }
-    requires tables { AreTables (reader by.now) tables.now }
+    requires can { CanReadRules (reader by.now) }
+    requires tables { AreReaderTables (reader by.now) tables.now }
     requires short { length line.now.text ≤ most_bytes }
     requires room { length vars.now + most_tokens < 2 ^ 32 }
     ensures read { IfOk result (λ q.
         IsLine (reader by.now) line.now.text vars.old vars.new (view.premise q)) }
-    ensures refused { IfErr result (IsBadLine (reader by.now) (numbered line.now)) }
+    ensures refused { IfErr result (IsBadLine (reader by.now) (numbered_rule_line line.now)) }
     ensures grows { length vars.new ≤ length vars.old + most_tokens }
 {
     match judgement_term(alloc, by, tables, line, vars) {

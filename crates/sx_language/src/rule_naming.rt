@@ -1,7 +1,7 @@
 //! The refusal of rules that are no rule set.
 
 ghost use Rattle.std.specs.Prelude.{◌≡◌, [], map, IfOk, MatchOption};
-ghost use Rattle.sx_language.specs.States.{names_in, name_unbound};
+ghost use Rattle.sx_language.specs.States.{variable_names, name_unbound};
 ghost use Rattle.sx_language.specs.Prepared.{IsRuleRefusal};
 
 use std::alloc::Global;
@@ -13,9 +13,9 @@ use sx_term::{NoMemory, Text, Vars};
 /// The names of the variables of the first rule with this name.
 fn names_in<'a>(rules: &[RuleLines], names: &'a [Vars], name: &Text) -> Option<&'a Vars>
     ensures { MatchOption result
-        (names_in (map (λ l. l.name) rules.entry.now) names.entry.now name.entry.now ≡ [])
+        (variable_names (map (λ l. l.name) rules.entry.now) names.entry.now name.entry.now ≡ [])
         (λ v. v.now ≡
-        names_in (map (λ l. l.name) rules.entry.now) names.entry.now name.entry.now) }
+        variable_names (map (λ l. l.name) rules.entry.now) names.entry.now name.entry.now) }
 {
     for i in 0..rules.len() {
         let rule = &rules[i];

@@ -6,12 +6,12 @@ ghost use Rattle.std.specs.List.{AllByRecursion};
 ghost use Rattle.sx_term.specs.Term.{tree};
 ghost use Rattle.sx_rules.specs.Rules.{holds};
 ghost use Rattle.sx_rules.specs.Views as view;
-ghost use Rattle.sx_outline.specs.Stages.{numbered, rule_data};
-ghost use Rattle.sx_language.specs.RuleLine.{CanRead, IsLine};
+ghost use Rattle.sx_outline.specs.Stages.{numbered_rule_line, rule_data};
+ghost use Rattle.sx_language.specs.RuleLine.{CanReadRules, IsLine};
 ghost use Rattle.sx_outline.specs.Sized.{HasShortLines};
 ghost use Rattle.sx_language.specs.RuleTexts.{ArePremises, AreStated, IsRule};
 ghost use Rattle.sx_language.specs.RuleTexts.{IsBadPremise, IsBadConclusion, IsBadRule, OrMemory};
-ghost use Rattle.sx_language.specs.Readers.{reader, AreTables};
+ghost use Rattle.sx_language.specs.Readers.{reader, AreReaderTables};
 ghost use Rattle.sx_term.specs.Limits.{most_bytes, most_tokens};
 
 use crate::rule_body::read_body;
@@ -49,15 +49,16 @@ fn read_premises(
     lines: &[RuleLine],
     vars: &mut Vars,
 ) -> Result<Vec<Premise>, NotationError>
-    requires can { CanRead (reader by.now) }
-    requires tables { AreTables (reader by.now) tables.now }
+    requires can { CanReadRules (reader by.now) }
+    requires tables { AreReaderTables (reader by.now) tables.now }
     requires short { AllByRecursion (λ l. length l.text ≤ most_bytes) lines.now }
     requires few { length lines.now ≤ most_bytes }
     requires none { vars.now ≡ [] }
-    ensures read { IfOk result (λ v. ArePremises (reader by.now) (map numbered lines.now) []
+    ensures read { IfOk result (λ v. ArePremises (reader by.now)
+        (map numbered_rule_line lines.now) []
         vars.new (map view.premise v.items)) }
     ensures refused { IfErr result
-        (OrMemory (IsBadPremise (reader by.now) (map numbered lines.now) [])) }
+        (OrMemory (IsBadPremise (reader by.now) (map numbered_rule_line lines.now) [])) }
     ensures grows { length vars.new ≤ most_tokens * length lines.now }
 {
     let mut premises = Vec::with_capacity(alloc, lines.len())?;
@@ -82,14 +83,14 @@ fn read_conclusion(
     line: &RuleLine,
     vars: &mut Vars,
 ) -> Result<Judgement, NotationError>
-    requires can { CanRead (reader by.now) }
-    requires tables { AreTables (reader by.now) tables.now }
+    requires can { CanReadRules (reader by.now) }
+    requires tables { AreReaderTables (reader by.now) tables.now }
     requires short { length line.now.text ≤ most_bytes }
     requires room { length vars.now + most_tokens < 2 ^ 32 }
     ensures read { IfOk result (λ j. IsLine (reader by.now) line.now.text vars.old vars.new
         (holds (view.judgement j))) }
     ensures refused { IfErr result
-        (IsBadConclusion (reader by.now) (numbered line.now) vars.old) }
+        (IsBadConclusion (reader by.now) (numbered_rule_line line.now) vars.old) }
     ensures grows { length vars.new ≤ length vars.old + most_tokens }
 {
     match read_line(alloc, by, tables, line, vars) {
@@ -110,8 +111,8 @@ fn read_stated(
     lines: &RuleLines,
     vars: &mut Vars,
 ) -> Result<Stated, NotationError>
-    requires can { CanRead (reader by.now) }
-    requires tables { AreTables (reader by.now) tables.now }
+    requires can { CanReadRules (reader by.now) }
+    requires tables { AreReaderTables (reader by.now) tables.now }
     requires short { HasShortLines most_bytes (rule_data lines.now) }
     requires none { vars.now ≡ [] }
     ensures read { IfOk result (λ x. AreStated (reader by.now) (rule_data lines.now) vars.new
@@ -149,8 +150,8 @@ pub(crate) fn read_rule(
     tables: &LineReader,
     lines: &RuleLines,
 ) -> Result<ReadRule, NotationError>
-    requires can { CanRead (reader by.now) }
-    requires tables { AreTables (reader by.now) tables.now }
+    requires can { CanReadRules (reader by.now) }
+    requires tables { AreReaderTables (reader by.now) tables.now }
     requires short { HasShortLines most_bytes (rule_data lines.now) }
     ensures read { IfOk result (λ x. IsRule (reader by.now) (rule_data lines.now) x.names
         (view.named x.rule) (option_map tree x.body)) }

@@ -5,10 +5,10 @@ ghost use Rattle.std.specs.List.{AllByRecursion};
 ghost use Rattle.sx_term.specs.Term.{tree};
 ghost use Rattle.sx_rules.specs.Views as view;
 ghost use Rattle.sx_outline.specs.Stages.{rule_data};
-ghost use Rattle.sx_language.specs.RuleLine.{CanRead};
+ghost use Rattle.sx_language.specs.RuleLine.{CanReadRules};
 ghost use Rattle.sx_outline.specs.Sized.{HasShortLines};
-ghost use Rattle.sx_language.specs.RuleTexts.{AreRules, IsFirstBad, OrMemory};
-ghost use Rattle.sx_language.specs.Readers.{reader, AreTables};
+ghost use Rattle.sx_language.specs.RuleTexts.{AreRules, IsFirstBadRule, OrMemory};
+ghost use Rattle.sx_language.specs.Readers.{reader, AreReaderTables};
 ghost use Rattle.sx_term.specs.Limits.{most_bytes};
 
 use crate::rule_reader::RuleReader;
@@ -34,13 +34,13 @@ fn read_each(
     tables: &LineReader,
     lines: &[RuleLines],
 ) -> Result<ReadRules, NotationError>
-    requires can { CanRead (reader by.now) }
-    requires tables { AreTables (reader by.now) tables.now }
+    requires can { CanReadRules (reader by.now) }
+    requires tables { AreReaderTables (reader by.now) tables.now }
     requires short { AllByRecursion (λ l. HasShortLines most_bytes (rule_data l)) lines.now }
     ensures read { IfOk result (λ x. AreRules (reader by.now) (map rule_data lines.now)
         x.names.items (map view.named x.rules.items) (map (option_map tree) x.bodies.items)) }
     ensures refused { IfErr result
-        (OrMemory (IsFirstBad (reader by.now) (map rule_data lines.now))) }
+        (OrMemory (IsFirstBadRule (reader by.now) (map rule_data lines.now))) }
 {
     let mut rules = Vec::with_capacity(alloc, lines.len())?;
     let mut bodies = Vec::with_capacity(alloc, lines.len())?;
@@ -82,12 +82,12 @@ pub fn read_rules(
     by: &RuleReader,
     lines: &[RuleLines],
 ) -> Result<ReadRules, NotationError>
-    requires can { CanRead (reader by.now) }
+    requires can { CanReadRules (reader by.now) }
     requires short { AllByRecursion (λ l. HasShortLines most_bytes (rule_data l)) lines.now }
     ensures read { IfOk result (λ x. AreRules (reader by.now) (map rule_data lines.now)
         x.names.items (map view.named x.rules.items) (map (option_map tree) x.bodies.items)) }
     ensures refused { IfErr result
-        (OrMemory (IsFirstBad (reader by.now) (map rule_data lines.now))) }
+        (OrMemory (IsFirstBadRule (reader by.now) (map rule_data lines.now))) }
 {
     let tables = LineReader::new(alloc, by.grammar, by.metas)?;
     let read = read_each(alloc, by, &tables, lines);

@@ -1,7 +1,7 @@
 //! The sorts of the stems of names.
 
 ghost use Rattle.std.specs.Prelude.{◌≡◌, ◌<◌, ◌^◌, length, IfOk};
-ghost use Rattle.sx_language.specs.RuleTexts.{HaveStemSorts, HaveStems};
+ghost use Rattle.sx_language.specs.RuleTexts.{HaveStemSorts, NamesHaveStems};
 
 use std::alloc::Global;
 use sx_earley::Stems;
@@ -9,7 +9,7 @@ use sx_term::{NoMemory, Sort, Vars};
 
 /// The sorts of the stems of the names, which are among these.
 pub(crate) fn sorts_of(alloc: Global, stems: &Stems, names: &Vars) -> Result<Vec<Sort>, NoMemory>
-    requires known { HaveStems stems.now names.now }
+    requires known { NamesHaveStems stems.now names.now }
     requires few { length names.now < 2 ^ 32 }
     ensures { IfOk result (λ v. HaveStemSorts stems.now names.now v.items) }
 {

@@ -15,11 +15,15 @@ use Rattle.sx_grammar.specs.Reading.{Reading, Readings, branch, bracket, leaf, v
 use Rattle.sx_grammar.specs.ReadOne.{IsAnswer, only}
 use Rattle.sx_grammar.proofs.Finding.{at_contains, contains_place}
 use Rattle.sx_earley.specs.Tokens.{Stems, plain_tokens}
-use Rattle.sx_earley.specs.Completed.{number_of}
-use Rattle.sx_forest.specs.Text.{texts}
+use Rattle.sx_earley.specs.Completed.{sort_number}
+use Rattle.sx_forest.specs.Text.{token_texts}
 use Rattle.sx_forest.specs.Names.{IsMetavariable, IsMarked, AreMarked, names_in, names_of, AddsEach}
 use Rattle.sx_notation.specs.declared.notation_error.NotationError.{NotationError}
-use Rattle.sx_notation.specs.declared.notation_error.NotationError.TheVariants.{Memory, NotUtf8, Notation, Token as BadTokens, Grammar, Read, Rules}
+use Rattle.sx_notation.specs.declared.notation_error.NotationError.TheVariants.{Memory, NotUtf8}
+use Rattle.sx_notation.specs.declared.notation_error.NotationError.TheVariants.{Notation}
+use Rattle.sx_notation.specs.declared.notation_error.NotationError.TheVariants.{Token as BadTokens}
+use Rattle.sx_notation.specs.declared.notation_error.NotationError.TheVariants.{Grammar, Read}
+use Rattle.sx_notation.specs.declared.notation_error.NotationError.TheVariants.{Rules}
 use Rattle.sx_notation.specs.ReadText.{IsUncut, IsUnreadLine}
 use Rattle.sx_notation.specs.ReadAmong.{IsNamed, IsNamedCut, IsReadAmong, IsRefusedAmong}
 use Rattle.sx_notation.specs.ReadLaws.{AmongIsRead}
@@ -51,7 +55,7 @@ module _ (names new : List Text) (name : Text) (n : ℕ) (added : IsAdded names 
 
 -- ---- the names in a reading
 
-variable_named : (names : List Text) (ts : List Token) (n : ℕ) → IsMetavariable (slice_get ts n) → AllByRecursion (IsNamed names) ts → Contains names (without_tilde (slice_index_or (texts ts) n []))
+variable_named : (names : List Text) (ts : List Token) (n : ℕ) → IsMetavariable (slice_get ts n) → AllByRecursion (IsNamed names) ts → Contains names (without_tilde (slice_index_or (token_texts ts) n []))
 variable_named names [] n h all = absurd h
 variable_named names (t ∷ ts) zero h all = all.0 h
 variable_named names (t ∷ ts) (suc n) h all = variable_named names ts n h all.1
@@ -93,7 +97,7 @@ none_added names (n ∷ ns) all =
 -- ---- lines
 
 module _ (p : Parts) (stems : Stems) (line : Text) (names : List Text) (ts : List Token) (cut : IsNamedCut p stems names line ts) (sort : Sort) (r : Reading)
-    (answer : IsAnswer (numbered p) (plain_tokens stems ts) (number_of sort) (only r)) where
+    (answer : IsAnswer (numbered p) (plain_tokens stems ts) (sort_number sort) (only r)) where
   all_there : AllByRecursion (Contains names) (names_in ts r)
   all_there = reading_named names ts cut.1 r (is_marked p stems line ts cut.0 sort r answer)
 

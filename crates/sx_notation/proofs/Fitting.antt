@@ -26,7 +26,7 @@ use Rattle.sx_rules.specs.Modes.{Goal}
 use Rattle.sx_rules.specs.Views.{FormData, form, forms, places_or_none, places_at, is_out, modes_of}
 use Rattle.sx_notation.specs.Forms.{HasForms, HaveFits, MayFit, GoalFits}
 use Rattle.sx_notation.specs.GoalText.{contents, printer, symbols_of, form_label, goal_tokens}
-use Rattle.sx_notation.specs.Placed.{shown, IsPuttable, ArePuttable}
+use Rattle.sx_notation.specs.Placed.{shown_term, IsPuttable, ArePuttable}
 
 -- there are as many parts as sorts of parts
 parts_length : (sorts : List SortLine) (symbols : List Symbol) → length (flat_map (kid_sorts sorts) symbols) ≡ parts_in symbols
@@ -71,7 +71,7 @@ module _ (p : Parts) (known : List FormData) (goal : Goal) (m : ℕ) (q : Number
 
   -- as many parts as contents
   pub as_many : (variables : ℕ) (got : Option (List Tree)) (here : List (Option (Bor Term))) → HasForms p known → GoalFits (numbered p) variables known goal got
-      → map shown here ≡ contents (modes_of known goal.form) goal.terms (unwrap_or got []) → parts_in (map (symbol (literals_of p)) ss) ≡ length here
+      → map shown_term here ≡ contents (modes_of known goal.form) goal.terms (unwrap_or got []) → parts_in (map (symbol (literals_of p)) ss) ≡ length here
   as_many variables got here has fits is =
       let at = has.each goal.form fits.form fits.is in
       let one : Some at.0 ≡ Some (production (literals_of p) q) = sym at.1 ∙ found in
@@ -79,7 +79,7 @@ module _ (p : Parts) (known : List FormData) (goal : Goal) (m : ℕ) (q : Number
       let left : parts_in (map (symbol (literals_of p)) ss) ≡ length fits.form.places =
       ap (λ x. parts_in (map (symbol (literals_of p)) x)) symbols ∙ sym (ap (λ x. parts_in x.symbols) r) ∙ sym (parts_length p.sorts at.0.symbols) ∙ ap length at.2 ∙ length-map fits.form.places (λ place. place.sort) in
       let right : length here ≡ length fits.form.places =
-      sym (length-map here shown) ∙ ap length is ∙ contents_length (modes_of known goal.form) goal.terms (unwrap_or got [])
+      sym (length-map here shown_term) ∙ ap length is ∙ contents_length (modes_of known goal.form) goal.terms (unwrap_or got [])
       ∙ length-map (places_at known goal.form) (λ place. is_out place.role) ∙ ap (λ x. length (places_or_none x)) fits.is in
       left ∙ sym right
 
@@ -113,7 +113,7 @@ contents_puttable g variables (true ∷ outs) ins os h k = (first_built g variab
 
 -- what stands at the places of a goal that fits can be put
 pub puttable : (g : Grammar) (variables : ℕ) (known : List FormData) (goal : Goal) (got : Option (List Tree)) (here : List (Option (Bor Term))) → GoalFits g variables known goal got → AreShallow goal.terms → AreShallow (unwrap_or got [])
-    → map shown here ≡ contents (modes_of known goal.form) goal.terms (unwrap_or got []) → ArePuttable g variables (map shown here)
+    → map shown_term here ≡ contents (modes_of known goal.form) goal.terms (unwrap_or got []) → ArePuttable g variables (map shown_term here)
 puttable g variables known goal got here fits shallow outputs is =
     subst (ArePuttable g variables) (sym is) (contents_puttable g variables (modes_of known goal.form) goal.terms (unwrap_or got [])
     (fits_built g variables fits.stems fits.named _ goal.terms fits.inputs_fit shallow)

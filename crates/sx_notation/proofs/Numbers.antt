@@ -9,7 +9,7 @@ use Rattle.sx_grammar.specs.Told.{sort_with}
 use Rattle.sx_term.specs.declared.sort.Sort.{Sort}
 use Rattle.sx_directives.specs.declared.spelled.SpelledSort.{SpelledSort}
 use Rattle.sx_directives.specs.declared.spelled.SpelledSort.TheVariants.{Named}
-use Rattle.sx_notation.specs.RuleLaws.{IsSortOf, sort_of}
+use Rattle.sx_notation.specs.RuleLaws.{IsSpelledSort, spelled_sort}
 use Rattle.sx_grammar.proofs.Finding.{at_contains, named_at}
 
 -- the number of a name in a grammar
@@ -19,9 +19,9 @@ number_is p name n is at =
     is.0.0.0.0.0.1 (number_of (names p) name) n name (named_at (names p) name (λ missing. missing has)) at
 
 -- a sort by its name
-pub named_sort : (p : Parts) (spelled : SpelledSort) (name : Text) (least n : ℕ) (s : Sort) → IsGrammar p → spelled ≡ Named name least → slice_get (names p) n ≡ Some name → s ≡ sort_with p.sorts n → IsSortOf p spelled × (s ≡ sort_of p spelled)
+pub named_sort : (p : Parts) (spelled : SpelledSort) (name : Text) (least n : ℕ) (s : Sort) → IsGrammar p → spelled ≡ Named name least → slice_get (names p) n ≡ Some name → s ≡ sort_with p.sorts n → IsSpelledSort p spelled × (s ≡ spelled_sort p spelled)
 named_sort p spelled name least n s is spells at e =
-    (subst (IsSortOf p) (sym spells) (at_contains (names p) n name at), e ∙ ap (sort_with p.sorts) (sym (number_is p name n is at)) ∙ sym (ap (sort_of p) spells))
+    (subst (IsSpelledSort p) (sym spells) (at_contains (names p) n name at), e ∙ ap (sort_with p.sorts) (sym (number_is p name n is at)) ∙ sym (ap (spelled_sort p) spells))
 
 -- one more of a list
 pub all_more : {X : Type 0} (P : X → Type 0) (xs : List X) (i : ℕ) (x : X) → i < length xs → x ≡ get_or xs i x → AllByRecursion P (take i xs) → P x → AllByRecursion P (take (suc i) xs)

@@ -9,14 +9,16 @@ use Rattle.sx_token.specs.declared.token.Token.{Token}
 use Rattle.sx_grammar.specs.Grammar.{Text}
 use Rattle.sx_grammar.specs.Parts.{Parts, labels, numbered}
 use Rattle.sx_grammar.specs.Reading.{Reading}
-use Rattle.sx_grammar.specs.ReadOne.{ReadAnswer, IsAnswer, SameAnswer, only, too_hard, no_reading, too_deep, ambiguous}
+use Rattle.sx_grammar.specs.ReadOne.{ReadAnswer, IsAnswer, SameAnswer, only, too_hard, no_reading}
+use Rattle.sx_grammar.specs.ReadOne.{too_deep, ambiguous}
 use Rattle.sx_grammar.proofs.Answering.{answers_agree}
 use Rattle.sx_earley.specs.Tokens.{Stems, plain_tokens}
-use Rattle.sx_earley.specs.Completed.{number_of}
-use Rattle.sx_forest.specs.Text.{texts, tree_text}
+use Rattle.sx_earley.specs.Completed.{sort_number}
+use Rattle.sx_forest.specs.Text.{token_texts, tree_text}
 use Rattle.sx_forest.specs.Verdict.{IsNotAfter}
 use Rattle.sx_notation.specs.declared.unread.Unread.{Unread}
-use Rattle.sx_notation.specs.declared.unread.Unread.TheVariants.{TooHard, NoReading, TooDeep, Ambiguous}
+use Rattle.sx_notation.specs.declared.unread.Unread.TheVariants.{TooHard, NoReading, TooDeep}
+use Rattle.sx_notation.specs.declared.unread.Unread.TheVariants.{Ambiguous}
 use Rattle.sx_notation.specs.WhyUnread.{IsUnreadAs, AreTwo, place_in}
 use Rattle.sx_notation.specs.OneReason.{HasReading, HaveThree, ShowTwo, OneReason}
 use Rattle.sx_notation.proofs.SameReadings.{same_reading}
@@ -32,13 +34,13 @@ in_order a b le ge = tied a b (slice_cmp nat_cmp a b) refl le (sym (ap is_le (na
 
 module _ (p : Parts) (stems : Stems) (sort : Sort) (ts : List Token) where
   abbrev Answers : ReadAnswer → Type 0
-  Answers a = IsAnswer (numbered p) (plain_tokens stems ts) (number_of sort) a
+  Answers a = IsAnswer (numbered p) (plain_tokens stems ts) (sort_number sort) a
 
   answer_one : (a b : ReadAnswer) → Answers a → Answers b → SameAnswer a b
-  answer_one = answers_agree (numbered p) (plain_tokens stems ts) (number_of sort)
+  answer_one = answers_agree (numbered p) (plain_tokens stems ts) (sort_number sort)
 
   abbrev text_of : Reading → Text
-  text_of r = tree_text (labels p) (texts ts) r
+  text_of r = tree_text (labels p) (token_texts ts) r
 
   abbrev Result : (one other some more : Text) → Type 0
   Result one other some more = (Ambiguous one other ≡ Ambiguous some more) ⊎ HaveThree p stems sort ts

@@ -8,16 +8,18 @@ use Rattle.sx_term.specs.declared.lex_kind.LexKind.TheVariants.{Id, Num, Str}
 use Rattle.sx_term.specs.declared.mark.Mark.{Mark}
 use Rattle.sx_term.specs.declared.mark.Mark.TheVariants.{Lit, Lex, Meta}
 use Rattle.sx_term.specs.Tree.{depth_of, greatest_depth}
-use Rattle.sx_term.specs.Cutting.{is_in_string, IsMaximalRun, Piece, Stands, Cuts, done, skip, piece}
+use Rattle.sx_term.specs.Cutting.{is_in_string, IsMaximalRun, Piece, Stands, Cuts, done, skip}
+use Rattle.sx_term.specs.Cutting.{piece}
 use Rattle.sx_term.specs.Spaced.{IsTokenText}
 use Rattle.sx_token.specs.declared.token.Token.{Token}
 use Rattle.sx_token.specs.Tokens.{pieces}
 use Rattle.sx_grammar.specs.Grammar as plain
 use Rattle.sx_grammar.specs.Grammar.{Text}
 use Rattle.sx_grammar.specs.Tables.{literals_of}
-use Rattle.sx_grammar.specs.Reading.{Reading, Readings, reading_depth, readings_depth, branch, bracket, leaf, variable, done as no_readings, ◌▸◌}
+use Rattle.sx_grammar.specs.Reading.{Reading, Readings, reading_depth, readings_depth, branch}
+use Rattle.sx_grammar.specs.Reading.{bracket, leaf, variable, done as no_readings, ◌▸◌}
 use Rattle.sx_grammar.specs.Print.{leaf_term, mark_term, variable_term, term_of, terms_of}
-use Rattle.sx_earley.specs.Tokens.{Stems, shown, plain_tokens}
+use Rattle.sx_earley.specs.Tokens.{Stems, read_token, plain_tokens}
 use Rattle.sx_print.specs.Cut.{HasLexemes, HaveLexemes}
 use Rattle.sx_notation.specs.ReadLaws.{ReadsHaveLexemes, ReadsAreShallow}
 
@@ -69,7 +71,7 @@ tokens_lexed literals (t ∷ ts) h = (h.0, tokens_lexed literals ts h.1)
 pub cut_lexed : (literals : List Text) (metas : Bool) (size : ℕ) (text : Text) (ts : List Token) → Cuts literals metas size text (pieces ts) [] → AreLexed literals ts
 cut_lexed literals metas size text ts cuts = tokens_lexed literals ts (pieces_lexed cuts)
 
-marked_lexemes : (literals : List Text) (stems : Stems) (m : Mark) (text : Text) → IsLexed literals m text → HasLexemes literals (mark_term (shown stems m text).mark (shown stems m text).text)
+marked_lexemes : (literals : List Text) (stems : Stems) (m : Mark) (text : Text) → IsLexed literals m text → HasLexemes literals (mark_term (read_token stems m text).mark (read_token stems m text).text)
 marked_lexemes literals stems (Lit n) text h = tt
 marked_lexemes literals stems (Lex kind) text h = h kind refl
 marked_lexemes literals stems Meta text h = tt

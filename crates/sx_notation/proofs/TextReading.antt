@@ -12,14 +12,18 @@ use Rattle.sx_grammar.specs.Parts.{Parts, numbered}
 use Rattle.sx_grammar.specs.Reading.{Reading}
 use Rattle.sx_grammar.specs.ReadOne.{IsAnswer, only}
 use Rattle.sx_grammar.specs.Print.{term_of}
-use Rattle.sx_earley.specs.Tokens.{Stems, shown, plain_tokens}
-use Rattle.sx_earley.specs.Completed.{number_of}
+use Rattle.sx_earley.specs.Tokens.{Stems, read_token, plain_tokens}
+use Rattle.sx_earley.specs.Completed.{sort_number}
 use Rattle.sx_forest.specs.Names.{IsMarked, names_in, AddsEach}
 use Rattle.sx_forest.proofs.Fits.{readings_marked, readings_few}
 use Rattle.sx_forest.proofs.Naming.{each_long}
 use Rattle.sx_notation.specs.declared.notation_error.NotationError.{NotationError}
-use Rattle.sx_notation.specs.declared.notation_error.NotationError.TheVariants.{Memory, NotUtf8, Notation, Token as BadTokens, Grammar, Read, Rules}
-use Rattle.sx_notation.specs.ReadText.{IsKnownCut, IsRead, IsUncut, IsRefused}
+use Rattle.sx_notation.specs.declared.notation_error.NotationError.TheVariants.{Memory, NotUtf8}
+use Rattle.sx_notation.specs.declared.notation_error.NotationError.TheVariants.{Notation}
+use Rattle.sx_notation.specs.declared.notation_error.NotationError.TheVariants.{Token as BadTokens}
+use Rattle.sx_notation.specs.declared.notation_error.NotationError.TheVariants.{Grammar, Read}
+use Rattle.sx_notation.specs.declared.notation_error.NotationError.TheVariants.{Rules}
+use Rattle.sx_notation.specs.ReadText.{IsKnownCut, IsReadLine, IsUncut, IsTextRefused}
 
 -- what follows of an error that is passed on
 pub err_if : {T E : Type 0} (r : Result T E) (P Q : E → Type 0) → IsErrAnd r P → ((e : E) → P e → Q e) → IfErr r Q
@@ -34,11 +38,11 @@ pub known_at : (p : Parts) (stems : Stems) (line : Text) (items ts : List Token)
 known_at p stems line items ts same known = subst (IsKnownCut p stems line) (sym same) known
 
 pub answer_at : (p : Parts) (stems : Stems) (sort : Sort) (r : Reading) (items here ts : List Token) → here ≡ items → ts ≡ items →
-    IsAnswer (numbered p) (plain_tokens stems here) (number_of sort) (only r) → IsAnswer (numbered p) (plain_tokens stems ts) (number_of sort) (only r)
-answer_at p stems sort r items here ts was same answer = subst (λ l. IsAnswer (numbered p) (plain_tokens stems l) (number_of sort) (only r)) (was ∙ sym same) answer
+    IsAnswer (numbered p) (plain_tokens stems here) (sort_number sort) (only r) → IsAnswer (numbered p) (plain_tokens stems ts) (sort_number sort) (only r)
+answer_at p stems sort r items here ts was same answer = subst (λ l. IsAnswer (numbered p) (plain_tokens stems l) (sort_number sort) (only r)) (was ∙ sym same) answer
 
 -- a line without tokens is refused
-pub uncut_refused : (p : Parts) (stems : Stems) (sort : Sort) (line : Text) (number : ℕ) (e : NotationError) → IsUncut p stems line number e → IsRefused p stems sort line number e
+pub uncut_refused : (p : Parts) (stems : Stems) (sort : Sort) (line : Text) (number : ℕ) (e : NotationError) → IsUncut p stems line number e → IsTextRefused p stems sort line number e
 uncut_refused p stems sort line number Memory h = tt
 uncut_refused p stems sort line number (NotUtf8 place) h = absurd h
 uncut_refused p stems sort line number (Notation at kind) h = h
@@ -51,14 +55,14 @@ module _ (p : Parts) (stems : Stems) (line : Text) (ts : List Token) (known : Is
   pub few_tokens : length ts ≤ 10000
   few_tokens = as_many_tokens ts 10000 known.0.1
 
-  module _ (sort : Sort) (r : Reading) (answer : IsAnswer (numbered p) (plain_tokens stems ts) (number_of sort) (only r)) where
+  module _ (sort : Sort) (r : Reading) (answer : IsAnswer (numbered p) (plain_tokens stems ts) (sort_number sort) (only r)) where
     pub is_marked : IsMarked ts r
-    is_marked = readings_marked (numbered p) stems ts (number_of sort) 0 0 (length (plain_tokens stems ts)) r answer.1.0
+    is_marked = readings_marked (numbered p) stems ts (sort_number sort) 0 0 (length (plain_tokens stems ts)) r answer.1.0
 
     few_names : length (names_in ts r) ≤ 10000
     few_names =
-        let few : 0 + length (names_in ts r) ≤ length (plain_tokens stems ts) = readings_few (numbered p) (plain_tokens stems ts) ts (number_of sort) 0 0 (length (plain_tokens stems ts)) r answer.1.0 in
-        let same : length (plain_tokens stems ts) ≡ length ts = length-map ts (λ t. shown stems t.mark t.text) in
+        let few : 0 + length (names_in ts r) ≤ length (plain_tokens stems ts) = readings_few (numbered p) (plain_tokens stems ts) ts (sort_number sort) 0 0 (length (plain_tokens stems ts)) r answer.1.0 in
+        let same : length (plain_tokens stems ts) ≡ length ts = length-map ts (λ t. read_token stems t.mark t.text) in
         omega (arith, few, same, few_tokens)
 
     -- there is room for the names
@@ -70,7 +74,7 @@ module _ (p : Parts) (stems : Stems) (line : Text) (ts : List Token) (known : Is
       grown = omega (arith, each_long old (names_in ts r) new names, few_names)
 
       -- the term of the reading is that of the line
-      pub is_read : (t : Tree) → t ≡ term_of (plain_tokens stems ts) (new ++ []) r → IsRead p stems sort line old new t
+      pub is_read : (t : Tree) → t ≡ term_of (plain_tokens stems ts) (new ++ []) r → IsReadLine p stems sort line old new t
       is_read t is = record {
         tokens = ts;
         known = known;

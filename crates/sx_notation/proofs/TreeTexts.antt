@@ -11,9 +11,10 @@ use Rattle.sx_grammar.specs.Grammar.{Text}
 use Rattle.sx_grammar.specs.Parts.{Parts, numbered, labels, line, parts}
 use Rattle.sx_grammar.specs.declared.production.Production.{Production}
 use Rattle.sx_grammar.specs.declared.grammar_parts.GrammarParts.{GrammarParts}
-use Rattle.sx_grammar.specs.Reading.{Reading, Readings, ReadsWhole, branch, bracket, leaf, variable, done, ◌▸◌}
-use Rattle.sx_earley.specs.Tokens.{Stems, shown, plain_tokens}
-use Rattle.sx_earley.specs.Completed.{number_of}
+use Rattle.sx_grammar.specs.Reading.{Reading, Readings, ReadsWhole, branch, bracket, leaf, variable}
+use Rattle.sx_grammar.specs.Reading.{done, ◌▸◌}
+use Rattle.sx_earley.specs.Tokens.{Stems, read_token, plain_tokens}
+use Rattle.sx_earley.specs.Completed.{sort_number}
 use Rattle.sx_forest.specs.Text.{tree_text, kids_text, others_text, IsWithin}
 use Rattle.sx_forest.specs.Readings.{plain_reading}
 use Rattle.sx_forest.specs.declared.read_error.ReadError.{ReadError}
@@ -59,10 +60,10 @@ module _ (labels texts : List Text) (names : AllByRecursion IsUtf8 labels) (toke
         (IsUtf8-append (tree_text labels texts kid) (others_text labels texts others) (tree_utf8 kid) (others_utf8 others))
 
 -- what reads all tokens has labels and tokens that are there
-pub whole_within : (p : Parts) (stems : Stems) (sort : Sort) (ts : List Token) (r : Reading) → ReadsWhole (numbered p) (plain_tokens stems ts) (number_of sort) r → IsWithin (length p.productions) (length ts) r
+pub whole_within : (p : Parts) (stems : Stems) (sort : Sort) (ts : List Token) (r : Reading) → ReadsWhole (numbered p) (plain_tokens stems ts) (sort_number sort) r → IsWithin (length p.productions) (length ts) r
 whole_within p stems sort ts r reads =
-    subst (λ n. IsWithin (length p.productions) n r) (length-map ts (λ t. shown stems t.mark t.text))
-    (readings_within p (plain_tokens stems ts) (number_of sort) 0 0 (length (plain_tokens stems ts)) r reads)
+    subst (λ n. IsWithin (length p.productions) n r) (length-map ts (λ t. read_token stems t.mark t.text))
+    (readings_within p (plain_tokens stems ts) (sort_number sort) 0 0 (length (plain_tokens stems ts)) r reads)
 
 label_lines : (ps : List Production) → AllByRecursion IsUtf8 (map (λ r. r.label) ps) → AllByRecursion IsUtf8 (map (λ r. r.label) (map line ps))
 label_lines [] all = tt

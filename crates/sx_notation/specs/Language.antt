@@ -13,7 +13,7 @@ use Rattle.sx_term.specs.declared.role.Role.{Role}
 use Rattle.sx_term.specs.declared.role.Role.TheVariants.{In, Sub, Out}
 use Rattle.sx_rules.specs.declared.rule.Place.{Place}
 use Rattle.sx_rules.specs.Rules.{Premise, holds, apart}
-use Rattle.sx_rules.specs.Subjects.{is_typed}
+use Rattle.sx_rules.specs.Subjects.{is_typed_sort}
 use Rattle.sx_rules.specs.Views.{FormData, NamedRule, is_sub}
 use Rattle.sx_rules.specs.Sets.{shapes_in, forms_in, rules_in}
 use Rattle.sx_directives.specs.declared.rows.FormLine.{FormLine}
@@ -35,7 +35,7 @@ sorts_with role places = flat_map (λ p. sort_when role p.role p.sort) places
 
 -- a subject's sort is typed, and that of another place is not
 abbrev pub PlaceFits : Place → Type 0
-PlaceFits p = is_typed (Some p.sort) ≡ is_sub p.role
+PlaceFits p = is_typed_sort (Some p.sort) ≡ is_sub p.role
 
 -- so it is of each place of the form, and at most one is a subject
 abbrev pub FormFits : FormData → Type 0

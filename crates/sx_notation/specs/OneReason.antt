@@ -6,14 +6,14 @@ use Rattle.sx_grammar.specs.Grammar.{Text}
 use Rattle.sx_grammar.specs.Parts.{Parts, numbered}
 use Rattle.sx_grammar.specs.Reading.{Reading, ReadsWhole}
 use Rattle.sx_earley.specs.Tokens.{Stems, plain_tokens}
-use Rattle.sx_earley.specs.Completed.{number_of}
+use Rattle.sx_earley.specs.Completed.{sort_number}
 use Rattle.sx_notation.specs.declared.unread.Unread.{Unread}
 use Rattle.sx_notation.specs.declared.unread.Unread.TheVariants.{Ambiguous}
 use Rattle.sx_notation.specs.WhyUnread.{IsUnreadAs}
 
 -- the tokens have this reading as the sort
 abbrev pub HasReading : Parts → Stems → Sort → List Token → Reading → Type 0
-HasReading p stems sort ts r = ReadsWhole (numbered p) (plain_tokens stems ts) (number_of sort) r
+HasReading p stems sort ts r = ReadsWhole (numbered p) (plain_tokens stems ts) (sort_number sort) r
 
 -- they have more than two readings
 pub record HaveThree (p : Parts) (stems : Stems) (sort : Sort) (ts : List Token) : Type 0 where

@@ -11,8 +11,8 @@ use Rattle.std.specs.Prelude.{ℕ}
 use Rattle.sx_term.specs.Limits.{most_depth}
 
 -- the term, if there is one
-abbrev pub shown : Option (Bor Term) → Option Tree
-shown content = option_map (λ r. tree r.now) content
+abbrev pub shown_term : Option (Bor Term) → Option Tree
+shown_term content = option_map (λ r. tree r.now) content
 
 -- the term, if there is one, is at most 1,000 deep and built by the grammar
 abbrev pub IsPuttable : Grammar → ℕ → Option Tree → Type 0

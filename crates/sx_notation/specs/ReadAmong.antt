@@ -12,11 +12,11 @@ use Rattle.sx_grammar.specs.Reading.{Reading}
 use Rattle.sx_grammar.specs.ReadOne.{IsAnswer, only}
 use Rattle.sx_grammar.specs.Print.{term_of}
 use Rattle.sx_earley.specs.Tokens.{Stems, plain_tokens}
-use Rattle.sx_earley.specs.Unknown.{IsUnknown}
-use Rattle.sx_earley.specs.Completed.{number_of}
+use Rattle.sx_earley.specs.Unknown.{IsUnknownStem}
+use Rattle.sx_earley.specs.Completed.{sort_number}
 use Rattle.sx_lines.specs.declared.kind.Kind.TheVariants.{Variable}
 use Rattle.sx_notation.specs.WhyUnread.{IsUnreadAs}
-use Rattle.sx_notation.specs.ReadText.{IsCut, IsKnownCut, HasDefect}
+use Rattle.sx_notation.specs.ReadText.{IsLineCut, IsKnownCut, HasDefect}
 use Rattle.sx_notation.specs.declared.notation_error.NotationError.{NotationError}
 use Rattle.sx_notation.specs.declared.notation_error.NotationError.TheVariants.{Memory, Notation}
 use Rattle.sx_notation.specs.declared.notation_error.NotationError.TheVariants.{Token as BadTokens}
@@ -41,13 +41,13 @@ pub record IsReadAmong (p : Parts) (stems : Stems) (sort : Sort) (line : Text) (
   pub tokens : List Token
   pub cut : IsNamedCut p stems names line tokens
   pub reading : Reading
-  pub answer : IsAnswer (numbered p) (plain_tokens stems tokens) (number_of sort) (only reading)
+  pub answer : IsAnswer (numbered p) (plain_tokens stems tokens) (sort_number sort) (only reading)
   pub term : t ≡ term_of (plain_tokens stems tokens) names reading
 
 -- a metavariable among the tokens of the line has an unknown stem or none of the names
 abbrev pub HasStranger : Parts → Stems → (names : List Text) → (line : Text) → Type 0
-HasStranger p stems names line = (ts : List Token) × (t : Token) × IsCut p line ts ×
-    Contains ts t × (IsUnknown stems t ⊎ IsUnnamed names t)
+HasStranger p stems names line = (ts : List Token) × (t : Token) × IsLineCut p line ts ×
+    Contains ts t × (IsUnknownStem stems t ⊎ IsUnnamed names t)
 
 -- why the line with this number is refused, out of memory aside
 abbrev pub IsRefusedAmong : Parts → Stems → Sort → (line : Text) → (names : List Text) →

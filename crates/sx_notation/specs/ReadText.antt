@@ -15,7 +15,7 @@ use Rattle.sx_grammar.specs.ReadOne.{IsAnswer, only}
 use Rattle.sx_grammar.specs.Print.{term_of}
 use Rattle.sx_earley.specs.Tokens.{Stems, plain_tokens}
 use Rattle.sx_earley.specs.Unknown.{HaveStems, IsFirstUnknown}
-use Rattle.sx_earley.specs.Completed.{number_of}
+use Rattle.sx_earley.specs.Completed.{sort_number}
 use Rattle.sx_forest.specs.Names.{names_in, AddsEach}
 use Rattle.sx_lines.specs.declared.kind.Kind.TheVariants.{Variable}
 use Rattle.sx_notation.specs.WhyUnread.{IsUnreadAs}
@@ -30,21 +30,21 @@ pub record ReaderData : Type 0 where
   pub stems : Stems
 
 -- the line is cut into the tokens, by the literals of the grammar; metavariables may stand in it
-abbrev pub IsCut : Parts → (line : Text) → List Token → Type 0
-IsCut p line ts = IsOutcome (literals_of p) true line (tokens (pieces ts))
+abbrev pub IsLineCut : Parts → (line : Text) → List Token → Type 0
+IsLineCut p line ts = IsOutcome (literals_of p) true line (tokens (pieces ts))
 
 -- and the stem of each metavariable is known
 abbrev pub IsKnownCut : Parts → Stems → (line : Text) → List Token → Type 0
-IsKnownCut p stems line ts = IsCut p line ts × HaveStems stems ts
+IsKnownCut p stems line ts = IsLineCut p line ts × HaveStems stems ts
 
 -- the tree is that of the line's only reading as the sort; names that the old list lacks are added
 -- to it in order of standing
-pub record IsRead (p : Parts) (stems : Stems) (sort : Sort) (line : Text) (old new : List Text)
+pub record IsReadLine (p : Parts) (stems : Stems) (sort : Sort) (line : Text) (old new : List Text)
     (t : Tree) : Type 0 where
   pub tokens : List Token
   pub known : IsKnownCut p stems line tokens
   pub reading : Reading
-  pub answer : IsAnswer (numbered p) (plain_tokens stems tokens) (number_of sort) (only reading)
+  pub answer : IsAnswer (numbered p) (plain_tokens stems tokens) (sort_number sort) (only reading)
   pub names : AddsEach old (names_in tokens reading) new
   pub term : t ≡ term_of (plain_tokens stems tokens) new reading
 
@@ -55,7 +55,7 @@ HasDefect p line e = IfSome (outcome_of (Err e)) (IsOutcome (literals_of p) true
 
 -- a metavariable among the tokens of the line has an unknown stem
 abbrev pub HasUnknown : Parts → Stems → (line : Text) → Type 0
-HasUnknown p stems line = (ts : List Token) × (place : ℕ) × IsCut p line ts ×
+HasUnknown p stems line = (ts : List Token) × (place : ℕ) × IsLineCut p line ts ×
     IsFirstUnknown stems ts (Some place)
 
 -- why the line with this number has no tokens whose stems are known, out of memory aside
@@ -67,14 +67,15 @@ IsUncut p stems line number (Notation at kind) = (at ≡ number) × (kind ≡ Va
 IsUncut p stems line number _ = ⊥
 
 -- why the line with this number is refused, out of memory aside
-abbrev pub IsRefused : Parts → Stems → Sort → (line : Text) → (number : ℕ) → NotationError → Type 0
-IsRefused p stems sort line number Memory = Unit {0}
-IsRefused p stems sort line number (BadTokens at e) = (at ≡ number) × HasDefect p line e
-IsRefused p stems sort line number (Notation at kind) = (at ≡ number) × (kind ≡ Variable) ×
+abbrev pub IsTextRefused : Parts → Stems → Sort → (line : Text) → (number : ℕ) → NotationError →
+    Type 0
+IsTextRefused p stems sort line number Memory = Unit {0}
+IsTextRefused p stems sort line number (BadTokens at e) = (at ≡ number) × HasDefect p line e
+IsTextRefused p stems sort line number (Notation at kind) = (at ≡ number) × (kind ≡ Variable) ×
     HasUnknown p stems line
-IsRefused p stems sort line number (Read at e) = (at ≡ number) ×
+IsTextRefused p stems sort line number (Read at e) = (at ≡ number) ×
     ((ts : List Token) × IsKnownCut p stems line ts × IsUnreadAs p stems sort ts (length line) e)
-IsRefused p stems sort line number _ = ⊥
+IsTextRefused p stems sort line number _ = ⊥
 
 -- the tokens of a line of so many bytes have not one reading, out of memory aside
 abbrev pub IsUnreadLine : Parts → Stems → Sort → List Token → (size : ℕ) → (number : ℕ) →
@@ -85,6 +86,6 @@ IsUnreadLine p stems sort ts size number (Read at e) = (at ≡ number) ×
 IsUnreadLine p stems sort ts size number _ = ⊥
 
 -- a defect as a refusal of the line with this number
-abbrev pub of_token_error : (number : ℕ) → TokenError → NotationError
-of_token_error number token.Memory = Memory
-of_token_error number e = BadTokens number e
+abbrev pub line_token_error : (number : ℕ) → TokenError → NotationError
+line_token_error number token.Memory = Memory
+line_token_error number e = BadTokens number e

@@ -23,28 +23,28 @@ use Rattle.sx_notation.specs.RuleParts.{rule_parts}
 use Rattle.sx_notation.specs.Forms.{HasForms, GoalFits}
 
 -- the sort that is spelled
-abbrev pub sort_of : Parts → SpelledSort → Sort
-sort_of p (Lexical kind) = Lex kind
-sort_of p (Named name least) = sort_with p.sorts (number_of (names p) name)
+abbrev pub spelled_sort : Parts → SpelledSort → Sort
+spelled_sort p (Lexical kind) = Lex kind
+spelled_sort p (Named name least) = sort_with p.sorts (number_of (names p) name)
 
 -- the place that the symbol of a form is; a literal is none
 abbrev pub places_of : Parts → FormSymbol → List PlaceOf
 places_of p (Lit text) = []
-places_of p (Place role sort) = record { role = role; sort = sort_of p sort } ∷ []
+places_of p (Place role sort) = record { role = role; sort = spelled_sort p sort } ∷ []
 
 -- the form that a line spells
 abbrev pub form_of : Parts → FormLine → FormData
 form_of p f = record { name = f.name; places = flat_map (places_of p) f.symbols.items }
 
 -- the sort that is spelled is lexical or one of the sorts
-abbrev pub IsSortOf : Parts → SpelledSort → Type 0
-IsSortOf p (Lexical kind) = Unit {0}
-IsSortOf p (Named name least) = Contains (names p) name
+abbrev pub IsSpelledSort : Parts → SpelledSort → Type 0
+IsSpelledSort p (Lexical kind) = Unit {0}
+IsSpelledSort p (Named name least) = Contains (names p) name
 
 -- so it is of a place; a literal has no sort
 abbrev pub HasSortOf : Parts → FormSymbol → Type 0
 HasSortOf p (Lit text) = Unit {0}
-HasSortOf p (Place role sort) = IsSortOf p sort
+HasSortOf p (Place role sort) = IsSpelledSort p sort
 
 -- so it is of the symbols of each form
 abbrev pub HaveSortsOf : Parts → List FormLine → Type 0

@@ -4,7 +4,7 @@ ghost use Rattle.std.specs.Prelude.{◌≡◌, map, option_map, unwrap_or, slice
 ghost use Rattle.sx_term.specs.Term.{tree};
 ghost use Rattle.sx_rules.specs.Views.{is_out};
 ghost use Rattle.sx_notation.specs.GoalText.{contents};
-ghost use Rattle.sx_notation.specs.Placed.{shown};
+ghost use Rattle.sx_notation.specs.Placed.{shown_term};
 
 use std::alloc::Global;
 use sx_rules::Place;
@@ -12,14 +12,14 @@ use sx_term::{NoMemory, Role, Term};
 
 /// The term with this number, or None where there is none.
 fn term_in(terms: &[Term], number: usize) -> Option<&Term>
-    ensures { shown result ≡ slice_get (map tree terms.now) number }
+    ensures { shown_term result ≡ slice_get (map tree terms.now) number }
 {
     terms.get(number)
 }
 
 /// The same of terms that may be absent.
 fn term_at<'a>(terms: Option<&'a Vec<Term>>, number: usize) -> Option<&'a Term>
-    ensures { shown result ≡ slice_get
+    ensures { shown_term result ≡ slice_get
         (unwrap_or (option_map (λ w. map tree w.now.items) terms.entry) []) number }
 {
     match terms {
@@ -36,7 +36,7 @@ pub(crate) fn contents<'a>(
     outputs: Option<&'a Vec<Term>>,
 ) -> Result<Vec<Option<&'a Term>>, NoMemory>
     ensures { IfOk result (λ v.
-        map shown v.items ≡ contents (map (λ p. is_out p.role) places.entry.now)
+        map shown_term v.items ≡ contents (map (λ p. is_out p.role) places.entry.now)
         (map tree inputs.entry.now)
         (unwrap_or (option_map (λ w. map tree w.now.items) outputs.entry) [])) }
 {

@@ -15,7 +15,7 @@ use sx_lines::Kind;
 pub fn read_directive(alloc: Global, line: &[u8], number: u32) -> Result<Directive, NotationError>
     ensures { MatchResult result (IsDirective line.now) (IsNoDirective line.now number) }
 {
-    match sx_directives::read_directive(alloc, line) {
+    match sx_directives::read_directive_row(alloc, line) {
         Ok(directive) => Ok(directive),
         Err(RowError::Memory) => Err(NotationError::Memory),
         Err(RowError::Shape) => Err(NotationError::Notation {

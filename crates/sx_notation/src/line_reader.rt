@@ -8,11 +8,12 @@ ghost use Rattle.sx_grammar.specs.Parts.{numbered};
 ghost use Rattle.sx_grammar.specs.ReadOne.{IsAnswer, only};
 ghost use Rattle.sx_earley.specs.Tokens.{Stems, plain_tokens};
 ghost use Rattle.sx_earley.specs.Unknown.{IsFirstUnknown};
-ghost use Rattle.sx_earley.specs.Completed.{IsSort, number_of};
+ghost use Rattle.sx_earley.specs.Completed.{IsSort, sort_number};
 ghost use Rattle.sx_forest.specs.Readings.{plain_reading};
 ghost use Rattle.sx_notation.specs.WhyUnread.{IsReadError};
-ghost use Rattle.sx_notation.specs.ReadText.{IsCut, IsKnownCut, IsRead, IsUncut, IsRefused};
-ghost use Rattle.sx_notation.specs.ReadText.{IsUnreadLine, of_token_error};
+ghost use Rattle.sx_notation.specs.ReadText.{IsLineCut, IsKnownCut, IsReadLine, IsUncut};
+ghost use Rattle.sx_notation.specs.ReadText.{IsTextRefused};
+ghost use Rattle.sx_notation.specs.ReadText.{IsUnreadLine, line_token_error};
 ghost use Rattle.sx_notation.specs.ReadAmong.{IsNamedCut, IsReadAmong, IsRefusedAmong};
 ghost use Rattle.sx_term.specs.Limits.{most_bytes, most_tokens};
 
@@ -52,7 +53,7 @@ impl<'a> Model for LineReader<'a> {
 
 /// The refusal of the line that has this defect.
 fn token_error(line: u32, error: TokenError) -> NotationError
-    ensures { result ≡ of_token_error line error }
+    ensures { result ≡ line_token_error line error }
 {
     match error {
         TokenError::Memory => NotationError::Memory,
@@ -89,7 +90,7 @@ fn cut_line(
     number: u32,
 ) -> Result<Vec<Token>, NotationError>
     requires { length line.now ≤ most_bytes }
-    ensures cut { IfOk result (λ ts. IsCut by.now.parts line.now ts.items) }
+    ensures cut { IfOk result (λ ts. IsLineCut by.now.parts line.now ts.items) }
     ensures refused { IfErr result (λ e. (stems : Stems) →
         IsUncut by.now.parts stems line.now number e) }
 {
@@ -170,7 +171,7 @@ fn reading_of(
     requires known { (line : List ℕ) × IsKnownCut by.now.parts by.now.stems line tokens.now }
     ensures only { IfOk result
         (λ r. IsAnswer (numbered by.now.parts) (plain_tokens by.now.stems tokens.now)
-        (number_of sort) (only (plain_reading r))) }
+        (sort_number sort) (only (plain_reading r))) }
     ensures refused { IfErr result
         (IsUnreadLine by.now.parts by.now.stems sort tokens.now size number) }
 {
@@ -221,9 +222,10 @@ impl<'a> LineReader<'a> {
         requires short { length line.now ≤ most_bytes }
         requires room { length vars.now + most_tokens < 2 ^ 32 }
         ensures read { IfOk result
-            (λ t. IsRead self.now.parts self.now.stems sort line.now vars.old vars.new (tree t)) }
+            (λ t. IsReadLine self.now.parts self.now.stems sort line.now vars.old vars.new
+            (tree t)) }
         ensures refused { IfErr result
-            (IsRefused self.now.parts self.now.stems sort line.now number) }
+            (IsTextRefused self.now.parts self.now.stems sort line.now number) }
         ensures kept { OnErr result (vars.new ≡ vars.old) }
         ensures grows { length vars.new ≤ length vars.old + most_tokens }
     {

@@ -5,7 +5,8 @@ ghost use Rattle.std.specs.Prelude.{MatchOption};
 ghost use Rattle.std.specs.List.{AllByRecursion};
 ghost use Rattle.sx_grammar.specs.Told as told;
 ghost use Rattle.sx_rules.specs.Views as view;
-ghost use Rattle.sx_notation.specs.RuleLaws.{sort_of, places_of, form_of, IsSortOf, HasSortOf};
+ghost use Rattle.sx_notation.specs.RuleLaws.{spelled_sort, places_of, form_of, IsSpelledSort};
+ghost use Rattle.sx_notation.specs.RuleLaws.{HasSortOf};
 ghost use Rattle.sx_notation.specs.RuleLaws.{HaveSortsOf};
 
 use std::alloc::Global;
@@ -29,9 +30,9 @@ pub fn sort_with(grammar: &Grammar, number: u32) -> Sort
 
 /// The sort that is spelled, or None where the grammar has no such sort.
 fn sort_of(grammar: &Grammar, spelled: &SpelledSort) -> Option<Sort>
-    ensures { MatchOption result (¬ (IsSortOf grammar.now.parts spelled.now))
-        (λ s. IsSortOf grammar.now.parts spelled.now ×
-        (s ≡ sort_of grammar.now.parts spelled.now)) }
+    ensures { MatchOption result (¬ (IsSpelledSort grammar.now.parts spelled.now))
+        (λ s. IsSpelledSort grammar.now.parts spelled.now ×
+        (s ≡ spelled_sort grammar.now.parts spelled.now)) }
 {
     grammar.facts();
     match spelled {

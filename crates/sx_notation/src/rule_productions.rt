@@ -4,7 +4,7 @@ ghost use Rattle.std.specs.Prelude.{◌≡◌, ◌++◌, ◌∷◌, [], List, If
 ghost use Rattle.std.specs.Str.{IsUtf8};
 ghost use Rattle.sx_grammar.specs.Parts.{Parts, line, parts};
 ghost use Rattle.sx_grammar.specs.Extended.{widened};
-ghost use Rattle.sx_grammar.specs.Tables.{IsWithinLimits, IsMade};
+ghost use Rattle.sx_grammar.specs.Tables.{IsWithinLimits, IsGrammarMade};
 ghost use Rattle.sx_directives.specs.Spelling.{lex_text};
 ghost use Rattle.sx_directives.specs.declared.rows.FormLine.{FormLine as FormData};
 ghost use Rattle.sx_notation.specs.RuleParts.{symbol_for, judgement_sort, form_line, apart_line};
@@ -136,7 +136,8 @@ fn with_judgements(
     more: Vec<Production>,
 ) -> Result<Grammar, GrammarError>
     requires { IsWithinLimits (widened grammar.now.parts judgement_sort (map line more.items)) }
-    ensures { IsMade (widened grammar.now.parts judgement_sort (map line more.items)) result }
+    ensures { IsGrammarMade (widened grammar.now.parts judgement_sort
+        (map line more.items)) result }
 {
     match judgement_sort(alloc) {
         Ok(sort) => Grammar::with_sort(alloc, grammar, sort, more),
@@ -157,7 +158,7 @@ pub fn rule_grammar(
     forms: &[FormLine],
 ) -> Result<Grammar, GrammarError>
     requires { IsWithinLimits (rule_parts grammar.now.parts forms.now) }
-    ensures { IsMade (rule_parts grammar.now.parts forms.now) result }
+    ensures { IsGrammarMade (rule_parts grammar.now.parts forms.now) result }
 {
     let more = rule_productions(alloc, forms)?;
     with_judgements(alloc, grammar, more)
@@ -207,7 +208,7 @@ pub fn extended_rule_grammar(
         IsWithinLimits (rule_parts grammar.now.parts lines) }
     ensures { (lines : List FormData) (p : Parts) →
         rule_grammar.now.parts ≡ rule_parts p lines → length lines ≡ forms →
-        IsMade (rule_parts grammar.now.parts lines) result }
+        IsGrammarMade (rule_parts grammar.now.parts lines) result }
 {
     let more = last_productions(alloc, rule_grammar.parts(), forms)?;
     with_judgements(alloc, grammar, more)

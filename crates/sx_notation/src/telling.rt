@@ -8,7 +8,7 @@ ghost use Rattle.sx_grammar.specs.Parts.{labels};
 ghost use Rattle.sx_grammar.specs.Reading.{reading_depth};
 ghost use Rattle.sx_earley.specs.Tokens.{Stems};
 ghost use Rattle.sx_forest.specs.Readings.{plain_reading};
-ghost use Rattle.sx_forest.specs.Text.{texts, tree_text, IsWithin};
+ghost use Rattle.sx_forest.specs.Text.{token_texts, tree_text, IsWithin};
 ghost use Rattle.sx_notation.specs.WhyUnread.{place_in, IsUnreadAs, IsReadError};
 ghost use Rattle.sx_term.specs.Limits.{most_depth};
 
@@ -42,7 +42,7 @@ fn labels_are_texts(productions: &[Production])
 
 /// The texts of the tokens are UTF-8, which the walk over them shows.
 fn tokens_are_texts(tokens: &[Token])
-    ensures { AllByRecursion IsUtf8 (texts tokens.now) }
+    ensures { AllByRecursion IsUtf8 (token_texts tokens.now) }
 {
     for i in 0..tokens.len() {
         let token = &tokens[i];
@@ -60,7 +60,7 @@ fn tree_text(
     requires depth { reading_depth (plain_reading reading.now) ≤ most_depth }
     requires within { IsWithin (length grammar.now.parts.productions) (length tokens.now)
         (plain_reading reading.now) }
-    ensures { IfOk result (λ t. t ≡ tree_text (labels grammar.now.parts) (texts tokens.now)
+    ensures { IfOk result (λ t. t ≡ tree_text (labels grammar.now.parts) (token_texts tokens.now)
         (plain_reading reading.now)) }
 {
     let mut bytes = Vec::new(alloc);

@@ -3,7 +3,7 @@
 ghost use Rattle.std.specs.Prelude.{◌≡◌, ◌+◌, ◌<◌, ◌≤◌, ◌^◌, length, IfOk, IfErr, OnErr};
 ghost use Rattle.sx_term.specs.Term.{tree};
 ghost use Rattle.sx_earley.specs.Completed.{IsSort};
-ghost use Rattle.sx_notation.specs.ReadText.{IsRead, IsRefused};
+ghost use Rattle.sx_notation.specs.ReadText.{IsReadLine, IsTextRefused};
 ghost use Rattle.sx_term.specs.Limits.{most_bytes, most_tokens};
 
 use crate::line_reader::LineReader;
@@ -30,10 +30,10 @@ pub fn read_text(
     requires short { length line.now ≤ most_bytes }
     requires room { length vars.now + most_tokens < 2 ^ 32 }
     ensures read { IfOk result
-        (λ t. IsRead grammar.now.parts metas.now.stems.items sort line.now vars.old vars.new
+        (λ t. IsReadLine grammar.now.parts metas.now.stems.items sort line.now vars.old vars.new
         (tree t)) }
     ensures refused { IfErr result
-        (IsRefused grammar.now.parts metas.now.stems.items sort line.now number) }
+        (IsTextRefused grammar.now.parts metas.now.stems.items sort line.now number) }
     ensures err { OnErr result (vars.new ≡ vars.old) }
     ensures grows { length vars.new ≤ length vars.old + most_tokens }
 {

@@ -6,10 +6,10 @@ ghost use Rattle.sx_grammar.specs.Parts.{numbered};
 ghost use Rattle.sx_grammar.specs.Numbered.{symbol};
 ghost use Rattle.sx_grammar.specs.Tables.{literals_of};
 ghost use Rattle.sx_grammar.specs.Print.{literal_token, print_symbols};
-ghost use Rattle.sx_print.specs.Printed.{Adds, parts_in};
+ghost use Rattle.sx_print.specs.Printed.{AddsTokens, parts_in};
 ghost use Rattle.sx_print.specs.Rows.{HasLiteralsBelow};
 ghost use Rattle.sx_notation.specs.GoalText.{printer};
-ghost use Rattle.sx_notation.specs.Placed.{shown, IsPuttable, ArePuttable};
+ghost use Rattle.sx_notation.specs.Placed.{shown_term, IsPuttable, ArePuttable};
 
 use sx_grammar::{Grammar, NumberedSymbol};
 use sx_print::{put_literal, put_term};
@@ -17,7 +17,8 @@ use sx_term::{NoMemory, Term, Vars};
 
 /// Appends `_` and a blank, or a front of them where memory is lacking.
 fn put_nothing(into: &mut Vec<u8>) -> Result<(), NoMemory>
-    ensures ok { OnOk result (Adds (literal_token (codes "_") ∷ []) into.old.items into.new.items) }
+    ensures ok { OnOk result (AddsTokens (literal_token (codes "_") ∷
+        []) into.old.items into.new.items) }
     ensures appends { (more : List ℕ) × (into.new.items ≡ into.old.items ++ more) }
 {
     into.extend_from_slice(b"_ ")?;
@@ -33,9 +34,10 @@ fn put_content(
     vars: &Vars,
     into: &mut Vec<u8>,
 ) -> Result<(), NoMemory>
-    requires { IsPuttable (numbered grammar.now.parts) (length vars.now) (shown content) }
+    requires { IsPuttable (numbered grammar.now.parts) (length vars.now) (shown_term content) }
     ensures ok { OnOk result ((place : Stem) →
-        Adds (printer (numbered grammar.now.parts) vars.now (shown content.entry) place least)
+        AddsTokens (printer (numbered grammar.now.parts) vars.now
+        (shown_term content.entry) place least)
         into.old.items into.new.items) }
     ensures appends { (more : List ℕ) × (into.new.items ≡ into.old.items ++ more) }
 {
@@ -58,10 +60,10 @@ pub(crate) fn put_places(
     requires many { parts_in (map (symbol (literals_of grammar.now.parts)) symbols.now) ≡ length
         contents.now }
     requires puttable { ArePuttable (numbered grammar.now.parts) (length vars.now)
-        (map shown contents.now) }
-    ensures ok { OnOk result (Adds
+        (map shown_term contents.now) }
+    ensures ok { OnOk result (AddsTokens
         (print_symbols (map (symbol (literals_of grammar.now.parts)) symbols.now)
-        (map (printer (numbered grammar.now.parts) vars.now) (map shown contents.entry.now)))
+        (map (printer (numbered grammar.now.parts) vars.now) (map shown_term contents.entry.now)))
         into.old.items into.new.items) }
     ensures appends { (more : List ℕ) × (into.new.items ≡ into.old.items ++ more) }
 {

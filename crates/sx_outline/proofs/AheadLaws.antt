@@ -5,10 +5,13 @@ use Rattle.sx_directives.specs.declared.file_kind.FileKind.{FileKind}
 use Rattle.sx_directives.specs.declared.file_kind.FileKind.TheVariants as files
 use Rattle.sx_directives.specs.Rows.{IsRow}
 use Rattle.sx_directives.specs.declared.row.Row.{Row}
-use Rattle.sx_directives.specs.declared.row.Row.TheVariants.{Sort, Prod, Var, Form, Main, Plain, Rule, End, To}
-use Rattle.sx_outline.specs.Declarations.{Declared, form, nothing, declare}
-use Rattle.sx_outline.specs.Known.{Declares, GoesOn}
-use Rattle.sx_outline.specs.Stages.{PlainData, RuleData, Stage, at_start, at_declarations, at_body, at_plains, at_rules, at_premises, at_conclusion, at_end, State, Steps, StepsAt, MayStandAt, IsWhole, after, head_row}
+use Rattle.sx_directives.specs.declared.row.Row.TheVariants.{Sort, Prod, Var, Form, Main, Plain}
+use Rattle.sx_directives.specs.declared.row.Row.TheVariants.{Rule, End, To}
+use Rattle.sx_outline.specs.Declarations.{Declared, declared_form, nothing, declare}
+use Rattle.sx_outline.specs.Known.{Declares, RowGoesOn}
+use Rattle.sx_outline.specs.Stages.{PlainData, RuleData, Stage, at_start, at_declarations, at_body}
+use Rattle.sx_outline.specs.Stages.{at_plains, at_rules, at_premises, at_conclusion, at_end, State}
+use Rattle.sx_outline.specs.Stages.{Steps, StepsAt, MayStandAt, IsWhole, after, head_row}
 use Rattle.sx_outline.specs.Reading.{IsFront, IsAhead}
 use Rattle.sx_outline.proofs.SameRows.{same_row}
 use Rattle.sx_outline.proofs.SameLaws.{same_goes}
@@ -29,15 +32,15 @@ front_before d (Var v) all h = record {
   vars = h.vars ∙ append_assoc d.vars (v ∷ []) h.more.vars;
 }
 front_before d (Form f) all h = record {
-  more = record { sorts = []; productions = []; vars = h.more.vars; forms = form f ∷ h.more.forms; mains = []; uses = [] };
-  forms = h.forms ∙ append_assoc d.forms (form f ∷ []) h.more.forms;
+  more = record { sorts = []; productions = []; vars = h.more.vars; forms = declared_form f ∷ h.more.forms; mains = []; uses = [] };
+  forms = h.forms ∙ append_assoc d.forms (declared_form f ∷ []) h.more.forms;
   vars = h.vars;
 }
 front_before d (Main m) all h = record { more = h.more; forms = h.forms; vars = h.vars }
 front_before d _ all h = h
 
 front_goes : (d : Declared) (row : Row) (all : Declared) (Next : Bool → Declared → Type 0) → ((is_body : Bool) (next : Declared) → Next is_body next → IsFront next all)
-    → GoesOn d row all Next → IsFront d all
+    → RowGoesOn d row all Next → IsFront d all
 front_goes d (Rule name) all Next f h = front_same d all h
 front_goes d (Plain p) all Next f h = f true d h
 front_goes d row all Next f h = front_before d row all (f false (declare d row) h)
@@ -61,13 +64,13 @@ ahead_front kind (at_end r) d lines all h = front_same d all (sym h)
 
 -- the row of the line is this one
 goes_from : (kind : FileKind) (d : Declared) (row : Row) (n : ℕ) (text after : List ℕ) (more : Lines) (all : Declared) → IsRow kind text row
-    → Declares kind false d (line n text after more) all → GoesOn d row all (λ is_body next. Declares kind is_body next more all)
+    → Declares kind false d (line n text after more) all → RowGoesOn d row all (λ is_body next. Declares kind is_body next more all)
 goes_from kind d row n text after more all is (inl h) =
     same_goes d h.0 row all (λ is_body next. Declares kind is_body next more all) (same_row kind text h.0 row h.1 is) h.2
 goes_from kind d row n text after more all is (inr h) = absurd (h.0 row is)
 
 among_declarations : (kind : FileKind) (d : Declared) (plains : List PlainData) (rules : List RuleData) (n : ℕ) (row : Row) (more : Lines) (all : Declared)
-    → MayStandAt at_declarations d.mains row → GoesOn d row all (λ is_body next. Declares kind is_body next more all)
+    → MayStandAt at_declarations d.mains row → RowGoesOn d row all (λ is_body next. Declares kind is_body next more all)
     → let t : State = after (record { stage = at_declarations; declared = d; plains = plains; rules = rules }) n row in IsAhead kind t.stage t.declared more all
 among_declarations kind d plains rules n (Sort s) more all stands h = h
 among_declarations kind d plains rules n (Prod p) more all stands h = h
@@ -79,7 +82,7 @@ among_declarations kind d plains rules n (Rule name) more all stands h = sym h
 among_declarations kind d plains rules n _ more all stands h = absurd stands
 
 between_plains : (kind : FileKind) (d : Declared) (plains : List PlainData) (rules : List RuleData) (n : ℕ) (row : Row) (more : Lines) (all : Declared)
-    → MayStandAt at_plains d.mains row → GoesOn d row all (λ is_body next. Declares kind is_body next more all)
+    → MayStandAt at_plains d.mains row → RowGoesOn d row all (λ is_body next. Declares kind is_body next more all)
     → let t : State = after (record { stage = at_plains; declared = d; plains = plains; rules = rules }) n row in IsAhead kind t.stage t.declared more all
 between_plains kind d plains rules n (Plain p) more all stands h = h
 between_plains kind d plains rules n (Rule name) more all stands h = sym h
@@ -102,7 +105,7 @@ abbrev Ahead : FileKind → State → Lines → Declared → Type 0
 Ahead kind t lines all = IsAhead kind t.stage t.declared lines all
 
 -- the first row of a file declares nothing
-goes_head : (kind : FileKind) (name : List ℕ) (d : Declared) (all : Declared) (Next : Bool → Declared → Type 0) → GoesOn d (head_row kind name) all Next → Next false d
+goes_head : (kind : FileKind) (name : List ℕ) (d : Declared) (all : Declared) (Next : Bool → Declared → Type 0) → RowGoesOn d (head_row kind name) all Next → Next false d
 goes_head files.Language name d all Next h = h
 goes_head files.Extension name d all Next h = h
 

@@ -8,10 +8,15 @@ use Rattle.sx_directives.specs.Rows.{IsRow}
 use Rattle.sx_directives.specs.declared.rows.PlainLine.{PlainLine}
 use Rattle.sx_directives.specs.declared.rows.MainLine.{MainLine}
 use Rattle.sx_directives.specs.declared.row.Row.{Row}
-use Rattle.sx_directives.specs.declared.row.Row.TheVariants.{Sort, Prod, Var, Form, Main, Plain, Rule, End, To}
+use Rattle.sx_directives.specs.declared.row.Row.TheVariants.{Sort, Prod, Var, Form, Main, Plain}
+use Rattle.sx_directives.specs.declared.row.Row.TheVariants.{Rule, End, To}
 use Rattle.sx_outline.specs.Declarations.{Declared, nothing, declare}
-use Rattle.sx_outline.specs.Fitting.{ArePartNames, Fits}
-use Rattle.sx_outline.specs.Stages.{Numbered, PlainData, RuleData, Stage, at_start, at_declarations, at_body, at_plains, at_rules, at_premises, at_conclusion, at_end, State, start, start_after, StepsAt, IsGoodRow, IsBar, IsWhole, MayStandAt, HasMain, after, begun_plain, paired, head_row}
+use Rattle.sx_outline.specs.Fitting.{ArePartNames, RowFits}
+use Rattle.sx_outline.specs.Stages.{Numbered, PlainData, RuleData, Stage, at_start, at_declarations}
+use Rattle.sx_outline.specs.Stages.{at_body, at_plains, at_rules, at_premises, at_conclusion}
+use Rattle.sx_outline.specs.Stages.{at_end, State, start, start_after, StepsAt, IsGoodRow, IsBar}
+use Rattle.sx_outline.specs.Stages.{IsWhole, MayStandAt, HasMain, after, begun_plain, paired}
+use Rattle.sx_outline.specs.Stages.{head_row}
 use Rattle.sx_outline.specs.Structure.{IsDeclaring, AreBodies, ArePairs, AreRules}
 use Rattle.sx_outline.specs.BadLines.{AreMains, AreLinesAmong, AreLanguageLines}
 use Rattle.sx_outline.proofs.Led.{Leads}
@@ -170,7 +175,7 @@ none_declared kind known d lines mains h = record {
   rules_are = h.rest.are;
 }
 
-one_declared : (kind : FileKind) (known d : Declared) (l : Numbered) (row : Row) (lines : List Numbered) → IsRow kind l.text row → IsDeclaring row → Fits known d row
+one_declared : (kind : FileKind) (known d : Declared) (l : Numbered) (row : Row) (lines : List Numbered) → IsRow kind l.text row → IsDeclaring row → RowFits known d row
     → AreLinesAmong kind known (declare d row) lines → AreLinesAmong kind known d (l ∷ lines)
 one_declared kind known d l row lines spelled declaring fits h = record {
   declarations = l ∷ h.declarations;

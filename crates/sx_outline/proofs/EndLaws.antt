@@ -7,8 +7,9 @@ use Rattle.sx_outline.specs.declared.main_form.MainForm.{MainForm}
 use Rattle.sx_outline.specs.declared.outline_error.OutlineError.{OutlineError}
 use Rattle.sx_outline.specs.declared.outline_error.OutlineError.TheVariants.{Notation}
 use Rattle.sx_outline.specs.declared.stage.Stage.{Stage as StageOf}
-use Rattle.sx_outline.specs.declared.stage.Stage.TheVariants.{Start, Declarations, Body, Plains, Rules, Premises, Conclusion, End}
-use Rattle.sx_outline.specs.Declarations.{Declared, parts_of}
+use Rattle.sx_outline.specs.declared.stage.Stage.TheVariants.{Start, Declarations, Body, Plains}
+use Rattle.sx_outline.specs.declared.stage.Stage.TheVariants.{Rules, Premises, Conclusion, End}
+use Rattle.sx_outline.specs.Declarations.{Declared, declared_parts}
 use Rattle.sx_outline.specs.Fitting.{IsMainOf}
 use Rattle.sx_outline.specs.Stages.{State, Stage, IsInside, IsWhole}
 use Rattle.sx_outline.specs.Outlined.{OutlineData, declared_by, IsOutlineOf}
@@ -24,7 +25,7 @@ all_same d e a b c f g u = λ i. record { sorts = a i; productions = b i; vars =
 
 -- an outline that has what is known, and the main form of the main line
 pub finished : (known : Declared) (s : State) (o : OutlineData) → s.declared ≡ known → known.uses ≡ [] → IsMainRead known (Some o.main) s.declared.mains
-    → o.parts ≡ parts_of known → o.vars ≡ known.vars → o.forms ≡ known.forms → o.rules ≡ s.rules → IsOutlineOf s o
+    → o.parts ≡ declared_parts known → o.vars ≡ known.vars → o.forms ≡ known.forms → o.rules ≡ s.rules → IsOutlineOf s o
 finished known s o e uses main parts vars forms rules =
     let one = one_main known o.main s.declared.mains main in
     record {

@@ -13,13 +13,17 @@ use Rattle.sx_outline.specs.declared.extension_outline.ExtensionOutline.{Extensi
 use Rattle.sx_outline.specs.declared.outline_error.OutlineError.{OutlineError}
 use Rattle.sx_outline.specs.declared.outline_error.OutlineError.TheVariants.{Notation}
 use Rattle.sx_outline.specs.Declarations.{Declared, declared_before}
-use Rattle.sx_outline.specs.Fitting.{ArePartNames, AreDistinct}
-use Rattle.sx_outline.specs.Headers.{HeaderData, begun, with_use, AreUses, IsHeader}
+use Rattle.sx_outline.specs.Fitting.{ArePartNames}
+use Rattle.sx_lines.specs.Distinct.{AreTextsDistinct}
+use Rattle.sx_outline.specs.Headers.{HeaderData, header_begun, with_use, AreUses, IsHeader}
 use Rattle.sx_outline.specs.Known.{kept_lines}
 use Rattle.sx_outline.specs.Stages.{PlainData, State, start_after, IsWhole}
 use Rattle.sx_outline.specs.Sized.{HasShortLines}
 use Rattle.sx_outline.specs.Reading.{IsAhead}
-use Rattle.sx_outline.specs.ExtensionOutlined.{ExtensionOutlineData, extension_outline, extension_declares, AreReadAfter, IsExtensionEnd, IsExtensionOutlineOf, IsExtensionReadAs, IsExtensionOutlined}
+use Rattle.sx_outline.specs.ExtensionOutlined.{ExtensionOutlineData, extension_outline}
+use Rattle.sx_outline.specs.ExtensionOutlined.{extension_declares, AreReadAfter, IsExtensionEnd}
+use Rattle.sx_outline.specs.ExtensionOutlined.{IsExtensionOutlineOf, IsExtensionReadAs}
+use Rattle.sx_outline.specs.ExtensionOutlined.{IsExtensionOutlined}
 use Rattle.sx_outline.specs.ExtensionSized.{own_parts, IsExtensionSized, IsExtensionFit}
 use Rattle.sx_outline.proofs.AheadLaws.{ahead_next, whole_known}
 use Rattle.sx_outline.proofs.OutcomeLaws.{bytes_in, bytes_line, AreFull, kept_full, kept_bytes}
@@ -80,10 +84,10 @@ pub record IsAfterHeader (size : ℕ) (Next : HeaderData → Lines → Type 0) :
   pub last : HeaderData
   pub left : Lines
   pub tail : IsTail size left
-  pub once : AreDistinct last.uses
+  pub once : AreTextsDistinct last.uses
   pub holds : Next last left
 
-uses_end : (size : ℕ) (Next : HeaderData → Lines → Type 0) (Bad : ℕ → Kind → Type 0) → ((n : ℕ) (bad : Kind) → Bad n bad → ⊥) → (h : HeaderData) (lines : Lines) → IsTail size lines → AreDistinct h.uses
+uses_end : (size : ℕ) (Next : HeaderData → Lines → Type 0) (Bad : ℕ → Kind → Type 0) → ((n : ℕ) (bad : Kind) → Bad n bad → ⊥) → (h : HeaderData) (lines : Lines) → IsTail size lines → AreTextsDistinct h.uses
     → AreUses h lines Next Bad → IsAfterHeader size Next
 uses_end size Next Bad n h (over end) tail once x = record { last = h; left = over end; tail = tail; once = once; holds = x }
 uses_end size Next Bad n h (line number text after more) tail once (inl x) =
@@ -96,7 +100,7 @@ pub after_header : (size : ℕ) (Next : HeaderData → Lines → Type 0) (Bad : 
 after_header size Next Bad n (over end) tail x = absurd (n end Head x)
 after_header size Next Bad n (line number text after (over end)) tail (inl x) = absurd (n end Head x.2)
 after_header size Next Bad n (line number text after (line second other later more)) tail (inl (name, named, inl x)) =
-    uses_end size Next Bad n (begun name x.0) more (tail_of size second other later more (tail_of size number text after (line second other later more) tail)) tt x.2
+    uses_end size Next Bad n (header_begun name x.0) more (tail_of size second other later more (tail_of size number text after (line second other later more) tail)) tt x.2
 after_header size Next Bad n (line number text after (line second other later more)) tail (inl (name, named, inr x)) = absurd (n second Head x.1)
 after_header size Next Bad n (line number text after more) tail (inr x) = absurd (n number Head x.1)
 
@@ -133,7 +137,7 @@ kept_first size sorts vars h lines o r tail =
 
 pub record IsLastKept (size : ℕ) (sorts : List SortLine) (vars : List VarLine) (o : ExtensionOutlineData) : Type 0 where
   pub uses : List (List ℕ)
-  pub once : AreDistinct o.header.uses
+  pub once : AreTextsDistinct o.header.uses
   pub state : State
   pub number : ℕ
   pub kept : IsKept files.Extension size (size + weight (declared_before sorts vars uses)) (declared_before sorts vars uses) (extension_declares sorts o) state (over number)
@@ -154,7 +158,7 @@ last_kept sorts vars bytes o r =
     (kept_first (length bytes) sorts vars head.last head.left o head.holds head.tail) in
     record {
       uses = head.last.uses;
-      once = subst (λ (x : HeaderData). AreDistinct x.uses) (sym last.is.header) head.once;
+      once = subst (λ (x : HeaderData). AreTextsDistinct x.uses) (sym last.is.header) head.once;
       state = last.state;
       number = last.number;
       kept = subst (λ k. IsKept files.Extension (length bytes) (length bytes + weight base) base k last.state (over last.number)) last.known_is kept;

@@ -13,21 +13,29 @@ use Rattle.sx_directives.specs.declared.file_kind.FileKind.TheVariants as files
 use Rattle.sx_directives.specs.Rows.{IsRow}
 use Rattle.sx_directives.specs.declared.rows.VarLine.{VarLine}
 use Rattle.sx_directives.specs.declared.row.Row.{Row}
-use Rattle.sx_directives.specs.declared.row.Row.TheVariants.{Sort, Prod, Var, Form, Main, Plain, Rule, End, To}
+use Rattle.sx_directives.specs.declared.row.Row.TheVariants.{Sort, Prod, Var, Form, Main, Plain}
+use Rattle.sx_directives.specs.declared.row.Row.TheVariants.{Rule, End, To}
 use Rattle.sx_outline.specs.declared.extension_header.ExtensionHeader.{ExtensionHeader}
 use Rattle.sx_outline.specs.declared.extension_outline.ExtensionOutline.{ExtensionOutline}
 use Rattle.sx_outline.specs.declared.outline_error.OutlineError.{OutlineError}
-use Rattle.sx_outline.specs.declared.outline_error.OutlineError.TheVariants.{Memory, NotUtf8, Notation}
+use Rattle.sx_outline.specs.declared.outline_error.OutlineError.TheVariants.{Memory, NotUtf8}
+use Rattle.sx_outline.specs.declared.outline_error.OutlineError.TheVariants.{Notation}
 use Rattle.sx_outline.specs.declared.reader.Reader.{Reader}
 use Rattle.sx_outline.specs.Declarations.{Declared, declare, declared_before}
 use Rattle.sx_outline.specs.Headers.{HeaderData, header, IsHeader}
 use Rattle.sx_outline.specs.HeaderReading.{EndsWith, IsBadIn, IsAnyHeaderRead}
-use Rattle.sx_outline.specs.Known.{Declares, GoesOn, kept_lines}
-use Rattle.sx_outline.specs.Stages.{PlainData, plain_data, RuleData, rule_data, Stage, at_start, at_declarations, at_body, at_plains, at_rules, at_premises, at_conclusion, at_end, State, start_after, Steps, StepsAt, IsWhole, IsInside, MayStandAt, after}
+use Rattle.sx_outline.specs.Known.{Declares, RowGoesOn, kept_lines}
+use Rattle.sx_outline.specs.Stages.{PlainData, plain_data, RuleData, rule_data, Stage, at_start}
+use Rattle.sx_outline.specs.Stages.{at_declarations, at_body, at_plains, at_rules, at_premises}
+use Rattle.sx_outline.specs.Stages.{at_conclusion, at_end, State, start_after, Steps, StepsAt}
+use Rattle.sx_outline.specs.Stages.{IsWhole, IsInside, MayStandAt, after}
 use Rattle.sx_outline.specs.Outcomes.{IsOutcome}
-use Rattle.sx_outline.specs.Reading.{IsReader, IsReaderAfter, IsMainRead, EndsAt, IsBadLine, AreLinesRead}
+use Rattle.sx_outline.specs.Reading.{IsOutlineReader, IsReaderAfter, IsMainRead, ReadingEndsAt}
+use Rattle.sx_outline.specs.Reading.{IsBadLine, AreLinesRead}
 use Rattle.sx_outline.proofs.EndLaws.{all_same}
-use Rattle.sx_outline.specs.ExtensionOutlined.{ExtensionOutlineData, extension_declares, extension_outline, AreReadAfter, IsExtensionEnd, IsExtensionOutlined}
+use Rattle.sx_outline.specs.ExtensionOutlined.{ExtensionOutlineData, extension_declares}
+use Rattle.sx_outline.specs.ExtensionOutlined.{extension_outline, AreReadAfter, IsExtensionEnd}
+use Rattle.sx_outline.specs.ExtensionOutlined.{IsExtensionOutlined}
 use Rattle.sx_outline.specs.ExtensionReading.{AreAfterRead, IsExtensionEndRead}
 use Rattle.sx_outline.proofs.HeaderLaws.{header_to, ok_same, ok_bad, bad_same}
 use Rattle.sx_outline.proofs.OutcomeSteps.{outcome_to, reached, reaches_outcome, kept_to}
@@ -56,7 +64,7 @@ alike_same : (d all : Declared) → all ≡ d → AreAlike d all
 alike_same d all e = record { sorts = ap (λ (x : Declared). x.sorts) e; forms = ap (λ (x : Declared). x.forms) e; mains = ap (λ (x : Declared). x.mains) e }
 
 alike_goes : (d : Declared) (text : List ℕ) (row : Row) (all : Declared) (Next : Bool → Declared → Type 0) → IsRow files.Extension text row
-    → ((is_body : Bool) (next : Declared) → Next is_body next → AreAlike next all) → GoesOn d row all Next → AreAlike d all
+    → ((is_body : Bool) (next : Declared) → Next is_body next → AreAlike next all) → RowGoesOn d row all Next → AreAlike d all
 alike_goes d text (Rule name) all Next is f h = alike_same d all h
 alike_goes d text (Plain p) all Next is f h = f true d h
 alike_goes d text row all Next is f h = alike_to d (declare d row) all (alike_row d text row is) (f false (declare d row) h)
@@ -126,9 +134,9 @@ bad_extension number bad = Err (Notation number bad)
 
 pub extension_ends : (known : Declared) (name : List ℕ) (base : Declared) (lines : Lines) (reader : Reader) (n : ℕ) (After : State → ℕ → Type 0) (Bad : ℕ → Kind → Type 0)
     → AreLinesRead files.Extension known name (start_after base) lines (Ok (reader, n))
-    → ((s : State) → IsReader known reader s → IsBegun s → (IsWhole s.stage → s.declared ≡ known) → After s n) → IsOutcome files.Extension known name (start_after base) lines After Bad
+    → ((s : State) → IsOutlineReader known reader s → IsBegun s → (IsWhole s.stage → s.declared ≡ known) → After s n) → IsOutcome files.Extension known name (start_after base) lines After Bad
 extension_ends known name base lines reader n After Bad h f =
-    let last = reached files.Extension known name (EndsAt known (Ok (reader, n))) (IsBadLine (Ok (reader, n))) (λ number bad k. no_bad (reader, n) bad number (Ok (reader, n)) refl k) (start_after base) lines h in
+    let last = reached files.Extension known name (ReadingEndsAt known (Ok (reader, n))) (IsBadLine (Ok (reader, n))) (λ number bad k. no_bad (reader, n) bad number (Ok (reader, n)) refl k) (start_after base) lines h in
     let begun : IsBegun last.state = kept_to files.Extension known name (λ s left. IsBegun s) (begun_on files.Extension known name) (start_after base) lines last.state last.number last.reaches
     (apart at_declarations refl) in
     reaches_outcome files.Extension known name After Bad (start_after base) lines last.state last.number last.reaches
@@ -137,7 +145,7 @@ extension_ends known name base lines reader n After Bad h f =
 pub after_read : (sorts : List SortLine) (vars : List VarLine) (known : Declared) (h : HeaderData) (lines : Lines) (reader : Reader) (n : ℕ) (result : Result ExtensionOutline OutlineError)
     → Declares files.Extension false (declared_before sorts vars h.uses) lines known
     → AreLinesRead files.Extension known h.name (start_after (declared_before sorts vars h.uses)) lines (Ok (reader, n))
-    → ((s : State) → IsReader known reader s → IsBegun s → (IsWhole s.stage → s.declared ≡ known) → IsExtensionEndRead sorts h s result) → AreAfterRead sorts vars h lines result
+    → ((s : State) → IsOutlineReader known reader s → IsBegun s → (IsWhole s.stage → s.declared ≡ known) → IsExtensionEndRead sorts h s result) → AreAfterRead sorts vars h lines result
 after_read sorts vars known h lines reader n (Ok o) declares read f = record {
   known = known;
   declares = declares;
@@ -167,7 +175,7 @@ after_refused sorts vars known h lines (NotUtf8 place) declares read = absurd re
 after_refused sorts vars known h lines (Notation l kind) declares read = record {
   known = known;
   declares = declares;
-  outcome = outcome_to files.Extension known h.name (EndsAt known (Err (Notation l kind))) (λ s end. IsExtensionEnd sorts h s (Err (Notation l kind))) (IsBadLine (Err (Notation l kind)))
+  outcome = outcome_to files.Extension known h.name (ReadingEndsAt known (Err (Notation l kind))) (λ s end. IsExtensionEnd sorts h s (Err (Notation l kind))) (IsBadLine (Err (Notation l kind)))
       (λ number bad. bad_extension l kind ≡ Err (Notation number bad)) (λ s end k. absurd k)
       (λ number bad k. error_same l number kind bad (same_error l number kind bad (Err (Notation l kind)) refl k)) (start_after (declared_before sorts vars h.uses)) lines read;
 }
@@ -246,7 +254,7 @@ left_open sorts h s given number e is inside f = subst (λ x. IsExtensionEndRead
 
 -- the reader after the header
 pub reader_after : (known : Declared) (sorts : List SortLine) (vars : List VarLine) (uses : List (List ℕ)) (r : Reader) (count : ℕ) → count ≡ length vars → IsReaderAfter count r
-    → IsReader known r (start_after (declared_before sorts vars uses))
+    → IsOutlineReader known r (start_after (declared_before sorts vars uses))
 reader_after known sorts vars uses r count e h = record {
   stage_is = h.stage;
   forms_are = h.forms;

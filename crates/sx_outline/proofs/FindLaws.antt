@@ -24,8 +24,13 @@ use Rattle.sx_term.specs.declared.no_memory.NoMemory.{NoMemory}
 use Rattle.sx_directives.specs.declared.row.Row.{Row}
 use Rattle.sx_directives.specs.declared.row.Row.TheVariants.{Var, Form, Plain}
 use Rattle.sx_outline.specs.declared.main_form.MainForm.{MainForm}
-use Rattle.sx_outline.specs.Declarations.{Declared, FormData, form, parts_of}
-use Rattle.sx_outline.specs.Fitting.{ArePartNames, AreDistinct, Fits, HasOneSubject, IsConstructor, IsKnownSort, IsMainOf, IsPlain, IsVariableOf, Kid, NamesFit, SymbolFits, form_names, kids_of, production_named, sort_named, sort_names, sorts_at, stems, var_named}
+use Rattle.sx_outline.specs.Declarations.{Declared, FormData, declared_form, declared_parts}
+use Rattle.sx_outline.specs.Fitting.{ArePartNames, RowFits, HasOneSubjectSymbol}
+use Rattle.sx_lines.specs.Distinct.{AreTextsDistinct}
+use Rattle.sx_outline.specs.Fitting.{IsConstructor, IsKnownSort, IsMainOf, IsPlain, IsVariableOf}
+use Rattle.sx_outline.specs.Fitting.{Kid, NamesFit, SymbolFits, form_names, kids_of}
+use Rattle.sx_outline.specs.Fitting.{production_named, sort_named, sort_names, sorts_at, stems}
+use Rattle.sx_outline.specs.Fitting.{var_named}
 use Rattle.sx_outline.specs.Variables.{stem_of}
 use Rattle.sx_outline.specs.MainSorts.{AreConstructors, AreMainSorts, IsOneName}
 use Rattle.sx_outline.proofs.PlaceLaws.{at, first_at, found_in, none_in, number_found, find_place, find_nothing, position_is}
@@ -53,16 +58,16 @@ known_sort d name (Some i) b n e f = ((λ t. inr (found_in (sort_names d) name i
 -- ---- rows
 
 pub fits_var : (known before : Declared) (vars : ℕ) (v : VarLine) (row : Row) (b : Bool) → row ≡ Var v → before.vars ≡ take vars known.vars
-    → IsTrue b ↔ ((Contains (take vars (stems known)) v.stem → ⊥) × IsKnownSort known v.sort) → IsTrue b ↔ Fits known before row
+    → IsTrue b ↔ ((Contains (take vars (stems known)) v.stem → ⊥) × IsKnownSort known v.sort) → IsTrue b ↔ RowFits known before row
 fits_var known before vars v row b e f h =
     let same : take vars (stems known) ≡ stems before = take-map (λ (x : VarLine). x.stem) vars known.vars ∙ ap (map (λ (x : VarLine). x.stem)) (sym f) in
-    subst (λ r. IsTrue b ↔ Fits known before r) (sym e) (subst (λ names. IsTrue b ↔ ((Contains names v.stem → ⊥) × IsKnownSort known v.sort)) same h)
+    subst (λ r. IsTrue b ↔ RowFits known before r) (sym e) (subst (λ names. IsTrue b ↔ ((Contains names v.stem → ⊥) × IsKnownSort known v.sort)) same h)
 
 pub fits_form : (known before : Declared) (forms : ℕ) (f : FormLine) (row : Row) (b : Bool) → row ≡ Form f → before.forms ≡ take forms known.forms
-    → IsTrue b ↔ ((Contains (take forms (form_names known)) f.name → ⊥) × AllByRecursion (SymbolFits known) f.symbols.items × HasOneSubject f.symbols.items) → IsTrue b ↔ Fits known before row
+    → IsTrue b ↔ ((Contains (take forms (form_names known)) f.name → ⊥) × AllByRecursion (SymbolFits known) f.symbols.items × HasOneSubjectSymbol f.symbols.items) → IsTrue b ↔ RowFits known before row
 fits_form known before forms f row b e g h =
     let same : take forms (form_names known) ≡ form_names before = take-map (λ (x : FormData). x.name) forms known.forms ∙ ap (map (λ (x : FormData). x.name)) (sym g) in
-    subst (λ r. IsTrue b ↔ Fits known before r) (sym e) (subst (λ names. IsTrue b ↔ ((Contains names f.name → ⊥) × AllByRecursion (SymbolFits known) f.symbols.items × HasOneSubject f.symbols.items)) same h)
+    subst (λ r. IsTrue b ↔ RowFits known before r) (sym e) (subst (λ names. IsTrue b ↔ ((Contains names f.name → ⊥) × AllByRecursion (SymbolFits known) f.symbols.items × HasOneSubjectSymbol f.symbols.items)) same h)
 
 -- ---- numbers
 
@@ -87,18 +92,18 @@ got_within f xs n x e = let lt = slice_get_within xs n x e in omega (arith, lt, 
 
 -- ---- constructors
 
-pub constructor_is : (d : Declared) (label sort : List ℕ) (n : ℕ) (l : Line) → first_at label (labels (parts_of d)) ≡ Some n → slice_get d.productions n ≡ Some l → l.sort ≡ sort → IsConstructor d label n sort (kids_of l.symbols)
-constructor_is d label sort n l e is same = record { line = l; is = is; first = number_at (labels (parts_of d)) label n e; sort_is = same; kids_are = refl }
+pub constructor_is : (d : Declared) (label sort : List ℕ) (n : ℕ) (l : Line) → first_at label (labels (declared_parts d)) ≡ Some n → slice_get d.productions n ≡ Some l → l.sort ≡ sort → IsConstructor d label n sort (kids_of l.symbols)
+constructor_is d label sort n l e is same = record { line = l; is = is; first = number_at (labels (declared_parts d)) label n e; sort_is = same; kids_are = refl }
 
 -- a constructor stands at the first place of its label
-pub constructor_place : (d : Declared) (label sort : List ℕ) (n : ℕ) (kids : List Kid) → IsConstructor d label n sort kids → first_at label (labels (parts_of d)) ≡ Some n
-constructor_place d label sort n kids h = number_place (labels (parts_of d)) label n h.first (got_within (λ (l : Line). l.label) d.productions n h.line h.is)
+pub constructor_place : (d : Declared) (label sort : List ℕ) (n : ℕ) (kids : List Kid) → IsConstructor d label n sort kids → first_at label (labels (declared_parts d)) ≡ Some n
+constructor_place d label sort n kids h = number_place (labels (declared_parts d)) label n h.first (got_within (λ (l : Line). l.label) d.productions n h.line h.is)
 
-pub constructor_none : (d : Declared) (label sort : List ℕ) → first_at label (labels (parts_of d)) ≡ None → (n : ℕ) (kids : List Kid) → IsConstructor d label n sort kids → ⊥
+pub constructor_none : (d : Declared) (label sort : List ℕ) → first_at label (labels (declared_parts d)) ≡ None → (n : ℕ) (kids : List Kid) → IsConstructor d label n sort kids → ⊥
 constructor_none d label sort e n kids h = let clash : None ≡ Some n = sym e ∙ constructor_place d label sort n kids h in cc
 
 -- the production at the place is that of the constructor
-pub constructor_line : (d : Declared) (label sort : List ℕ) (place n : ℕ) (l : Line) (kids : List Kid) → first_at label (labels (parts_of d)) ≡ Some place → slice_get d.productions place ≡ Some l → IsConstructor d label n sort kids
+pub constructor_line : (d : Declared) (label sort : List ℕ) (place n : ℕ) (l : Line) (kids : List Kid) → first_at label (labels (declared_parts d)) ≡ Some place → slice_get d.productions place ≡ Some l → IsConstructor d label n sort kids
     → (n ≡ place) × (l.sort ≡ sort) × (kids_of l.symbols ≡ kids)
 constructor_line d label sort place n l kids e is h =
     let same : n ≡ place = some_same n place (sym (constructor_place d label sort n kids h) ∙ e) in
@@ -109,8 +114,8 @@ constructor_line d label sort place n l kids e is h =
 pub line_at : (ps : List Production) (i : ℕ) (p : Production) → i < length ps → p ≡ get_or ps i p → slice_get (map line ps) i ≡ Some (line p)
 line_at ps i p lt is = slice_get-map line ps i ∙ ap (option_map line) (slice_get-get_or ps i p lt) ∙ ap (λ x. Some (line x)) (sym is)
 
-pub form_at : (fs : List FormLine) (i : ℕ) (f : FormLine) → i < length fs → f ≡ get_or fs i f → slice_get (map form fs) i ≡ Some (form f)
-form_at fs i f lt is = slice_get-map form fs i ∙ ap (option_map form) (slice_get-get_or fs i f lt) ∙ ap (λ x. Some (form x)) (sym is)
+pub form_at : (fs : List FormLine) (i : ℕ) (f : FormLine) → i < length fs → f ≡ get_or fs i f → slice_get (map declared_form fs) i ≡ Some (declared_form f)
+form_at fs i f lt is = slice_get-map declared_form fs i ∙ ap (option_map declared_form) (slice_get-get_or fs i f lt) ∙ ap (λ x. Some (declared_form x)) (sym is)
 
 -- two constructors with one label have the same parts
 pub one_constructor : (d : Declared) (label sort other : List ℕ) (n m : ℕ) (kids more : List Kid) → IsConstructor d label n sort kids → IsConstructor d label m other more → (n ≡ m) × (kids ≡ more)
@@ -180,10 +185,10 @@ line_found ps label i p e is =
     let lt = number_found (map (λ (l : Line). l.label) (map line ps)) label i e in
     line_at ps i p (omega (arith, lt, length-map (map line ps) (λ (l : Line). l.label), length-map ps line)) is
 
-pub form_found : (fs : List FormLine) (name : List ℕ) (i : ℕ) (f : FormLine) → first_at name (map (λ x. x.name) (map form fs)) ≡ Some i → f ≡ get_or fs i f → slice_get (map form fs) i ≡ Some (form f)
+pub form_found : (fs : List FormLine) (name : List ℕ) (i : ℕ) (f : FormLine) → first_at name (map (λ x. x.name) (map declared_form fs)) ≡ Some i → f ≡ get_or fs i f → slice_get (map declared_form fs) i ≡ Some (declared_form f)
 form_found fs name i f e is =
-    let lt = number_found (map (λ (x : FormData). x.name) (map form fs)) name i e in
-    form_at fs i f (omega (arith, lt, length-map (map form fs) (λ (x : FormData). x.name), length-map fs form)) is
+    let lt = number_found (map (λ (x : FormData). x.name) (map declared_form fs)) name i e in
+    form_at fs i f (omega (arith, lt, length-map (map declared_form fs) (λ (x : FormData). x.name), length-map fs declared_form)) is
 
 -- ---- the sorts of main forms
 
@@ -228,7 +233,7 @@ variable_none d name sort b e f =
 -- ---- the names of parts
 
 pub parts_are : (d : Declared) (label : List ℕ) (names : List (List ℕ)) (p : Line) (b : Bool) → production_named d label ≡ Some p
-    → IsTrue b ↔ (IsPlain d p.sort × AreDistinct names × NamesFit d names (kids_of p.symbols)) → IsTrue b ↔ ArePartNames d label names
+    → IsTrue b ↔ (IsPlain d p.sort × AreTextsDistinct names × NamesFit d names (kids_of p.symbols)) → IsTrue b ↔ ArePartNames d label names
 parts_are d label names p b found h = (
   (λ t. let k = h.0 t in record { line = p; line_is = found; plain = k.0; once = k.1; fit = k.2 }),
   λ k.
@@ -239,7 +244,7 @@ parts_are d label names p b found h = (
     some_line : (a b : Line) → Some a ≡ Some b → a ≡ b
     some_line a b e = cc
 
-pub parts_none : (d : Declared) (label : List ℕ) (names : List (List ℕ)) (b : Bool) → first_at label (labels (parts_of d)) ≡ None → b ≡ false → IsTrue b ↔ ArePartNames d label names
+pub parts_none : (d : Declared) (label : List ℕ) (names : List (List ℕ)) (b : Bool) → first_at label (labels (declared_parts d)) ≡ None → b ≡ false → IsTrue b ↔ ArePartNames d label names
 parts_none d label names b e f =
     ((λ t. absurd (false≢true (sym f ∙ t))), λ k. absurd (none_line k.line (sym (find_nothing (λ (x : Line). x.label) d.productions label e) ∙ k.line_is)))
   where
@@ -247,10 +252,10 @@ parts_none d label names b e f =
     none_line a e = cc
 
 -- the production that is found is the first
-pub production_found : (d : Declared) (label : List ℕ) (i : ℕ) (p : Line) → first_at label (labels (parts_of d)) ≡ Some i → slice_get d.productions i ≡ Some p → production_named d label ≡ Some p
+pub production_found : (d : Declared) (label : List ℕ) (i : ℕ) (p : Line) → first_at label (labels (declared_parts d)) ≡ Some i → slice_get d.productions i ≡ Some p → production_named d label ≡ Some p
 production_found d label i p e is =
-    let many : length (labels (parts_of d)) ≡ length d.productions = length-map d.productions (λ (x : Line). x.label) in
-    let within : i < length (labels (parts_of d)) = number_found (labels (parts_of d)) label i e in
+    let many : length (labels (declared_parts d)) ≡ length d.productions = length-map d.productions (λ (x : Line). x.label) in
+    let within : i < length (labels (declared_parts d)) = number_found (labels (declared_parts d)) label i e in
     find_place (λ (x : Line). x.label) d.productions label i p e ∙ sym (slice_get-get_or d.productions i p (omega (arith, many, within))) ∙ is
 
 pub ok_map : {X : Type 0} {E : Type 0} (r : Result X E) (P Q : X → Type 0) → ((x : X) → P x → Q x) → IfOk r P → IfOk r Q
@@ -258,5 +263,5 @@ ok_map (Ok x) P Q f h = f x h
 ok_map (Err e) P Q f h = tt
 
 pub fits_plain : (known before : Declared) (p : PlainLine) (row : Row) (r : Result Bool NoMemory) → row ≡ Plain p → IfOk r (λ b. IsTrue b ↔ ArePartNames known p.label p.names.items)
-    → IfOk r (λ b. IsTrue b ↔ Fits known before row)
-fits_plain known before p row r e h = subst (λ x. IfOk r (λ b. IsTrue b ↔ Fits known before x)) (sym e) h
+    → IfOk r (λ b. IsTrue b ↔ RowFits known before row)
+fits_plain known before p row r e h = subst (λ x. IfOk r (λ b. IsTrue b ↔ RowFits known before x)) (sym e) h

@@ -13,11 +13,13 @@ use Rattle.sx_outline.specs.declared.outline.Outline.{Outline}
 use Rattle.sx_outline.specs.declared.outline_error.OutlineError.{OutlineError}
 use Rattle.sx_outline.specs.declared.outline_error.OutlineError.TheVariants.{Notation}
 use Rattle.sx_outline.specs.Declarations.{Declared, nothing}
-use Rattle.sx_outline.specs.Fitting.{AreDistinct, IsKnownSort, IsMainOf}
+use Rattle.sx_outline.specs.Fitting.{IsKnownSort, IsMainOf}
+use Rattle.sx_lines.specs.Distinct.{AreTextsDistinct}
 use Rattle.sx_outline.specs.Known.{kept_lines, Declares}
 use Rattle.sx_outline.specs.Stages.{RuleData, State, start, IsWhole}
-use Rattle.sx_outline.specs.Outlined.{OutlineData, outline, declared_by, IsEnd, IsOutlineOf, IsOutlined, IsReadAs}
-use Rattle.sx_outline.specs.Sized.{HasShortLines, IsSized, IsFit}
+use Rattle.sx_outline.specs.Outlined.{OutlineData, outline, declared_by, IsEnd, IsOutlineOf}
+use Rattle.sx_outline.specs.Outlined.{IsOutlined, IsReadAs}
+use Rattle.sx_outline.specs.Sized.{HasShortLines, IsSized, IsFitOutline}
 use Rattle.sx_outline.proofs.AheadLaws.{whole_known}
 use Rattle.sx_outline.proofs.OutcomeLaws.{bytes_in, kept_full, kept_bytes}
 use Rattle.sx_outline.proofs.OutcomeSteps.{IsReached, reached, kept_to}
@@ -102,7 +104,7 @@ sized_outline name bytes o h =
       lines = subst (AllByRecursion (HasShortLines (length bytes))) last.is.rules (all_weaker (IsShortRule files.Language (length bytes)) (HasShortLines (length bytes)) (λ r h. h.0) last.state.rules last.holds.rules);
     }
 
-pub fit_outline : (name bytes : List ℕ) (o : OutlineData) → IsReadAs name bytes (Ok o) → IsFit o
+pub fit_outline : (name bytes : List ℕ) (o : OutlineData) → IsReadAs name bytes (Ok o) → IsFitOutline o
 unfolding last_state known_by
 fit_outline name bytes o h =
     let last = last_state name bytes o h in
@@ -114,7 +116,7 @@ fit_outline name bytes o h =
       line = last.is.line;
       main = by.2;
       sorts = subst (AllByRecursion (λ (s : SortLine). NotLexical s.name)) (sym fitting.sorts_are) fitting.sorts;
-      stems_once = subst (λ (x : List VarLine). AreDistinct (stems_of x)) (sym fitting.vars_are) fitting.stems_once;
+      stems_once = subst (λ (x : List VarLine). AreTextsDistinct (stems_of x)) (sym fitting.vars_are) fitting.stems_once;
       vars = subst (AllByRecursion (λ (v : VarLine). IsKnownSort (declared_by o last.is.line) v.sort)) (sym fitting.vars_are) fitting.vars;
       forms_once = fitting.forms_once;
       places = fitting.places;
@@ -128,6 +130,6 @@ pub sized_answer : (name bytes : List ℕ) (result : Result Outline OutlineError
 sized_answer name bytes (Ok o) h = sized_outline name bytes (outline o) h
 sized_answer name bytes (Err e) h = tt
 
-pub fit_answer : (name bytes : List ℕ) (result : Result Outline OutlineError) → IsOutlined name bytes result → IfOk result (λ o. IsFit (outline o))
+pub fit_answer : (name bytes : List ℕ) (result : Result Outline OutlineError) → IsOutlined name bytes result → IfOk result (λ o. IsFitOutline (outline o))
 fit_answer name bytes (Ok o) h = fit_outline name bytes (outline o) h
 fit_answer name bytes (Err e) h = tt

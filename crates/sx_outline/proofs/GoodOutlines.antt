@@ -6,7 +6,7 @@ use Rattle.sx_directives.specs.declared.file_kind.FileKind.TheVariants as files
 use Rattle.sx_directives.specs.declared.rows.MainLine.{MainLine}
 use Rattle.sx_directives.specs.declared.row.Row.TheVariants.{Sort, Prod, Var, Form, Main}
 use Rattle.sx_outline.specs.declared.main_form.MainForm.{MainForm}
-use Rattle.sx_outline.specs.Declarations.{Declared, nothing, declare, parts_of}
+use Rattle.sx_outline.specs.Declarations.{Declared, nothing, declare, declared_parts}
 use Rattle.sx_outline.specs.Fitting.{IsMainOf}
 use Rattle.sx_outline.specs.Stages.{Numbered}
 use Rattle.sx_outline.specs.Outlined.{OutlineData, declared_by}
@@ -32,7 +32,7 @@ pub good_outlined : (name : List ℕ) (known : Declared) (m : MainLine) (lines :
 good_outlined name known m lines h all mains =
     let good = h.among in
     let main = main_form known good.all.mains m (ap (λ (x : Declared). x.mains) all ∙ mains) good.mains in
-    let parts : Parts = parts_of known in
+    let parts : Parts = declared_parts known in
     let o : OutlineData = record { parts = parts; vars = known.vars; forms = known.forms; main = main.0; rules = good.stated } in
     let uses : known.uses ≡ [] = ap (λ (x : Declared). x.uses) (sym all) ∙ uses_stay files.Language known nothing good.all good.declarations good.declared in
     let same : known ≡ declared_by o m = λ i.

@@ -13,12 +13,16 @@ use Rattle.sx_directives.specs.Rows.{IsRow}
 use Rattle.sx_directives.specs.declared.rows.VarLine.{VarLine}
 use Rattle.sx_directives.specs.declared.rows.PlainLine.{PlainLine}
 use Rattle.sx_directives.specs.declared.row.Row.{Row}
-use Rattle.sx_directives.specs.declared.row.Row.TheVariants.{Sort, Prod, Var, Form, Main, Rule, End, Use, Plain, To}
+use Rattle.sx_directives.specs.declared.row.Row.TheVariants.{Sort, Prod, Var, Form, Main, Rule, End}
+use Rattle.sx_directives.specs.declared.row.Row.TheVariants.{Use, Plain, To}
 use Rattle.sx_outline.specs.Declarations.{Declared, declare}
-use Rattle.sx_outline.specs.Known.{Declares, GoesOn}
-use Rattle.sx_outline.specs.Fitting.{Kid, kid_sort, kids_of, IsKnownSort, IsPlain, IsVariableOf, NamesFit, ArePartNames, Fits}
+use Rattle.sx_outline.specs.Known.{Declares, RowGoesOn}
+use Rattle.sx_outline.specs.Fitting.{Kid, kid_sort, kids_of, IsKnownSort, IsPlain, IsVariableOf}
+use Rattle.sx_outline.specs.Fitting.{NamesFit, ArePartNames, RowFits}
 use Rattle.sx_outline.specs.Variables.{stem_of}
-use Rattle.sx_outline.specs.Stages.{Numbered, PlainData, RuleData, Stage, at_start, at_declarations, at_body, at_plains, at_rules, at_premises, at_conclusion, at_end, State, StepsAt, MayStandAt, after}
+use Rattle.sx_outline.specs.Stages.{Numbered, PlainData, RuleData, Stage, at_start, at_declarations}
+use Rattle.sx_outline.specs.Stages.{at_body, at_plains, at_rules, at_premises, at_conclusion}
+use Rattle.sx_outline.specs.Stages.{at_end, State, StepsAt, MayStandAt, after}
 use Rattle.sx_outline.proofs.OutcomeLaws.{after_declared}
 use Rattle.sx_outline.proofs.Led.{Leads}
 
@@ -74,7 +78,7 @@ grows_row d text (Var v) spelled = record {
 grows_row d text _ spelled = grows_same d d refl
 
 grows_goes : (d : Declared) (text : List ℕ) (row : Row) (all : Declared) (Next : Bool → Declared → Type 0) → IsRow files.Extension text row
-    → ((is_body : Bool) (next : Declared) → Next is_body next → Grows next all) → GoesOn d row all Next → Grows d all
+    → ((is_body : Bool) (next : Declared) → Next is_body next → Grows next all) → RowGoesOn d row all Next → Grows d all
 grows_goes d text (Rule name) all Next spelled f h = grows_same d all h
 grows_goes d text (Plain p) all Next spelled f h = f true d h
 grows_goes d text row all Next spelled f h = grows_on d (declare d row) all (grows_row d text row spelled) (f false (declare d row) h)
@@ -187,7 +191,7 @@ known_same d e name same h = subst (λ (x : List SortLine). IsKnownSort (sorted 
 -- a row that fits by what another file declares fits
 pub row_fits : (known other before : Declared) (text : List ℕ) (row : Row) → known.sorts ≡ other.sorts → known.uses ≡ other.uses
     → ((p : PlainLine) → row ≡ Plain p → ArePartNames other p.label p.names.items → ArePartNames known p.label p.names.items)
-    → IsRow files.Extension text row → Fits other before row → Fits known before row
+    → IsRow files.Extension text row → RowFits other before row → RowFits known before row
 row_fits known other before text (Var v) sorts uses plains spelled h = (h.0, known_same other known v.sort sorts h.1)
 row_fits known other before text (Form f) sorts uses plains spelled h = absurd (false≢true spelled.word)
 row_fits known other before text (Use name) sorts uses plains spelled h = λ c. h (subst (λ (x : List (List ℕ)). Contains x name) uses c)

@@ -9,16 +9,22 @@ use Rattle.std.specs.Global.{Vec}
 use Rattle.sx_lines.specs.declared.rest.Rest.{Rest}
 use Rattle.sx_lines.specs.Left.{left}
 use Rattle.sx_lines.specs.declared.kind.Kind.{Kind}
-use Rattle.sx_lines.specs.declared.kind.Kind.TheVariants.{Head, Directive, Shape, Order, Unfinished, Main, Variable}
+use Rattle.sx_lines.specs.declared.kind.Kind.TheVariants.{Head, Directive, Shape, Order, Unfinished}
+use Rattle.sx_lines.specs.declared.kind.Kind.TheVariants.{Main, Variable}
 use Rattle.sx_directives.specs.Rows.{IsRow}
 use Rattle.sx_directives.specs.declared.file_kind.FileKind.TheVariants as files
 use Rattle.sx_directives.specs.declared.row.Row.TheVariants.{Extension, Use}
 use Rattle.sx_outline.specs.declared.extension_header.ExtensionHeader.{ExtensionHeader}
 use Rattle.sx_outline.specs.declared.outline_error.OutlineError.{OutlineError}
-use Rattle.sx_outline.specs.declared.outline_error.OutlineError.TheVariants.{Memory, NotUtf8, Notation}
+use Rattle.sx_outline.specs.declared.outline_error.OutlineError.TheVariants.{Memory, NotUtf8}
+use Rattle.sx_outline.specs.declared.outline_error.OutlineError.TheVariants.{Notation}
 use Rattle.sx_outline.specs.Known.{kept_lines}
-use Rattle.sx_outline.specs.Headers.{HeaderData, header, begun, with_use, IsHeader, IsHeaderOf, IsHeaderRead, IsLanguageLine, IsLanguageNext, IsUseLine, IsNewUse, AreUses}
-use Rattle.sx_outline.specs.HeaderReading.{using, IsUseRefused, IsUseRead, EndsWith, IsBadIn, AreUsesOf, AreUsesRead, OrLacking, read_header, IsLanguageRead, IsNamedHeaderRead, IsAnyHeaderRead}
+use Rattle.sx_outline.specs.Headers.{HeaderData, header, header_begun, with_use, IsHeader}
+use Rattle.sx_outline.specs.Headers.{IsHeaderOf, IsHeaderRead, IsLanguageLine, IsLanguageNext}
+use Rattle.sx_outline.specs.Headers.{IsUseLine, IsNewUse, AreUses}
+use Rattle.sx_outline.specs.HeaderReading.{using, IsUseRefused, IsUseRead, EndsWith, IsBadIn}
+use Rattle.sx_outline.specs.HeaderReading.{AreUsesOf, AreUsesRead, OrLacking, read_header}
+use Rattle.sx_outline.specs.HeaderReading.{IsLanguageRead, IsNamedHeaderRead, IsAnyHeaderRead}
 use Rattle.sx_outline.proofs.SameRows.{same_row}
 
 -- ---- one line
@@ -83,7 +89,7 @@ using_ends all rest more old new given n text after false u e is t g = λ h none
 pub using_refused : (all rest more : Lines) (old : List (List ℕ)) (n : ℕ) (text after : List ℕ) (x : OutlineError) → Using all old rest → rest ≡ line n text after more
     → ((h : HeaderData) → IsUseRefused (using h old) n text x) → (h : HeaderData) → h.uses ≡ [] → OrLacking (AreUsesOf all h) (Err x)
 using_refused all rest more old n text after Memory u e is = λ h none. tt
-using_refused all rest more old n text after (NotUtf8 place) u e is = λ h none. is (begun [] [])
+using_refused all rest more old n text after (NotUtf8 place) u e is = λ h none. is (header_begun [] [])
 using_refused all rest more old n text after (Notation l Shape) u e is = λ h none.
     let w = is h in
     u.goes h (Err (Notation l Shape)) none
@@ -99,7 +105,7 @@ using_refused all rest more old n text after (Notation l Variable) u e is = λ h
 
 -- an outcome of the uses is one of the lines with the second before them
 language_on : (name language : List ℕ) (n : ℕ) (text after : List ℕ) (more lines : Lines) (r : Result (HeaderData × Lines) OutlineError) → lines ≡ line n text after more → IsLanguageLine text language
-    → OrLacking (AreUsesOf more (begun name language)) r → OrLacking (λ x. IsLanguageNext name lines (EndsWith x) (IsBadIn x)) r
+    → OrLacking (AreUsesOf more (header_begun name language)) r → OrLacking (λ x. IsLanguageNext name lines (EndsWith x) (IsBadIn x)) r
 language_on name language n text after more lines (Err Memory) e is h = tt
 language_on name language n text after more lines (Err (NotUtf8 place)) e is h = h
 language_on name language n text after more lines (Err (Notation l kind)) e is h =
@@ -111,11 +117,11 @@ language_on name language n text after more lines (Ok x) e is h =
 pub language_read : (name language : List ℕ) (uses : Vec (List ℕ)) (rest : Rest) (n : ℕ) (text after : List ℕ) (more lines : Lines) → lines ≡ line n text after more → IsLanguageLine text language
     → AreUsesRead more (Ok (uses, rest)) → IsLanguageRead name lines (Ok (record { name = name; language = language; uses = uses }, rest))
 language_read name language uses rest n text after more lines e is h =
-    language_on name language n text after more lines (Ok (record { name = name; language = language; uses = uses.items }, kept_lines (left rest))) e is (h (begun name language) refl)
+    language_on name language n text after more lines (Ok (record { name = name; language = language; uses = uses.items }, kept_lines (left rest))) e is (h (header_begun name language) refl)
 
 pub language_refused : (name language : List ℕ) (n : ℕ) (text after : List ℕ) (more lines : Lines) (x : OutlineError) → lines ≡ line n text after more → IsLanguageLine text language → AreUsesRead more (Err x)
     → IsLanguageRead name lines (Err x)
-language_refused name language n text after more lines x e is h = language_on name language n text after more lines (Err x) e is (h (begun name language) refl)
+language_refused name language n text after more lines x e is h = language_on name language n text after more lines (Err x) e is (h (header_begun name language) refl)
 
 -- an outcome of the lines after the first is one of all
 named_on : (name : List ℕ) (n : ℕ) (text after : List ℕ) (more lines : Lines) (r : Result (HeaderData × Lines) OutlineError) → lines ≡ line n text after more → IsRow files.Extension text (Extension name)
@@ -155,7 +161,7 @@ uses_to Next Later Bad Worse f g h (line n text after more) (inr (inr x)) = inr 
 pub language_to : (Next Later : HeaderData → Lines → Type 0) (Bad Worse : ℕ → Kind → Type 0) → ((h : HeaderData) (lines : Lines) → Next h lines → Later h lines)
     → ((n : ℕ) (bad : Kind) → Bad n bad → Worse n bad) → (name : List ℕ) (lines : Lines) → IsLanguageNext name lines Next Bad → IsLanguageNext name lines Later Worse
 language_to Next Later Bad Worse f g name (over n) x = g n Head x
-language_to Next Later Bad Worse f g name (line n text after more) (inl x) = inl (x.0, x.1, uses_to Next Later Bad Worse f g (begun name x.0) more x.2)
+language_to Next Later Bad Worse f g name (line n text after more) (inl x) = inl (x.0, x.1, uses_to Next Later Bad Worse f g (header_begun name x.0) more x.2)
 language_to Next Later Bad Worse f g name (line n text after more) (inr x) = inr (x.0, g n Head x.1)
 
 pub named_to : (Next Later : HeaderData → Lines → Type 0) (Bad Worse : ℕ → Kind → Type 0) → ((h : HeaderData) (lines : Lines) → Next h lines → Later h lines)

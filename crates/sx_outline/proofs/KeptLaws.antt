@@ -14,10 +14,16 @@ use Rattle.sx_directives.specs.Rows.{IsRow, IsBodyText, is_word_of, word_of}
 use Rattle.sx_grammar.specs.declared.sort_line.SortLine.{SortLine}
 use Rattle.sx_directives.specs.declared.rows.VarLine.{VarLine}
 use Rattle.sx_directives.specs.declared.row.Row.{Row}
-use Rattle.sx_directives.specs.declared.row.Row.TheVariants.{Sort, Prod, Var, Form, Main, Plain, Rule, End, To}
-use Rattle.sx_outline.specs.Declarations.{Declared, FormData, form, declare}
-use Rattle.sx_outline.specs.Fitting.{ArePartNames, AreDistinct, Fits, IsKnownSort, SymbolFits, HasOneSubject, stems, form_names}
-use Rattle.sx_outline.specs.Stages.{Numbered, PlainData, RuleData, Stage, at_start, at_declarations, at_body, at_plains, at_rules, at_premises, at_conclusion, at_end, State, Steps, StepsAt, IsGoodRow, MayStandAt, after, paired}
+use Rattle.sx_directives.specs.declared.row.Row.TheVariants.{Sort, Prod, Var, Form, Main, Plain}
+use Rattle.sx_directives.specs.declared.row.Row.TheVariants.{Rule, End, To}
+use Rattle.sx_outline.specs.Declarations.{Declared, FormData, declared_form, declare}
+use Rattle.sx_outline.specs.Fitting.{ArePartNames, RowFits, IsKnownSort}
+use Rattle.sx_lines.specs.Distinct.{AreTextsDistinct}
+use Rattle.sx_outline.specs.Fitting.{SymbolFits, HasOneSubjectSymbol, stems, form_names}
+use Rattle.sx_outline.specs.Stages.{Numbered, PlainData, RuleData, Stage, at_start, at_declarations}
+use Rattle.sx_outline.specs.Stages.{at_body, at_plains, at_rules, at_premises, at_conclusion}
+use Rattle.sx_outline.specs.Stages.{at_end, State, Steps, StepsAt, IsGoodRow, MayStandAt, after}
+use Rattle.sx_outline.specs.Stages.{paired}
 use Rattle.sx_outline.specs.Sized.{HasShortLines}
 use Rattle.sx_outline.specs.Reading.{IsAhead}
 use Rattle.sx_outline.proofs.AheadLaws.{ahead_next}
@@ -60,7 +66,7 @@ first_again : (first text : List ℕ) (texts : List (List ℕ)) → (Contains te
 first_again first text texts h n (inl c) = h c
 first_again first text texts h n (inr e) = n (0, omega arith, sym e)
 
-pub distinct_push : (texts : List (List ℕ)) (text : List ℕ) → AreDistinct texts → (Contains texts text → ⊥) → AreDistinct (texts ++ text ∷ [])
+pub distinct_push : (texts : List (List ℕ)) (text : List ℕ) → AreTextsDistinct texts → (Contains texts text → ⊥) → AreTextsDistinct (texts ++ text ∷ [])
 distinct_push [] text h n = (nothing_in text, tt)
 distinct_push (first ∷ texts) text h n =
     (λ c. first_again first text texts h.0 n (Contains-push_cases texts text first c), distinct_push texts text h.1 (λ c. n (later first text texts c)))
@@ -75,17 +81,17 @@ pub record AreFitting (known base d : Declared) : Type 0 where
   pub sorts : AllByRecursion (λ s. NotLexical s.name) own_sorts
   pub own_vars : List VarLine
   pub vars_are : d.vars ≡ base.vars ++ own_vars
-  pub stems_once : AreDistinct (stems_of own_vars)
+  pub stems_once : AreTextsDistinct (stems_of own_vars)
   pub stems_apart : AllByRecursion (λ v. Contains (stems base) v.stem → ⊥) own_vars
   pub vars : AllByRecursion (λ v. IsKnownSort known v.sort) own_vars
-  pub forms_once : AreDistinct (form_names d)
+  pub forms_once : AreTextsDistinct (form_names d)
   pub places : AllByRecursion (λ f. AllByRecursion (SymbolFits known) f.symbols) d.forms
-  pub subjects : AllByRecursion (λ f. HasOneSubject f.symbols) d.forms
+  pub subjects : AllByRecursion (λ f. HasOneSubjectSymbol f.symbols) d.forms
 
 stems_both : (known base d : Declared) (h : AreFitting known base d) → stems d ≡ stems base ++ stems_of h.own_vars
 stems_both known base d h = ap stems_of h.vars_are ∙ map-append (λ (v : VarLine). v.stem) base.vars h.own_vars
 
-fitting_row : (kind : FileKind) (known base d : Declared) (text : List ℕ) (row : Row) → IsRow kind text row → Fits known d row → AreFitting known base d → AreFitting known base (declare d row)
+fitting_row : (kind : FileKind) (known base d : Declared) (text : List ℕ) (row : Row) → IsRow kind text row → RowFits known d row → AreFitting known base d → AreFitting known base (declare d row)
 fitting_row kind known base d text (Sort s) is fits h = record {
   own_sorts = h.own_sorts ++ s ∷ [];
   sorts_are = ap (λ (x : List SortLine). x ++ s ∷ []) h.sorts_are ∙ append_assoc base.sorts h.own_sorts (s ∷ []);
@@ -120,7 +126,7 @@ fitting_row kind known base d text (Var v) is fits h =
       sorts = h.sorts;
       own_vars = h.own_vars ++ v ∷ [];
       vars_are = ap (λ (x : List VarLine). x ++ v ∷ []) h.vars_are ∙ append_assoc base.vars h.own_vars (v ∷ []);
-      stems_once = subst AreDistinct (sym (map-append (λ (v : VarLine). v.stem) h.own_vars (v ∷ [])))
+      stems_once = subst AreTextsDistinct (sym (map-append (λ (v : VarLine). v.stem) h.own_vars (v ∷ [])))
           (distinct_push (stems_of h.own_vars) v.stem h.stems_once
           (λ there. fits.0 (subst (λ (x : List (List ℕ)). Contains x v.stem) (sym both) (Contains-append_right (stems base) (stems_of h.own_vars) v.stem there))));
       stems_apart = all_push (λ (v : VarLine). Contains (stems base) v.stem → ⊥) h.own_vars v h.stems_apart
@@ -139,9 +145,9 @@ fitting_row kind known base d text (Form f) is fits h = record {
   stems_once = h.stems_once;
   stems_apart = h.stems_apart;
   vars = h.vars;
-  forms_once = subst AreDistinct (sym (map-append (λ (f : FormData). f.name) d.forms (form f ∷ []))) (distinct_push (form_names d) f.name h.forms_once fits.0);
-  places = all_push (λ (f : FormData). AllByRecursion (SymbolFits known) f.symbols) d.forms (form f) h.places fits.1;
-  subjects = all_push (λ (f : FormData). HasOneSubject f.symbols) d.forms (form f) h.subjects fits.2;
+  forms_once = subst AreTextsDistinct (sym (map-append (λ (f : FormData). f.name) d.forms (declared_form f ∷ []))) (distinct_push (form_names d) f.name h.forms_once fits.0);
+  places = all_push (λ (f : FormData). AllByRecursion (SymbolFits known) f.symbols) d.forms (declared_form f) h.places fits.1;
+  subjects = all_push (λ (f : FormData). HasOneSubjectSymbol f.symbols) d.forms (declared_form f) h.subjects fits.2;
 }
 fitting_row kind known base d text (Main m) is fits h = record {
   own_sorts = h.own_sorts;
@@ -212,7 +218,7 @@ pub record IsKeptRow (top : ℕ) (base known d : Declared) (left : ℕ) : Type 0
   pub good : AreGood d
   pub fitting : AreFitting known base d
 
-kept_row : (kind : FileKind) (top : ℕ) (base known d : Declared) (text : List ℕ) (left all : ℕ) (row : Row) → IsRow kind text row → Fits known d row → all ≡ length text + left
+kept_row : (kind : FileKind) (top : ℕ) (base known d : Declared) (text : List ℕ) (left all : ℕ) (row : Row) → IsRow kind text row → RowFits known d row → all ≡ length text + left
     → weight d + all ≤ top → AreGood d → AreFitting known base d → IsKeptRow top base known (declare d row) left
 kept_row kind top base known d text left all row is fits e weighs good fitting =
     let w = row_weighs kind d text row is in
@@ -238,7 +244,7 @@ body_long text body ((at, rest, cut, is), utf8) =
     omega arith
 
 short_row : (kind : FileKind) (known : Declared) (size left : ℕ) (at : Stage) (d : Declared) (plains : List PlainData) (rules : List RuleData) (n : ℕ) (text : List ℕ) (row : Row) → IsRow kind text row
-    → Fits known d row → MayStandAt at d.mains row → left ≤ size → length text ≤ size → IsShortStage kind known size left at → AllByRecursion (IsGoodPlain known size) plains
+    → RowFits known d row → MayStandAt at d.mains row → left ≤ size → length text ≤ size → IsShortStage kind known size left at → AllByRecursion (IsGoodPlain known size) plains
     → AllByRecursion (IsShortRule kind size) rules → HasShort kind known size left (after (record { stage = at; declared = d; plains = plains; rules = rules }) n row)
 short_row kind known size left at_declarations d plains rules n text (Sort x) is fits stands le long short p h = (tt, p, h)
 short_row kind known size left at_declarations d plains rules n text (Prod x) is fits stands le long short p h = (tt, p, h)

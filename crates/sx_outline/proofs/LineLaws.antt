@@ -8,7 +8,7 @@ use Rattle.std.proofs.lemmas.Bool.Decides.{nat_tests}
 use Rattle.sx_lines.specs.Bytes.{is_blank}
 use Rattle.sx_lines.specs.Lines.{Lines, over, line}
 use Rattle.sx_lines.specs.Words.{after}
-use Rattle.sx_directives.specs.Parts.{parts_of, begun, with_byte}
+use Rattle.sx_directives.specs.Parts.{parts_of, begun_part, with_byte}
 use Rattle.sx_outline.specs.Known.{is_dropped, kept_lines}
 
 -- ---- the front of a line
@@ -17,7 +17,7 @@ parts_skip : (b : ℕ) (text : List ℕ) → is_blank b ≡ true → parts_of (b
 unfolding parts_of
 parts_skip b text t = rw t refl
 
-parts_begin : (b : ℕ) (text : List ℕ) → is_blank b ≡ false → parts_of (b ∷ text) ≡ begun b text (parts_of text)
+parts_begin : (b : ℕ) (text : List ℕ) → is_blank b ≡ false → parts_of (b ∷ text) ≡ begun_part b text (parts_of text)
 unfolding parts_of
 parts_begin b text t = rw t refl
 
@@ -45,7 +45,7 @@ first_part b text t = by text (parts_of text) (parts_begin b text t)
     going true parts = ([], parts, refl)
     going false parts = behind parts
 
-    by : (rest : List ℕ) (parts : List (List ℕ)) → parts_of (b ∷ text) ≡ begun b rest parts → (tail : List ℕ) × (more : List (List ℕ)) × (parts_of (b ∷ text) ≡ (b ∷ tail) ∷ more)
+    by : (rest : List ℕ) (parts : List (List ℕ)) → parts_of (b ∷ text) ≡ begun_part b rest parts → (tail : List ℕ) × (more : List (List ℕ)) × (parts_of (b ∷ text) ≡ (b ∷ tail) ∷ more)
     by [] parts e = ([], parts, e)
     by (c ∷ rest) parts e = let w = going (is_blank c) parts in (w.0, w.1, e ∙ w.2)
 
@@ -70,7 +70,7 @@ front_step b c more parts false t h =
     let w = h refl in
     ap (λ z. is_dropped (with_byte b z)) w.2 ∙ after_two (eqb b 47) (eqb c 47) w.0 more
 
-dropped_begun : (b : ℕ) (text : List ℕ) → is_dropped (begun b text (parts_of text)) ≡ is_some (after (codes "//") (b ∷ text))
+dropped_begun : (b : ℕ) (text : List ℕ) → is_dropped (begun_part b text (parts_of text)) ≡ is_some (after (codes "//") (b ∷ text))
 unfolding after
 dropped_begun b [] = refl
 dropped_begun b (c ∷ more) = front_step b c more (parts_of (c ∷ more)) (is_blank c) refl (λ t. first_part c more t)

@@ -4,11 +4,13 @@ use Rattle.sx_lines.specs.Lines.{Lines, over, line}
 use Rattle.sx_directives.specs.declared.file_kind.FileKind.{FileKind}
 use Rattle.sx_directives.specs.Rows.{IsRow}
 use Rattle.sx_directives.specs.declared.row.Row.{Row}
-use Rattle.sx_directives.specs.declared.row.Row.TheVariants.{Sort, Prod, Var, Form, Main, Plain, Rule}
+use Rattle.sx_directives.specs.declared.row.Row.TheVariants.{Sort, Prod, Var, Form, Main, Plain}
+use Rattle.sx_directives.specs.declared.row.Row.TheVariants.{Rule}
 use Rattle.sx_outline.specs.Declarations.{Declared, declare}
-use Rattle.sx_outline.specs.Known.{Declares, GoesOn}
+use Rattle.sx_outline.specs.Known.{Declares, RowGoesOn}
 use Rattle.sx_outline.specs.Stages.{Numbered, PlainData, RuleData}
-use Rattle.sx_outline.specs.Structure.{numbered_lines, IsDeclaring, AreDeclarations, ArePairs, AreRules}
+use Rattle.sx_outline.specs.Structure.{numbered_lines, IsDeclaring, AreDeclarations, ArePairs}
+use Rattle.sx_outline.specs.Structure.{AreRules}
 
 pub none_first : (l : Numbered) (lines : List Numbered) → [] ≡ l ∷ lines → ⊥
 none_first l lines e = cc
@@ -48,7 +50,7 @@ declares_pairs kind known d (line n text after (line m other later more)) (first
       declares_pairs kind known d more pairs rule_lines plains rules (tail_same there body (numbered_lines more) (pairs ++ rule_lines) off) is h.1 rest,
     )
 
-goes_on : (d : Declared) (row : Row) (all : Declared) (Next : Bool → Declared → Type 0) → IsDeclaring row → Next false (declare d row) → GoesOn d row all Next
+goes_on : (d : Declared) (row : Row) (all : Declared) (Next : Bool → Declared → Type 0) → IsDeclaring row → Next false (declare d row) → RowGoesOn d row all Next
 goes_on d (Sort s) all Next declaring h = h
 goes_on d (Prod p) all Next declaring h = h
 goes_on d (Var v) all Next declaring h = h

@@ -6,10 +6,15 @@ use Rattle.sx_directives.specs.declared.file_kind.FileKind.{FileKind}
 use Rattle.sx_directives.specs.Rows.{IsRow}
 use Rattle.sx_directives.specs.declared.rows.PlainLine.{PlainLine}
 use Rattle.sx_directives.specs.declared.row.Row.{Row}
-use Rattle.sx_directives.specs.declared.row.Row.TheVariants.{Sort, Prod, Var, Form, Main, Plain, Rule, End, To}
+use Rattle.sx_directives.specs.declared.row.Row.TheVariants.{Sort, Prod, Var, Form, Main, Plain}
+use Rattle.sx_directives.specs.declared.row.Row.TheVariants.{Rule, End, To}
 use Rattle.sx_outline.specs.Declarations.{Declared, declare}
-use Rattle.sx_outline.specs.Fitting.{ArePartNames, Fits}
-use Rattle.sx_outline.specs.Stages.{Numbered, PlainData, RuleData, Begun, begun_plain, Stage, at_start, at_declarations, at_body, at_plains, at_rules, at_premises, at_conclusion, at_end, State, StepsAt, IsBar, IsWhole, MayStandAt, after, with_premise, with_body, concluded, paired}
+use Rattle.sx_outline.specs.Fitting.{ArePartNames, RowFits}
+use Rattle.sx_outline.specs.Stages.{Numbered, PlainData, RuleData, Begun, begun_plain, Stage}
+use Rattle.sx_outline.specs.Stages.{at_start, at_declarations, at_body, at_plains, at_rules}
+use Rattle.sx_outline.specs.Stages.{at_premises, at_conclusion, at_end, State, StepsAt, IsBar}
+use Rattle.sx_outline.specs.Stages.{IsWhole, MayStandAt, after, with_premise, with_body, concluded}
+use Rattle.sx_outline.specs.Stages.{paired}
 use Rattle.sx_outline.specs.Structure.{numbered_lines, IsDeclaring, AreBodies}
 use Rattle.sx_outline.specs.Reading.{IsAhead}
 use Rattle.sx_outline.proofs.AheadLaws.{ahead_next, whole_known}
@@ -134,7 +139,7 @@ none_declared kind known d plains rules o lines h =
 
 -- a declaration
 declared_more : (kind : FileKind) (known d : Declared) (plains : List PlainData) (rules : List RuleData) (o : Whole) (l : Numbered) (row : Row) (lines : List Numbered) → IsRow kind l.text row
-    → IsDeclaring row → Fits known d row → IsRestOfFile kind known (declare d row) plains rules o lines → IsRestOfFile kind known d plains rules o (l ∷ lines)
+    → IsDeclaring row → RowFits known d row → IsRestOfFile kind known (declare d row) plains rules o lines → IsRestOfFile kind known d plains rules o (l ∷ lines)
 declared_more kind known d plains rules o l row lines spelled declaring fits h = record {
   declarations = l ∷ h.declarations;
   others = h.others;
@@ -144,7 +149,7 @@ declared_more kind known d plains rules o l row lines spelled declaring fits h =
 }
 
 declarations_row : (kind : FileKind) (known : Declared) (name : List ℕ) (d : Declared) (plains : List PlainData) (rules : List RuleData) (o : Whole) (n : ℕ) (text : List ℕ) (row : Row) (lines : List Numbered)
-    → IsRow kind text row → Fits known d row → MayStandAt at_declarations d.mains row
+    → IsRow kind text row → RowFits known d row → MayStandAt at_declarations d.mains row
     → LeftAt kind known name o lines (after (record { stage = at_declarations; declared = d; plains = plains; rules = rules }) n row)
     → IsRestOfFile kind known d plains rules o (record { number = n; text = text } ∷ lines)
 declarations_row kind known name d plains rules o n text (Sort s) lines spelled fits stands h =
@@ -165,7 +170,7 @@ declarations_row kind known name d plains rules o n text (Rule given) lines spel
 declarations_row kind known name d plains rules o n text _ lines spelled fits stands h = absurd stands
 
 plains_row : (kind : FileKind) (known : Declared) (name : List ℕ) (d : Declared) (plains : List PlainData) (rules : List RuleData) (o : Whole) (n : ℕ) (text : List ℕ) (row : Row) (lines : List Numbered)
-    → IsRow kind text row → Fits known d row → MayStandAt at_plains d.mains row
+    → IsRow kind text row → RowFits known d row → MayStandAt at_plains d.mains row
     → LeftAt kind known name o lines (after (record { stage = at_plains; declared = d; plains = plains; rules = rules }) n row)
     → IsRestOfPairs kind known d plains rules o (record { number = n; text = text } ∷ lines)
 plains_row kind known name d plains rules o n text (Plain row) lines spelled fits stands h = begun_pair kind known d plains rules o n text row lines spelled fits h

@@ -5,10 +5,15 @@ use Rattle.sx_directives.specs.declared.file_kind.FileKind.{FileKind}
 use Rattle.sx_directives.specs.Rows.{IsRow}
 use Rattle.sx_directives.specs.declared.rows.PlainLine.{PlainLine}
 use Rattle.sx_directives.specs.declared.row.Row.{Row}
-use Rattle.sx_directives.specs.declared.row.Row.TheVariants.{Sort, Prod, Var, Form, Main, Plain, Rule, End, To}
+use Rattle.sx_directives.specs.declared.row.Row.TheVariants.{Sort, Prod, Var, Form, Main, Plain}
+use Rattle.sx_directives.specs.declared.row.Row.TheVariants.{Rule, End, To}
 use Rattle.sx_outline.specs.Declarations.{Declared, declare}
-use Rattle.sx_outline.specs.Fitting.{ArePartNames, Fits}
-use Rattle.sx_outline.specs.Stages.{Numbered, PlainData, RuleData, Begun, BegunPlain, begun_plain, Stage, at_start, at_declarations, at_body, at_plains, at_rules, at_premises, at_conclusion, at_end, State, StepsAt, IsGoodRow, IsBar, MayStandAt, after, at as to, with_premise, with_body, with_plain, concluded, paired, head_row}
+use Rattle.sx_outline.specs.Fitting.{ArePartNames, RowFits}
+use Rattle.sx_outline.specs.Stages.{Numbered, PlainData, RuleData, Begun, BegunPlain, begun_plain}
+use Rattle.sx_outline.specs.Stages.{Stage, at_start, at_declarations, at_body, at_plains, at_rules}
+use Rattle.sx_outline.specs.Stages.{at_premises, at_conclusion, at_end, State, StepsAt, IsGoodRow}
+use Rattle.sx_outline.specs.Stages.{IsBar, MayStandAt, after, at as to, with_premise, with_body}
+use Rattle.sx_outline.specs.Stages.{with_plain, concluded, paired, head_row}
 use Rattle.sx_outline.specs.Structure.{IsDeclaring, AreBodies, AreDeclarations, ArePairs, AreRules}
 use Rattle.sx_outline.specs.BadLines.{AreMains}
 use Rattle.sx_outline.proofs.MainLines.{first_main, mains_stay}
@@ -153,7 +158,7 @@ undeclared_lead kind known name d plains rules o n text lines (by_rule given spe
 -- a declaration other than a main line
 declared_leads : (kind : FileKind) (known : Declared) (name : List ℕ) (d : Declared) (plains : List PlainData) (rules : List RuleData) (o : Whole) → AreMains known known.mains
     → (n : ℕ) (text : List ℕ) (row : Row) (declarations others lines : List Numbered) → lines ≡ declarations ++ others → IsRow kind text row → IsDeclaring row
-    → Fits known d row → AreDeclarations kind known (declare d row) declarations known → IsRestOfPairs kind known known plains rules o others
+    → RowFits known d row → AreDeclarations kind known (declare d row) declarations known → IsRestOfPairs kind known known plains rules o others
     → LeadsOn kind known name at_declarations d plains rules o n text lines
 declared_leads kind known name d plains rules o mains n text (Sort s) declarations others lines e spelled declaring fits h rest = record {
   next = after (record { stage = at_declarations; declared = d; plains = plains; rules = rules }) n (Sort s);

@@ -5,13 +5,14 @@ use Rattle.std.proofs.lemmas.List.{take_more, take_all, drop_more}
 use Rattle.std.proofs.lemmas.Bool.{false≢true}
 use Rattle.sx_outline.specs.declared.places.Places.{Places}
 use Rattle.sx_outline.specs.Declarations.{Declared}
-use Rattle.sx_outline.specs.Fitting.{AreDistinct, Kid, NamesFit}
+use Rattle.sx_outline.specs.Fitting.{Kid, NamesFit}
+use Rattle.sx_lines.specs.Distinct.{AreTextsDistinct}
 use Rattle.sx_outline.specs.Tables.{ArePlaces}
 use Rattle.sx_outline.proofs.KeptLaws.{distinct_push}
 
 -- ---- names that stand once
 
-seen_twice : (names : List (List ℕ)) (i : ℕ) (name : List ℕ) → i < length names → name ≡ get_or names i name → Contains (take i names) name → AreDistinct names → ⊥
+seen_twice : (names : List (List ℕ)) (i : ℕ) (name : List ℕ) → i < length names → name ≡ get_or names i name → Contains (take i names) name → AreTextsDistinct names → ⊥
 seen_twice names zero name low is there h = omega (arith, there.1)
 seen_twice [] (suc i) name low is there h = omega (arith, low)
 seen_twice (x ∷ names) (suc i) name low is (zero, lt, e) h = h.0 (subst (Contains names) (sym e) (i, omega (arith, low), sym is))
@@ -24,7 +25,7 @@ front_again names i low =
 
 -- a name that stands before it stands twice
 pub not_distinct : (names : List (List ℕ)) (i : ℕ) (name : List ℕ) (b : Bool) → i < length names → name ≡ get_or names i name → IsTrue b ↔ Contains (take i (take i names)) name → b ≡ true
-    → IsTrue false ↔ AreDistinct names
+    → IsTrue false ↔ AreTextsDistinct names
 not_distinct names i name b low is before t =
     ((λ f. absurd (false≢true f)), λ h. absurd (seen_twice names i name low is (subst (λ (x : List (List ℕ)). Contains x name) (front_again names i low) (before.0 t)) h))
 
@@ -39,13 +40,13 @@ texts_more names i name old new low is so_far push =
 pub texts_all : (names : List (List ℕ)) (i : ℕ) (places : Places) → length names ≤ i → ArePlaces (take i names) places → ArePlaces names places
 texts_all names i places le h = subst (λ (x : List (List ℕ)). ArePlaces x places) (take_all i names le) h
 
-pub distinct_more : (names : List (List ℕ)) (i : ℕ) (name : List ℕ) (old new : Places) (b : Bool) → i < length names → name ≡ get_or names i name → ArePlaces (take i names) old × AreDistinct (take i names)
+pub distinct_more : (names : List (List ℕ)) (i : ℕ) (name : List ℕ) (old new : Places) (b : Bool) → i < length names → name ≡ get_or names i name → ArePlaces (take i names) old × AreTextsDistinct (take i names)
     → IsTrue b ↔ Contains (take i (take i names)) name → b ≡ false → ((xs : List (List ℕ)) → ArePlaces xs old → i ≡ length xs → ArePlaces (xs ++ name ∷ []) new)
-    → ArePlaces (take (i + 1) names) new × AreDistinct (take (i + 1) names)
+    → ArePlaces (take (i + 1) names) new × AreTextsDistinct (take (i + 1) names)
 distinct_more names i name old new b low is so_far before f push =
     let more : take (i + 1) names ≡ take i names ++ name ∷ [] = take_more names i name low ∙ ap (λ y. take i names ++ y ∷ []) (sym is) in (
       texts_more names i name old new low is so_far.0 push,
-      subst AreDistinct (sym more) (distinct_push (take i names) name so_far.1
+      subst AreTextsDistinct (sym more) (distinct_push (take i names) name so_far.1
           (λ there. false≢true (sym f ∙ before.1 (subst (λ (x : List (List ℕ)). Contains x name) (sym (front_again names i low)) there)))),
     )
 

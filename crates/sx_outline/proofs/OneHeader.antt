@@ -6,9 +6,12 @@ use Rattle.sx_lines.specs.declared.kind.Kind.TheVariants.{Head, Shape}
 use Rattle.sx_directives.specs.declared.file_kind.FileKind.TheVariants as files
 use Rattle.sx_directives.specs.declared.row.Row.TheVariants.{Extension, Language, Use}
 use Rattle.sx_outline.specs.declared.outline_error.OutlineError.{OutlineError}
-use Rattle.sx_outline.specs.declared.outline_error.OutlineError.TheVariants.{Memory, NotUtf8, Notation}
+use Rattle.sx_outline.specs.declared.outline_error.OutlineError.TheVariants.{Memory, NotUtf8}
+use Rattle.sx_outline.specs.declared.outline_error.OutlineError.TheVariants.{Notation}
 use Rattle.sx_outline.specs.Known.{kept_lines}
-use Rattle.sx_outline.specs.Headers.{HeaderData, begun, with_use, IsUseLine, IsNewUse, AreUses, IsLanguageNext, IsHeaderOf, IsHeader, IsHeaderIn, IsHeaderAnswer}
+use Rattle.sx_outline.specs.Headers.{HeaderData, header_begun, with_use, IsUseLine, IsNewUse}
+use Rattle.sx_outline.specs.Headers.{AreUses, IsLanguageNext, IsHeaderOf, IsHeader, IsHeaderIn}
+use Rattle.sx_outline.specs.Headers.{IsHeaderAnswer}
 use Rattle.sx_outline.proofs.SameRows.{same_row}
 
 use_line : (h : HeaderData) (text used : List ℕ) → IsNewUse h text used → IsUseLine text
@@ -35,7 +38,7 @@ both_languages : (R : Type 0) (NextA NextB : HeaderData → Lines → Type 0) (B
 both_languages R NextA NextB BadA BadB f g name (over end) x y = g end Head x y
 both_languages R NextA NextB BadA BadB f g name (line number text after more) (inl x) (inl y) =
     let same : x.0 ≡ y.0 = same_row files.Extension text (Language x.0) (Language y.0) x.1 y.1 in
-    both_uses R NextA NextB BadA BadB f g (begun name y.0) more (subst (λ (z : List ℕ). AreUses (begun name z) more NextA BadA) same x.2) y.2
+    both_uses R NextA NextB BadA BadB f g (header_begun name y.0) more (subst (λ (z : List ℕ). AreUses (header_begun name z) more NextA BadA) same x.2) y.2
 both_languages R NextA NextB BadA BadB f g name (line number text after more) (inl x) (inr y) = absurd (y.0 x.0 x.1)
 both_languages R NextA NextB BadA BadB f g name (line number text after more) (inr x) (inl y) = absurd (x.0 y.0 y.1)
 both_languages R NextA NextB BadA BadB f g name (line number text after more) (inr x) (inr y) = g number Head x.1 y.1

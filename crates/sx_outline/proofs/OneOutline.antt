@@ -8,25 +8,33 @@ use Rattle.sx_directives.specs.declared.rows.PlainLine.{PlainLine}
 use Rattle.sx_directives.specs.Rows.{IsRow, HasWord}
 use Rattle.sx_directives.specs.declared.rows.MainLine.{MainLine}
 use Rattle.sx_directives.specs.declared.row.Row.{Row}
-use Rattle.sx_directives.specs.declared.row.Row.TheVariants.{Language, Sort, Prod, Var, Form, Main, Rule, Bar, End, Extension, Use, Plain, To}
+use Rattle.sx_directives.specs.declared.row.Row.TheVariants.{Language, Sort, Prod, Var, Form, Main}
+use Rattle.sx_directives.specs.declared.row.Row.TheVariants.{Rule, Bar, End, Extension, Use, Plain}
+use Rattle.sx_directives.specs.declared.row.Row.TheVariants.{To}
 use Rattle.sx_lines.specs.declared.kind.Kind.{Kind}
-use Rattle.sx_lines.specs.declared.kind.Kind.TheVariants.{Head, Directive, Shape, Order, Unfinished, Main as NoMain, Variable}
+use Rattle.sx_lines.specs.declared.kind.Kind.TheVariants.{Head, Directive, Shape, Order, Unfinished}
+use Rattle.sx_lines.specs.declared.kind.Kind.TheVariants.{Main as NoMain, Variable}
 use Rattle.sx_outline.specs.declared.main_form.MainForm.{MainForm}
 use Rattle.sx_outline.specs.declared.outline_error.OutlineError.{OutlineError}
-use Rattle.sx_outline.specs.declared.outline_error.OutlineError.TheVariants.{Memory, NotUtf8, Notation}
-use Rattle.sx_outline.specs.Declarations.{Declared, nothing, declare, parts_of}
+use Rattle.sx_outline.specs.declared.outline_error.OutlineError.TheVariants.{Memory, NotUtf8}
+use Rattle.sx_outline.specs.declared.outline_error.OutlineError.TheVariants.{Notation}
+use Rattle.sx_outline.specs.Declarations.{Declared, nothing, declare, declared_parts}
 use Rattle.sx_outline.specs.Fitting.{IsMainOf, form_names}
-use Rattle.sx_outline.specs.Known.{Declares, GoesOn, kept_lines}
-use Rattle.sx_outline.specs.Stages.{RuleData, Stage, at_start, at_declarations, at_body, at_plains, at_rules, at_premises, at_conclusion, at_end, State, start, begun_plain, IsDue, MayStand, Steps, StepsAt, StepsByRow, IsBad, IsInside, IsWhole, after, at as to}
+use Rattle.sx_outline.specs.Known.{Declares, RowGoesOn, kept_lines}
+use Rattle.sx_outline.specs.Stages.{RuleData, Stage, at_start, at_declarations, at_body, at_plains}
+use Rattle.sx_outline.specs.Stages.{at_rules, at_premises, at_conclusion, at_end, State, start}
+use Rattle.sx_outline.specs.Stages.{begun_plain, IsDue, MayStand, Steps, StepsAt, StepsByRow, IsBad}
+use Rattle.sx_outline.specs.Stages.{IsInside, IsWhole, after, at as to}
 use Rattle.sx_outline.specs.Outcomes.{IsOutcome}
-use Rattle.sx_outline.specs.Outlined.{OutlineData, declared_by, IsEnd, IsMissing, IsOutlineOf, IsReadAs, IsOutlineAnswer}
+use Rattle.sx_outline.specs.Outlined.{OutlineData, declared_by, IsEnd, IsMissing, IsOutlineOf}
+use Rattle.sx_outline.specs.Outlined.{IsReadAs, IsOutlineAnswer}
 use Rattle.sx_outline.proofs.SameRows.{SameRow, same_row}
 use Rattle.sx_outline.proofs.SameLaws.{has_word, same_declare, same_stands, same_main, same_goes}
 
 -- ---- what is known
 
 goes_once : (d : Declared) (row : Row) (a b : Declared) (NextA NextB : Bool → Declared → Type 0) → ((is_body : Bool) (next : Declared) → NextA is_body next → NextB is_body next → a ≡ b)
-    → GoesOn d row a NextA → GoesOn d row b NextB → a ≡ b
+    → RowGoesOn d row a NextA → RowGoesOn d row b NextB → a ≡ b
 goes_once d (Rule name) a b NextA NextB f h k = h ∙ sym k
 goes_once d (Plain p) a b NextA NextB f h k = f true d h k
 goes_once d row a b NextA NextB f h k = f false (declare d row) h k
@@ -163,8 +171,8 @@ one_kind kind known name s text _ Variable h m = absurd m
 one_form : (d : Declared) (m n : MainLine) (a b : MainForm) → m ≡ n → IsMainOf d m a → IsMainOf d n b → a ≡ b
 one_form d m n a b e h k =
     let forms : a.form ≡ b.form = h.form_first ∙ ap (λ (x : MainLine). number_of (form_names d) x.form) e ∙ sym k.form_first in
-    let empties : a.empty ≡ b.empty = h.empty.first ∙ ap (λ (x : MainLine). number_of (labels (parts_of d)) x.empty) e ∙ sym k.empty.first in
-    let adds : a.add ≡ b.add = h.add.first ∙ ap (λ (x : MainLine). number_of (labels (parts_of d)) x.add) e ∙ sym k.add.first in
+    let empties : a.empty ≡ b.empty = h.empty.first ∙ ap (λ (x : MainLine). number_of (labels (declared_parts d)) x.empty) e ∙ sym k.empty.first in
+    let adds : a.add ≡ b.add = h.add.first ∙ ap (λ (x : MainLine). number_of (labels (declared_parts d)) x.add) e ∙ sym k.add.first in
     ap (λ (x : ℕ). let main : MainForm = record { form = x; empty = a.empty; add = a.add } in main) forms
     ∙ ap (λ (x : ℕ). let main : MainForm = record { form = b.form; empty = x; add = a.add } in main) empties
     ∙ ap (λ (x : ℕ). let main : MainForm = record { form = b.form; empty = b.empty; add = x } in main) adds
@@ -174,7 +182,7 @@ one_line m n e = cc
 
 same_outline : (o p : OutlineData) (m n : MainLine) → declared_by o m ≡ declared_by p n → o.main ≡ p.main → o.rules ≡ p.rules → o ≡ p
 same_outline o p m n e f g =
-    ap (λ (x : Declared). let all : OutlineData = record { parts = parts_of x; vars = x.vars; forms = x.forms; main = o.main; rules = o.rules } in all) e
+    ap (λ (x : Declared). let all : OutlineData = record { parts = declared_parts x; vars = x.vars; forms = x.forms; main = o.main; rules = o.rules } in all) e
     ∙ ap (λ (x : MainForm). let all : OutlineData = record { parts = p.parts; vars = p.vars; forms = p.forms; main = x; rules = o.rules } in all) f
     ∙ ap (λ (x : List RuleData). let all : OutlineData = record { parts = p.parts; vars = p.vars; forms = p.forms; main = p.main; rules = x } in all) g
 

@@ -2,7 +2,8 @@
 use Rattle.std.proofs.Common.{◌≡◌, ℕ, List, [], refl, subst}
 use Rattle.std.proofs.lemmas.Bool.{false≢true}
 use Rattle.sx_lines.specs.declared.kind.Kind.{Kind}
-use Rattle.sx_lines.specs.declared.kind.Kind.TheVariants.{Head, Directive, Shape, Order, Unfinished, Main as NoMain, Variable}
+use Rattle.sx_lines.specs.declared.kind.Kind.TheVariants.{Head, Directive, Shape, Order, Unfinished}
+use Rattle.sx_lines.specs.declared.kind.Kind.TheVariants.{Main as NoMain, Variable}
 use Rattle.sx_grammar.specs.Parts.{Line}
 use Rattle.sx_grammar.specs.declared.sort_line.SortLine.{SortLine}
 use Rattle.sx_directives.specs.declared.file_kind.FileKind.{FileKind}
@@ -16,7 +17,7 @@ use Rattle.sx_directives.specs.declared.row.Row.{Row}
 use Rattle.sx_directives.specs.declared.row.Row.TheVariants.{Var, Form, Main, Use, Plain}
 use Rattle.sx_outline.specs.declared.main_form.MainForm.{MainForm}
 use Rattle.sx_outline.specs.Declarations.{Declared, FormData}
-use Rattle.sx_outline.specs.Fitting.{Kid, IsKnownSort, SymbolFits, Fits, IsConstructor, IsMainOf}
+use Rattle.sx_outline.specs.Fitting.{Kid, IsKnownSort, SymbolFits, RowFits, IsConstructor, IsMainOf}
 use Rattle.sx_outline.specs.Stages.{StepsAt, State, Steps, IsBad, at_start, after}
 use Rattle.sx_outline.specs.BadLines.{Agrees}
 use Rattle.sx_outline.proofs.OneOutline.{due_row}
@@ -38,7 +39,7 @@ place_fits known other e (FormLit text) h = tt
 place_fits known other e (Place role (Lexical kind)) h = h
 place_fits known other e (Place role (Named sort least)) h = subst (λ (x : List SortLine). SymbolFits (core x [] []) (Place role (Named sort least))) e h
 
-row_fits : (known other before : Declared) (text : List ℕ) (row : Row) → other.sorts ≡ known.sorts → IsRow files.Language text row → Fits other before row → Fits known before row
+row_fits : (known other before : Declared) (text : List ℕ) (row : Row) → other.sorts ≡ known.sorts → IsRow files.Language text row → RowFits other before row → RowFits known before row
 row_fits known other before text (Var v) e spelled h = (h.0, known_sort known other v.sort e h.1)
 row_fits known other before text (Form f) e spelled h = (h.0, all_weaker (SymbolFits other) (SymbolFits known) (place_fits known other e) f.symbols.items h.1, h.2)
 row_fits known other before text (Use name) e spelled h = absurd (false≢true spelled.word)
@@ -99,7 +100,7 @@ with_productions d e m main sorts forms productions h =
 -- a line that is bad is bad in another file, where a row that fits there fits here, and a main form
 -- there is one here
 pub bad_with : (kind : FileKind) (known other : Declared) (name : List ℕ) (s : State) (n : ℕ) (text : List ℕ) (t : State) (wrong : Kind)
-    → (wrong ≡ Shape → (row : Row) → IsRow kind text row → Fits other s.declared row → t ≡ after s n row → Fits known s.declared row)
+    → (wrong ≡ Shape → (row : Row) → IsRow kind text row → RowFits other s.declared row → t ≡ after s n row → RowFits known s.declared row)
     → (wrong ≡ NoMain → (m : MainLine) (main : MainForm) → IsRow kind text (Main m) → IsMainOf other m main → IsMainOf known m main)
     → IsBad kind known name s text wrong → Steps kind other name s n text t → ⊥
 bad_with kind known other name s n text t Head fits is_main bad steps =

@@ -4,12 +4,15 @@ use Rattle.std.specs.Prelude.{if◌then◌else◌, ◌==◌, ◌&&◌}
 use Rattle.sx_lines.specs.Bytes.{is_blank, line_feed, carriage_return}
 use Rattle.sx_lines.specs.Lines.{Lines, over, line, next_number, lines_from, ends_here}
 use Rattle.sx_lines.specs.Lines as lines
-use Rattle.sx_directives.specs.Parts.{parts_of, begun, with_byte}
+use Rattle.sx_directives.specs.Parts.{parts_of, begun_part, with_byte}
 use Rattle.sx_directives.specs.declared.row.Row.{Row}
-use Rattle.sx_directives.specs.declared.row.Row.TheVariants.{Sort, Prod, Var, Form, Main, Plain, Rule, End, To}
+use Rattle.sx_directives.specs.declared.row.Row.TheVariants.{Sort, Prod, Var, Form, Main, Plain}
+use Rattle.sx_directives.specs.declared.row.Row.TheVariants.{Rule, End, To}
 use Rattle.sx_outline.specs.Declarations.{Declared, declare}
 use Rattle.sx_outline.specs.Known.{kept_lines, is_dropped}
-use Rattle.sx_outline.specs.Stages.{Stage, at_start, at_declarations, at_body, at_plains, at_rules, at_premises, at_conclusion, at_end, Numbered, RuleData, State, after, bodied, ended}
+use Rattle.sx_outline.specs.Stages.{Stage, at_start, at_declarations, at_body, at_plains, at_rules}
+use Rattle.sx_outline.specs.Stages.{at_premises, at_conclusion, at_end, Numbered, RuleData, State}
+use Rattle.sx_outline.specs.Stages.{after, bodied, ended}
 
 ended_declared : (at : Stage) (d : Declared) (rules : List RuleData) (s : State) → s.declared ≡ d → (ended s at).declared ≡ d
 ended_declared at_start d rules s e = e
@@ -67,20 +70,20 @@ begun_test : (b : ℕ) (parts : List (List ℕ)) (test : Bool) → length (if te
 begun_test b parts true = omega arith
 begun_test b parts false = with_byte_few b parts
 
-begun_few : (b : ℕ) (text : List ℕ) (parts : List (List ℕ)) → length (begun b text parts) ≤ length parts + 1
+begun_few : (b : ℕ) (text : List ℕ) (parts : List (List ℕ)) → length (begun_part b text parts) ≤ length parts + 1
 begun_few b [] parts = omega arith
 begun_few b (c ∷ text) parts = begun_test b parts (is_blank c)
 
-parts_test : (b : ℕ) (text : List ℕ) (parts : List (List ℕ)) (n : ℕ) (test : Bool) → length parts ≤ n → length (if test then parts else begun b text parts) ≤ n + 1
+parts_test : (b : ℕ) (text : List ℕ) (parts : List (List ℕ)) (n : ℕ) (test : Bool) → length parts ≤ n → length (if test then parts else begun_part b text parts) ≤ n + 1
 parts_test b text parts n true h = omega arith
-parts_test b text parts n false h = let k : length (begun b text parts) ≤ length parts + 1 = begun_few b text parts in omega arith
+parts_test b text parts n false h = let k : length (begun_part b text parts) ≤ length parts + 1 = begun_few b text parts in omega arith
 
 -- a text has no more parts than bytes
 pub parts_few : (text : List ℕ) → length (parts_of text) ≤ length text
 unfolding parts_of
 parts_few [] = omega arith
 parts_few (b ∷ text) =
-    let h : length (if is_blank b then parts_of text else begun b text (parts_of text)) ≤ length text + 1 = parts_test b text (parts_of text) (length text) (is_blank b) (parts_few text) in
+    let h : length (if is_blank b then parts_of text else begun_part b text (parts_of text)) ≤ length text + 1 = parts_test b text (parts_of text) (length text) (is_blank b) (parts_few text) in
     omega arith
 
 one_part : (parts : List (List ℕ)) → is_dropped parts ≡ false → 1 ≤ length parts

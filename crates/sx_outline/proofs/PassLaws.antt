@@ -8,7 +8,7 @@ use Rattle.sx_directives.specs.declared.row.Row.TheVariants.{Rule, Plain}
 use Rattle.sx_outline.specs.declared.due.Due.{Due}
 use Rattle.sx_outline.specs.declared.due.Due.TheVariants as dues
 use Rattle.sx_outline.specs.Declarations.{Declared, declare}
-use Rattle.sx_outline.specs.Known.{Declares, GoesOn}
+use Rattle.sx_outline.specs.Known.{Declares, RowGoesOn}
 use Rattle.sx_outline.specs.Tables.{EndsOrGoesOn, TakesLine, due_after, lines_after}
 
 -- So much is declared where these lines are left: what they declare is what all lines declare.
@@ -50,7 +50,7 @@ stand_over kind base all rest n d h e = h.declares d (subst (λ x. Declares kind
 -- ---- one line
 
 goes_of : (kind : FileKind) (old : Declared) (row : Row) (more : Lines) (all : Declared) → EndsOrGoesOn kind (due_after row) (declare old row) more all
-    → GoesOn old row all (λ is_body next. Declares kind is_body next more all)
+    → RowGoesOn old row all (λ is_body next. Declares kind is_body next more all)
 goes_of kind old (Rule name) more all h = h
 goes_of kind old (Plain p) more all h = h
 goes_of kind old _ more all h = h

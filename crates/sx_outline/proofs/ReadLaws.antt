@@ -7,37 +7,42 @@ use Rattle.sx_directives.specs.declared.file_kind.FileKind.{FileKind}
 use Rattle.sx_directives.specs.declared.file_kind.FileKind.TheVariants as files
 use Rattle.sx_outline.specs.declared.outline.Outline.{Outline}
 use Rattle.sx_outline.specs.declared.outline_error.OutlineError.{OutlineError}
-use Rattle.sx_outline.specs.declared.outline_error.OutlineError.TheVariants.{Memory, NotUtf8, Notation}
+use Rattle.sx_outline.specs.declared.outline_error.OutlineError.TheVariants.{Memory, NotUtf8}
+use Rattle.sx_outline.specs.declared.outline_error.OutlineError.TheVariants.{Notation}
 use Rattle.sx_outline.specs.declared.reader.Reader.{Reader}
 use Rattle.sx_directives.specs.declared.row.Row.{Row}
-use Rattle.sx_directives.specs.declared.row.Row.TheVariants.{Sort, Prod, Var, Form, Main, Plain, Rule}
+use Rattle.sx_directives.specs.declared.row.Row.TheVariants.{Sort, Prod, Var, Form, Main, Plain}
+use Rattle.sx_directives.specs.declared.row.Row.TheVariants.{Rule}
 use Rattle.sx_outline.specs.Declarations.{Declared, nothing, declare}
-use Rattle.sx_outline.specs.Known.{Declares, GoesOn, kept_lines}
+use Rattle.sx_outline.specs.Known.{Declares, RowGoesOn, kept_lines}
 use Rattle.sx_outline.specs.Stages.{State, start, rule_data, plain_data, IsWhole}
 use Rattle.sx_outline.specs.Outcomes.{IsOutcome}
 use Rattle.sx_outline.specs.Outlined.{OutlineData, outline, IsEnd, IsOutlined}
-use Rattle.sx_outline.specs.Reading.{IsReader, IsMainRead, IsNewReader, IsAhead, IsCounted, HasRoom, GrowsByOne, IsLineRead, IsLineRefused, EndsAt, IsBadLine, AreLinesRead, IsEndRead, IsOutlineRead}
+use Rattle.sx_outline.specs.Reading.{IsOutlineReader, IsMainRead, IsNewReader, IsAhead, CanCountOne}
+use Rattle.sx_outline.specs.Reading.{HasCountRoom, GrowsByOne, IsLineRead, IsLineRefused}
+use Rattle.sx_outline.specs.Reading.{ReadingEndsAt, IsBadLine, AreLinesRead, IsEndRead}
+use Rattle.sx_outline.specs.Reading.{IsOutlineRead}
 use Rattle.sx_outline.proofs.AheadLaws.{ahead_front, ahead_next, whole_known}
 use Rattle.sx_outline.proofs.OutcomeSteps.{outcome_to, reached}
 
 -- what comes of reading lines from a state on
 abbrev pub IsReadFrom : FileKind → Declared → List ℕ → State → Lines → Result (Reader × ℕ) OutlineError → Type 0
-IsReadFrom kind known name s lines result = IsOutcome kind known name s lines (EndsAt known result) (IsBadLine result)
+IsReadFrom kind known name s lines result = IsOutcome kind known name s lines (ReadingEndsAt known result) (IsBadLine result)
 
 -- a state has been reached from the first, and what comes of it comes of the first
 pub record HasCome (kind : FileKind) (known : Declared) (name : List ℕ) (s : State) (whole : Lines) (reader : Reader) (lines : Lines) : Type 0 where
   pub state : State
-  pub stands : IsReader known reader state
+  pub stands : IsOutlineReader known reader state
   pub ahead : IsAhead kind state.stage state.declared lines known
   pub leads : (result : Result (Reader × ℕ) OutlineError) → IsReadFrom kind known name state lines result → IsReadFrom kind known name s whole result
 
 -- The reader stands for a state that has been reached from that of the first reader, and these bytes are left.
 pub record IsReading (kind : FileKind) (known : Declared) (name : List ℕ) (from : Reader) (whole : Lines) (reader : Reader) (lines : Lines) (rest : List ℕ) : Type 0 where
-  pub come : (s : State) → IsReader known from s → IsAhead kind s.stage s.declared whole known → HasCome kind known name s whole reader lines
-  pub room : HasRoom reader (length rest)
+  pub come : (s : State) → IsOutlineReader known from s → IsAhead kind s.stage s.declared whole known → HasCome kind known name s whole reader lines
+  pub room : HasCountRoom reader (length rest)
   pub utf8 : IsUtf8 rest
 
-pub begun_reading : (kind : FileKind) (known : Declared) (name : List ℕ) (from : Reader) (whole : Lines) (rest : List ℕ) → HasRoom from (length rest) → IsUtf8 rest
+pub begun_reading : (kind : FileKind) (known : Declared) (name : List ℕ) (from : Reader) (whole : Lines) (rest : List ℕ) → HasCountRoom from (length rest) → IsUtf8 rest
     → IsReading kind known name from whole from whole rest
 begun_reading kind known name from whole rest room utf8 = record {
   come = λ s stands ahead. record { state = s; stands = stands; ahead = ahead; leads = λ result h. h };
@@ -45,7 +50,7 @@ begun_reading kind known name from whole rest room utf8 = record {
   utf8 = utf8;
 }
 
-pub small_reader : (reader : Reader) (bytes : ℕ) → HasRoom reader bytes → IsCounted reader
+pub small_reader : (reader : Reader) (bytes : ℕ) → HasCountRoom reader bytes → CanCountOne reader
 small_reader reader bytes h =
     let f : reader.forms + bytes + 1 < 2 ^ 64 = h.forms in
     let v : reader.vars + bytes + 1 < 2 ^ 64 = h.vars in
@@ -86,7 +91,7 @@ refused_line kind known name s t n text after more whole (Notation l bad) leads 
 
 pub reading_refused : (kind : FileKind) (known : Declared) (name : List ℕ) (from : Reader) (whole : Lines) (reader : Reader) (lines : Lines) (rest : List ℕ) (n : ℕ) (text after : List ℕ) (more : Lines)
     (e : OutlineError) → lines ≡ line n text after more → IsLineRead kind known name reader n text (Err e) → IsReading kind known name from whole reader lines rest
-    → (s : State) → IsReader known from s → IsAhead kind s.stage s.declared whole known → AreLinesRead kind known name s whole (Err e)
+    → (s : State) → IsOutlineReader known from s → IsAhead kind s.stage s.declared whole known → AreLinesRead kind known name s whole (Err e)
 reading_refused kind known name from whole reader lines rest n text after more e is read h = λ s stands at_first.
     let c = h.come s stands at_first in
     let ahead : IsAhead kind c.state.stage c.state.declared (line n text after more) known = subst (λ x. IsAhead kind c.state.stage c.state.declared x known) is c.ahead in
@@ -96,7 +101,7 @@ reading_refused kind known name from whole reader lines rest n text after more e
 
 pub reading_ended : (kind : FileKind) (known : Declared) (name : List ℕ) (from : Reader) (whole : Lines) (reader : Reader) (lines : Lines) (rest : List ℕ) (n : ℕ) → lines ≡ over n
     → IsReading kind known name from whole reader lines rest
-    → (s : State) → IsReader known from s → IsAhead kind s.stage s.declared whole known → AreLinesRead kind known name s whole (Ok (reader, n))
+    → (s : State) → IsOutlineReader known from s → IsAhead kind s.stage s.declared whole known → AreLinesRead kind known name s whole (Ok (reader, n))
 reading_ended kind known name from whole reader lines rest n is h = λ s stands at_first.
     let c = h.come s stands at_first in
     let whole_is : IsWhole c.state.stage → c.state.declared ≡ known =
@@ -105,7 +110,7 @@ reading_ended kind known name from whole reader lines rest n is h = λ s stands 
 
 -- ---- language files
 
-pub new_reader : (known : Declared) (reader : Reader) → IsNewReader reader → IsReader known reader start
+pub new_reader : (known : Declared) (reader : Reader) → IsNewReader reader → IsOutlineReader known reader start
 new_reader known reader h = record {
   stage_is = h.stage;
   forms_are = h.forms;
@@ -121,16 +126,16 @@ no_bad x bad number r e f = cc
 -- what comes of the end of the lines
 pub language_ends : (known : Declared) (name : List ℕ) (lines : Lines) (reader : Reader) (n : ℕ) (result : Result Outline OutlineError)
     → AreLinesRead files.Language known name start lines (Ok (reader, n))
-    → ((s : State) → IsReader known reader s → (IsWhole s.stage → s.declared ≡ known) → IsEndRead s n result) → IsOutlineRead known name lines result
+    → ((s : State) → IsOutlineReader known reader s → (IsWhole s.stage → s.declared ≡ known) → IsEndRead s n result) → IsOutlineRead known name lines result
 language_ends known name lines reader n (Ok o) h f =
-    outcome_to files.Language known name (EndsAt known (Ok (reader, n))) (λ s end. IsEnd s end (Ok (outline o))) (IsBadLine (Ok (reader, n))) (λ number bad. ⊥)
+    outcome_to files.Language known name (ReadingEndsAt known (Ok (reader, n))) (λ s end. IsEnd s end (Ok (outline o))) (IsBadLine (Ok (reader, n))) (λ number bad. ⊥)
     (λ s end k. subst (λ x. IsEnd s x (Ok (outline o))) (sym k.ends) (f s k.stands k.whole)) (λ number bad k. no_bad (reader, n) bad number (Ok (reader, n)) refl k) start lines h
 language_ends known name lines reader n (Err Memory) h f = tt
 language_ends known name lines reader n (Err (NotUtf8 place)) h f =
-    let last = reached files.Language known name (EndsAt known (Ok (reader, n))) (IsBadLine (Ok (reader, n))) (λ number bad k. no_bad (reader, n) bad number (Ok (reader, n)) refl k) start lines h in
+    let last = reached files.Language known name (ReadingEndsAt known (Ok (reader, n))) (IsBadLine (Ok (reader, n))) (λ number bad k. no_bad (reader, n) bad number (Ok (reader, n)) refl k) start lines h in
     absurd (f last.state last.holds.stands last.holds.whole)
 language_ends known name lines reader n (Err (Notation l kind)) h f =
-    outcome_to files.Language known name (EndsAt known (Ok (reader, n))) (λ s end. IsEnd s end (Err (Notation l kind))) (IsBadLine (Ok (reader, n)))
+    outcome_to files.Language known name (ReadingEndsAt known (Ok (reader, n))) (λ s end. IsEnd s end (Err (Notation l kind))) (IsBadLine (Ok (reader, n)))
     (λ number bad. (number ≡ l) × (bad ≡ kind)) (λ s end k. subst (λ x. IsEnd s x (Err (Notation l kind))) (sym k.ends) (f s k.stands k.whole))
     (λ number bad k. absurd (no_bad (reader, n) bad number (Ok (reader, n)) refl k)) start lines h
 
@@ -150,7 +155,7 @@ pub language_refused : (known : Declared) (name : List ℕ) (lines : Lines) (e :
 language_refused known name lines Memory h = tt
 language_refused known name lines (NotUtf8 place) h = absurd h
 language_refused known name lines (Notation l kind) h =
-    outcome_to files.Language known name (EndsAt known (Err (Notation l kind))) (λ s end. IsEnd s end (Err (Notation l kind))) (IsBadLine (Err (Notation l kind)))
+    outcome_to files.Language known name (ReadingEndsAt known (Err (Notation l kind))) (λ s end. IsEnd s end (Err (Notation l kind))) (IsBadLine (Err (Notation l kind)))
     (λ number bad. (number ≡ l) × (bad ≡ kind)) (λ s end k. absurd k) (λ number bad k. same_error l number kind bad (Err (Notation l kind)) refl k) start lines h
 
 abbrev bad_outline : ℕ → Kind → Result OutlineData OutlineError
@@ -190,7 +195,7 @@ declare_uses d (Main m) = refl
 declare_uses d _ = refl
 
 goes_uses : (d : Declared) (row : Row) (all : Declared) (Next : Bool → Declared → Type 0) → ((is_body : Bool) (next : Declared) → Next is_body next → all.uses ≡ next.uses)
-    → GoesOn d row all Next → all.uses ≡ d.uses
+    → RowGoesOn d row all Next → all.uses ≡ d.uses
 goes_uses d (Rule name) all Next f h = ap (λ (x : Declared). x.uses) h
 goes_uses d (Plain p) all Next f h = f true d h
 goes_uses d row all Next f h = f false (declare d row) h ∙ declare_uses d row
@@ -211,7 +216,7 @@ declares_from kind base lines all known e f h = subst (λ (x : Lines). Declares 
 -- reading the lines of a language file from the first on
 pub language_read : (known : Declared) (name : List ℕ) (lines all : Lines) (reader : Reader) (result : Result (Reader × ℕ) OutlineError) → lines ≡ all
     → Declares files.Language false nothing (kept_lines all) known → IsNewReader reader
-    → ((s : State) → IsReader known reader s → IsAhead files.Language s.stage s.declared (kept_lines lines) known → AreLinesRead files.Language known name s (kept_lines lines) result)
+    → ((s : State) → IsOutlineReader known reader s → IsAhead files.Language s.stage s.declared (kept_lines lines) known → AreLinesRead files.Language known name s (kept_lines lines) result)
     → AreLinesRead files.Language known name start (kept_lines all) result
 language_read known name lines all reader result e declares new read =
     subst (λ (x : Lines). AreLinesRead files.Language known name start (kept_lines x) result) e

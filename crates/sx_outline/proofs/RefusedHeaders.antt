@@ -11,9 +11,10 @@ use Rattle.sx_directives.specs.declared.row.Row.TheVariants.{Extension, Language
 use Rattle.sx_outline.specs.declared.outline_error.OutlineError.{OutlineError}
 use Rattle.sx_outline.specs.declared.outline_error.OutlineError.TheVariants.{Notation}
 use Rattle.sx_outline.specs.Known.{kept_lines}
-use Rattle.sx_outline.specs.Fitting.{AreDistinct}
+use Rattle.sx_lines.specs.Distinct.{AreTextsDistinct}
 use Rattle.sx_outline.specs.Stages.{Numbered}
-use Rattle.sx_outline.specs.Headers.{HeaderData, begun, IsUseLine, IsLanguageLine, IsLanguageNext, IsHeaderOf, IsHeader, IsHeaderIn}
+use Rattle.sx_outline.specs.Headers.{HeaderData, header_begun, IsUseLine, IsLanguageLine}
+use Rattle.sx_outline.specs.Headers.{IsLanguageNext, IsHeaderOf, IsHeader, IsHeaderIn}
 use Rattle.sx_outline.specs.Structure.{numbered_lines, AreUseLines, AreHeaderLines}
 use Rattle.sx_outline.specs.BadLines.{BeginGoodFile, IsFirstBadLine, AreCutOff, end_number}
 use Rattle.sx_outline.specs.BadExtensions.{BeginOther, HaveHeader, IsHeaderRefused, IsAnyName}
@@ -57,7 +58,7 @@ pub data HeaderCourse (IsSuch : List ℕ → Type 0) (lines : Lines) (Next : Hea
 two_lines : (IsSuch : List ℕ → Type 0) (first second : Numbered) (name language : List ℕ) → IsSuch name → IsRow files.Extension first.text (Extension name)
     → IsLanguageLine second.text language → HaveHeader IsSuch (first ∷ second ∷ [])
 two_lines IsSuch first second name language such named is = record {
-  header = begun name language;
+  header = header_begun name language;
   front = first ∷ second ∷ [];
   rest = [];
   lines_are = refl;
@@ -91,7 +92,7 @@ record FirstTwo (IsSuch : List ℕ → Type 0) (lines : List Numbered) : Type 0 
   named : IsRow files.Extension first.text (Extension header.name)
   language : IsRow files.Extension second.text (Language header.language)
   uses : AreUseLines others header.uses
-  once : AreDistinct header.uses
+  once : AreTextsDistinct header.uses
   other : BeginOther rest
 
 first_two : (IsSuch : List ℕ → Type 0) (lines : List Numbered) → HaveHeader IsSuch lines → FirstTwo IsSuch lines
@@ -143,7 +144,7 @@ bad_later IsSuch one two bad front tail more are is_use not_new h =
 -- ---- all of them
 
 of_uses : (IsSuch : List ℕ → Type 0) (one two : Numbered) (after later : List ℕ) (more : Lines) (name language : List ℕ) (Next : HeaderData → Lines → Type 0) (Bad : ℕ → Kind → Type 0) → InOrder 1 (one ∷ two ∷ numbered_lines more) → IsSuch name
-    → IsRow files.Extension one.text (Extension name) → IsLanguageLine two.text language → UsesCourse (begun name language) more Next Bad
+    → IsRow files.Extension one.text (Extension name) → IsLanguageLine two.text language → UsesCourse (header_begun name language) more Next Bad
     → HeaderCourse IsSuch (line one.number one.text after (line two.number two.text later more)) Next Bad
 of_uses IsSuch one two after later more name language Next Bad order such named is (stops number s told) =
     let bad : Numbered = record { number = number; text = s.text } in
@@ -219,7 +220,7 @@ header_course IsSuch some (line n text after (line m other later more)) Next Bad
     }) x.1
 header_course IsSuch some (line n text after (line m other later more)) Next Bad fine such order (inl (name, is, named, inl x)) =
     of_uses IsSuch (record { number = n; text = text }) (record { number = m; text = other }) after later more name x.0 Next Bad order is named x.1
-    (uses_course (begun name x.0) more Next Bad tt x.2)
+    (uses_course (header_begun name x.0) more Next Bad tt x.2)
 
 -- ---- the file
 

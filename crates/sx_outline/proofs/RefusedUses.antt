@@ -7,7 +7,7 @@ use Rattle.sx_lines.specs.declared.kind.Kind.TheVariants.{Shape}
 use Rattle.sx_directives.specs.Rows.{IsRow}
 use Rattle.sx_directives.specs.declared.file_kind.FileKind.TheVariants as files
 use Rattle.sx_directives.specs.declared.row.Row.TheVariants.{Use}
-use Rattle.sx_outline.specs.Fitting.{AreDistinct}
+use Rattle.sx_lines.specs.Distinct.{AreTextsDistinct}
 use Rattle.sx_outline.specs.Stages.{Numbered}
 use Rattle.sx_outline.specs.Headers.{HeaderData, with_use, IsUseLine, IsNewUse, AreUses}
 use Rattle.sx_outline.specs.Structure.{numbered_lines, AreUseLines}
@@ -26,7 +26,7 @@ pub record StopsInUses (seen : List (List ℕ)) (lines : List Numbered) (number 
   pub lines_are : lines ≡ front ++ record { number = number; text = text } ∷ rest
   pub more : List (List ℕ)
   pub are : AreUseLines front more
-  pub once : AreDistinct (seen ++ more)
+  pub once : AreTextsDistinct (seen ++ more)
   pub is_use : IsUseLine text
   pub not_new : (used : List ℕ) → IsRow files.Extension text (Use used) → (Contains (seen ++ more) used → ⊥) → ⊥
 
@@ -42,7 +42,7 @@ pub record EndsUses (h : HeaderData) (lines : Lines) (Next : HeaderData → Line
   pub language : last.language ≡ h.language
   pub uses_are : last.uses ≡ h.uses ++ more
   pub are : AreUseLines front more
-  pub once : AreDistinct last.uses
+  pub once : AreTextsDistinct last.uses
   pub other : BeginOther (numbered_lines left)
   pub holds : Next last left
 
@@ -61,7 +61,7 @@ one_use h n text after more used Next Bad new (stops number s told) =
       lines_are = ap (λ (x : List Numbered). here ∷ x) s.lines_are;
       more = used ∷ s.more;
       are = (new.0, s.are);
-      once = subst AreDistinct (append_assoc h.uses (used ∷ []) s.more) s.once;
+      once = subst AreTextsDistinct (append_assoc h.uses (used ∷ []) s.more) s.once;
       is_use = s.is_use;
       not_new = λ u row fresh. s.not_new u row (λ c. fresh (subst (λ (x : List (List ℕ)). Contains x u) (append_assoc h.uses (used ∷ []) s.more) c));
     }) told
@@ -83,7 +83,7 @@ one_use h n text after more used Next Bad new (ends e) =
       holds = e.holds;
     })
 
-ends_here : (h : HeaderData) (lines : Lines) (Next : HeaderData → Lines → Type 0) → AreDistinct h.uses → BeginOther (numbered_lines lines) → Next h lines → EndsUses h lines Next
+ends_here : (h : HeaderData) (lines : Lines) (Next : HeaderData → Lines → Type 0) → AreTextsDistinct h.uses → BeginOther (numbered_lines lines) → Next h lines → EndsUses h lines Next
 ends_here h lines Next once other x = record {
   last = h;
   left = lines;
@@ -100,7 +100,7 @@ ends_here h lines Next once other x = record {
   holds = x;
 }
 
-pub uses_course : (h : HeaderData) (lines : Lines) (Next : HeaderData → Lines → Type 0) (Bad : ℕ → Kind → Type 0) → AreDistinct h.uses → AreUses h lines Next Bad → UsesCourse h lines Next Bad
+pub uses_course : (h : HeaderData) (lines : Lines) (Next : HeaderData → Lines → Type 0) (Bad : ℕ → Kind → Type 0) → AreTextsDistinct h.uses → AreUses h lines Next Bad → UsesCourse h lines Next Bad
 uses_course h (over end) Next Bad once x = ends (ends_here h (over end) Next once tt x)
 uses_course h (line n text after more) Next Bad once (inl x) =
     one_use h n text after more x.0 Next Bad x.1 (uses_course (with_use h x.0) more Next Bad (distinct_push h.uses x.0 once x.1.1) x.2)
@@ -112,7 +112,7 @@ uses_course h (line n text after more) Next Bad once (inr (inl x)) =
       lines_are = refl;
       more = [];
       are = tt;
-      once = subst AreDistinct (sym (append-nil h.uses)) once;
+      once = subst AreTextsDistinct (sym (append-nil h.uses)) once;
       is_use = x.0;
       not_new = λ used row fresh. x.1 used (row, λ c. fresh (subst (λ (y : List (List ℕ)). Contains y used) (sym (append-nil h.uses)) c));
     }) x.2
@@ -123,7 +123,7 @@ use_line text used row = (row.rest, row.parts_are)
 
 -- with a bad `use` line no header goes on
 pub no_header : (seen : List (List ℕ)) (front : List Numbered) (more : List (List ℕ)) (bad : Numbered) (tail others rest : List Numbered) (uses : List (List ℕ)) → AreUseLines front more → IsUseLine bad.text
-    → ((used : List ℕ) → IsRow files.Extension bad.text (Use used) → (Contains (seen ++ more) used → ⊥) → ⊥) → AreUseLines others uses → AreDistinct (seen ++ uses) → BeginOther rest
+    → ((used : List ℕ) → IsRow files.Extension bad.text (Use used) → (Contains (seen ++ more) used → ⊥) → ⊥) → AreUseLines others uses → AreTextsDistinct (seen ++ uses) → BeginOther rest
     → front ++ bad ∷ tail ≡ others ++ rest → ⊥
 no_header seen [] [] bad tail [] rest [] are is_use not_new theirs once other e = subst BeginOther (sym e) other is_use
 no_header seen [] [] bad tail (l ∷ others) rest (used ∷ uses) are is_use not_new theirs once other e =
@@ -143,4 +143,4 @@ no_header seen (f ∷ front) (m ∷ more) bad tail (l ∷ others) rest (used ∷
     let assoc : (seen ++ used ∷ []) ++ more ≡ seen ++ m ∷ more = append_assoc seen (used ∷ []) more ∙ ap (λ (x : List ℕ). seen ++ x ∷ more) (sym name) in
     no_header (seen ++ used ∷ []) front more bad tail others rest uses are.1 is_use
     (λ u row fresh. not_new u row (λ c. fresh (subst (λ (x : List (List ℕ)). Contains x u) (sym assoc) c)))
-    theirs.1 (subst AreDistinct (sym (append_assoc seen (used ∷ []) uses)) once) other (tail_same f l (front ++ bad ∷ tail) (others ++ rest) e)
+    theirs.1 (subst AreTextsDistinct (sym (append_assoc seen (used ∷ []) uses)) once) other (tail_same f l (front ++ bad ∷ tail) (others ++ rest) e)

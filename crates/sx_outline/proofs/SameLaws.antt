@@ -12,10 +12,13 @@ use Rattle.sx_directives.specs.declared.rows.FormLine.{FormLine}
 use Rattle.sx_directives.specs.declared.rows.MainLine.{MainLine}
 use Rattle.sx_directives.specs.declared.rows.PlainLine.{PlainLine}
 use Rattle.sx_directives.specs.declared.row.Row.{Row}
-use Rattle.sx_directives.specs.declared.row.Row.TheVariants.{Language, Sort, Prod, Var, Form, Main, Rule, Bar, End, Extension, Use, Plain, To}
+use Rattle.sx_directives.specs.declared.row.Row.TheVariants.{Language, Sort, Prod, Var, Form, Main}
+use Rattle.sx_directives.specs.declared.row.Row.TheVariants.{Rule, Bar, End, Extension, Use, Plain}
+use Rattle.sx_directives.specs.declared.row.Row.TheVariants.{To}
 use Rattle.sx_outline.specs.Declarations.{Declared, FormData, declare}
-use Rattle.sx_outline.specs.Fitting.{ArePartNames, Fits, SymbolFits, HasOneSubject, IsKnownSort, stems, form_names}
-use Rattle.sx_outline.specs.Known.{GoesOn}
+use Rattle.sx_outline.specs.Fitting.{ArePartNames, RowFits, SymbolFits, HasOneSubjectSymbol}
+use Rattle.sx_outline.specs.Fitting.{IsKnownSort, stems, form_names}
+use Rattle.sx_outline.specs.Known.{RowGoesOn}
 use Rattle.sx_outline.specs.Stages.{Stage, at_declarations, at_plains, MayStandAt, HasMain}
 use Rattle.sx_outline.proofs.SameRows.{SameRow}
 
@@ -74,13 +77,13 @@ same_declare d (Plain p) (Plain q) e = refl
 same_declare d (To n) (To m) e = refl
 same_declare d _ _ e = absurd e
 
-pub same_fits : (known before : Declared) (r s : Row) → SameRow r s → Fits known before r → Fits known before s
+pub same_fits : (known before : Declared) (r s : Row) → SameRow r s → RowFits known before r → RowFits known before s
 same_fits known before (Language n) (Language m) e h = h
 same_fits known before (Sort s) (Sort t) e h = h
 same_fits known before (Prod p) (Prod q) e h = h
 same_fits known before (Var v) (Var w) e h = subst (λ (x : VarLine). (Contains (stems before) x.stem → ⊥) × IsKnownSort known x.sort) e h
 same_fits known before (Form f) (Form g) e h =
-    subst (λ (x : FormData). (Contains (form_names before) x.name → ⊥) × AllByRecursion (SymbolFits known) x.symbols × HasOneSubject x.symbols) e h
+    subst (λ (x : FormData). (Contains (form_names before) x.name → ⊥) × AllByRecursion (SymbolFits known) x.symbols × HasOneSubjectSymbol x.symbols) e h
 same_fits known before (Main m) (Main n) e h = h
 same_fits known before (Rule n) (Rule m) e h = h
 same_fits known before Bar Bar e h = h
@@ -108,7 +111,7 @@ same_main known (Plain p) (Plain q) e h = h
 same_main known (To n) (To m) e h = h
 same_main known _ _ e h = absurd e
 
-pub same_goes : (d : Declared) (r s : Row) (all : Declared) (Next : Bool → Declared → Type 0) → SameRow r s → GoesOn d r all Next → GoesOn d s all Next
+pub same_goes : (d : Declared) (r s : Row) (all : Declared) (Next : Bool → Declared → Type 0) → SameRow r s → RowGoesOn d r all Next → RowGoesOn d s all Next
 same_goes d (Language n) (Language m) all Next e h = h
 same_goes d (Sort s) (Sort t) all Next e h = subst (Next false) (same_declare d (Sort s) (Sort t) e) h
 same_goes d (Prod p) (Prod q) all Next e h = subst (Next false) (same_declare d (Prod p) (Prod q) e) h

@@ -4,16 +4,20 @@ use Rattle.std.specs.Prelude.{codes}
 use Rattle.sx_lines.specs.Words.{number_within}
 use Rattle.sx_grammar.specs.Parts.{Line, line}
 use Rattle.sx_grammar.specs.declared.sort_line.SortLine.{SortLine}
-use Rattle.sx_directives.specs.Spelling.{IsVariable, Spells, SpellsForm, EachSpelled}
-use Rattle.sx_directives.specs.Rows.{IsRow, IsNameRow, IsSortRow, IsProdRow, IsVarRow, IsFormRow, IsMainRow, IsModuleRow, IsPlainRow, AreBrackets, Follows, keyword_text, kind_text, word_of}
+use Rattle.sx_directives.specs.Spelling.{IsVariable, SpellsSymbol, SpellsForm, EachSpelled}
+use Rattle.sx_directives.specs.Rows.{IsRow, IsNameRow, IsSortRow, IsProdRow, IsVarRow, IsFormRow}
+use Rattle.sx_directives.specs.Rows.{IsMainRow, IsModuleRow, IsPlainRow, AreBrackets, Follows}
+use Rattle.sx_directives.specs.Rows.{keyword_text, kind_text, word_of}
 use Rattle.sx_directives.specs.declared.rows.VarLine.{VarLine}
 use Rattle.sx_directives.specs.declared.rows.FormLine.{FormLine}
 use Rattle.sx_directives.specs.declared.rows.MainLine.{MainLine}
 use Rattle.sx_directives.specs.declared.rows.PlainLine.{PlainLine}
 use Rattle.sx_directives.specs.declared.file_kind.FileKind.{FileKind}
 use Rattle.sx_directives.specs.declared.row.Row.{Row}
-use Rattle.sx_directives.specs.declared.row.Row.TheVariants.{Language, Sort, Prod, Var, Form, Main, Rule, Bar, End, Extension, Use, Plain, To}
-use Rattle.sx_outline.specs.Declarations.{FormData, form}
+use Rattle.sx_directives.specs.declared.row.Row.TheVariants.{Language, Sort, Prod, Var, Form, Main}
+use Rattle.sx_directives.specs.declared.row.Row.TheVariants.{Rule, Bar, End, Extension, Use, Plain}
+use Rattle.sx_directives.specs.declared.row.Row.TheVariants.{To}
+use Rattle.sx_outline.specs.Declarations.{FormData, declared_form}
 use Rattle.sx_directives.proofs.BodyLaws.{one_body}
 use Rattle.sx_outline.proofs.SpelledOnce.{one_quoted, one_symbol, one_form_symbol, each_same}
 
@@ -23,7 +27,7 @@ SameRow (Language n) (Language m) = n ≡ m
 SameRow (Sort s) (Sort t) = s ≡ t
 SameRow (Prod p) (Prod q) = line p ≡ line q
 SameRow (Var v) (Var w) = v ≡ w
-SameRow (Form f) (Form g) = form f ≡ form g
+SameRow (Form f) (Form g) = declared_form f ≡ declared_form g
 SameRow (Main m) (Main n) = m ≡ n
 SameRow (Rule n) (Rule m) = n ≡ m
 SameRow Bar Bar = Unit {0}
@@ -96,7 +100,7 @@ same_prod rest p q h k =
     line_is p q (head_same p.label q.label (p.sort ∷ h.level ∷ colon ∷ h.symbols) (q.sort ∷ k.level ∷ colon ∷ k.symbols) one)
     (head_same p.sort q.sort (h.level ∷ colon ∷ h.symbols) (k.level ∷ colon ∷ k.symbols) two)
     (some_same p.level q.level (sym h.level_is ∙ ap (number_within 99) level ∙ k.level_is))
-    (each_same Spells one_symbol h.symbols p.symbols q.symbols h.symbols_are (subst (λ (z : List (List ℕ)). EachSpelled Spells z q.symbols) (sym five) k.symbols_are))
+    (each_same SpellsSymbol one_symbol h.symbols p.symbols q.symbols h.symbols_are (subst (λ (z : List (List ℕ)). EachSpelled SpellsSymbol z q.symbols) (sym five) k.symbols_are))
 
 var_is : (v w : VarLine) → v.stem ≡ w.stem → v.sort ≡ w.sort → v ≡ w
 var_is v w e f = λ i. record { stem = e i; sort = f i }
@@ -112,13 +116,13 @@ same_var rest v w h k =
 form_is : (f g : FormData) → f.name ≡ g.name → f.symbols ≡ g.symbols → f ≡ g
 form_is f g d e = λ i. record { name = d i; symbols = e i }
 
-same_form : (rest : List (List ℕ)) (f g : FormLine) → IsFormRow rest f → IsFormRow rest g → form f ≡ form g
+same_form : (rest : List (List ℕ)) (f g : FormLine) → IsFormRow rest f → IsFormRow rest g → declared_form f ≡ declared_form g
 same_form rest f g h k =
     let colon = codes ":" in
     let one : f.name ∷ colon ∷ h.symbols ≡ g.name ∷ colon ∷ k.symbols = sym h.parts_are ∙ k.parts_are in
     let two : colon ∷ h.symbols ≡ colon ∷ k.symbols = tail_same f.name g.name (colon ∷ h.symbols) (colon ∷ k.symbols) one in
     let three : h.symbols ≡ k.symbols = tail_same colon colon h.symbols k.symbols two in
-    form_is (form f) (form g) (head_same f.name g.name (colon ∷ h.symbols) (colon ∷ k.symbols) one)
+    form_is (declared_form f) (declared_form g) (head_same f.name g.name (colon ∷ h.symbols) (colon ∷ k.symbols) one)
     (each_same SpellsForm one_form_symbol h.symbols f.symbols.items g.symbols.items h.symbols_are (subst (λ (z : List (List ℕ)). EachSpelled SpellsForm z g.symbols.items) (sym three) k.symbols_are))
 
 main_is : (m n : MainLine) → m.form ≡ n.form → m.empty ≡ n.empty → m.add ≡ n.add → m ≡ n

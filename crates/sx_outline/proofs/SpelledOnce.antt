@@ -11,7 +11,8 @@ use Rattle.sx_term.specs.declared.role.Role.TheVariants.{In, Sub, Out}
 use Rattle.sx_lines.specs.Words.{is_name, is_name_byte, number_within}
 use Rattle.sx_grammar.specs.declared.symbol.Symbol.{Symbol}
 use Rattle.sx_grammar.specs.declared.symbol.Symbol.TheVariants.{Lit, Lex, Part}
-use Rattle.sx_directives.specs.Spelling.{IsName, IsQuoted, NoAt, SpellsSort, Spells, SpellsForm, EachSpelled, lex_text, role_text}
+use Rattle.sx_directives.specs.Spelling.{IsName, IsQuoted, NoAt, SpellsSort, SpellsSymbol}
+use Rattle.sx_directives.specs.Spelling.{SpellsForm, EachSpelled, lex_text, role_text}
 use Rattle.sx_directives.specs.declared.spelled.SpelledSort.{SpelledSort}
 use Rattle.sx_directives.specs.declared.spelled.SpelledSort.TheVariants.{Lex as Lexical, Named}
 use Rattle.sx_directives.specs.declared.spelled.FormSymbol.{FormSymbol}
@@ -152,7 +153,7 @@ abbrev symbol_of : SpelledSort → Symbol
 symbol_of (Lexical kind) = Lex kind
 symbol_of (Named sort least) = Part sort least
 
-pub one_symbol : (part : List ℕ) (a b : Symbol) → Spells part a → Spells part b → a ≡ b
+pub one_symbol : (part : List ℕ) (a b : Symbol) → SpellsSymbol part a → SpellsSymbol part b → a ≡ b
 one_symbol part (Lit x) (Lit y) h k = ap Lit (one_quoted part x y h k)
 one_symbol part (Lit x) (Lex k) h g = absurd (sort_no_quote part x (Lexical k) g h)
 one_symbol part (Lit x) (Part s m) h g = absurd (sort_no_quote part x (Named s m) g h)

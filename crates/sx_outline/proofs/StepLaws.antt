@@ -15,18 +15,27 @@ use Rattle.sx_outline.specs.declared.read_lines.ReadLines.{ReadLines}
 use Rattle.sx_directives.specs.declared.row.Row.TheVariants.{Bar, Plain, To}
 use Rattle.sx_directives.specs.declared.row_error.RowError.{RowError}
 use Rattle.sx_directives.specs.declared.row_error.RowError.TheVariants.{Shape as BadRow}
-use Rattle.sx_lines.specs.declared.kind.Kind.TheVariants.{Head, Directive, Shape, Order, Unfinished, Main as NoMain, Variable}
+use Rattle.sx_lines.specs.declared.kind.Kind.TheVariants.{Head, Directive, Shape, Order, Unfinished}
+use Rattle.sx_lines.specs.declared.kind.Kind.TheVariants.{Main as NoMain, Variable}
 use Rattle.sx_outline.specs.declared.outline_error.OutlineError.{OutlineError}
-use Rattle.sx_outline.specs.declared.outline_error.OutlineError.TheVariants.{Memory, NotUtf8, Notation}
+use Rattle.sx_outline.specs.declared.outline_error.OutlineError.TheVariants.{Memory, NotUtf8}
+use Rattle.sx_outline.specs.declared.outline_error.OutlineError.TheVariants.{Notation}
 use Rattle.sx_outline.specs.declared.reader.Reader.{Reader}
 use Rattle.sx_outline.specs.declared.stage.Begun.{Begun as BegunOf}
 use Rattle.sx_outline.specs.declared.stage.BegunPlain.{BegunPlain as BegunPlainOf}
 use Rattle.sx_outline.specs.declared.stage.Stage.{Stage as StageOf}
 use Rattle.sx_outline.specs.declared.stage.Stage.TheVariants as stages
 use Rattle.sx_outline.specs.Declarations.{Declared}
-use Rattle.sx_outline.specs.Fitting.{Fits}
-use Rattle.sx_outline.specs.Stages.{Numbered, PlainData, RuleData, plain_data, rule_data, with_body, bodied, begun_plain, paired, with_plain, MayStandAt, Stage, at_start, at_declarations, at_body, at_plains, at_rules, at_premises, at_conclusion, at_end, concluded, head_row, State, MayStand, IsDue, StepsAt, StepsByRow, with_premise, after, at as to}
-use Rattle.sx_outline.specs.Reading.{stage, begun, plain_begun, AddsPlain, IsPlainBegun, IsReader, IsMainRead, IsFront, IsRowRefused, IsRowTaken, IsLineRefused, IsLineRead, IsHeadRefused, AddsPremise}
+use Rattle.sx_outline.specs.Fitting.{RowFits}
+use Rattle.sx_outline.specs.Stages.{Numbered, PlainData, RuleData, plain_data, rule_data, with_body}
+use Rattle.sx_outline.specs.Stages.{bodied, begun_plain, paired, with_plain, MayStandAt, Stage}
+use Rattle.sx_outline.specs.Stages.{at_start, at_declarations, at_body, at_plains, at_rules}
+use Rattle.sx_outline.specs.Stages.{at_premises, at_conclusion, at_end, concluded, head_row, State}
+use Rattle.sx_outline.specs.Stages.{MayStand, IsDue, StepsAt, StepsByRow, with_premise, after}
+use Rattle.sx_outline.specs.Stages.{at as to}
+use Rattle.sx_outline.specs.Reading.{stage, begun, plain_begun, AddsPlain, IsPlainBegun}
+use Rattle.sx_outline.specs.Reading.{IsOutlineReader, IsMainRead, IsFront, IsRowRefused, IsRowTaken}
+use Rattle.sx_outline.specs.Reading.{IsLineRefused, IsLineRead, IsHeadRefused, AddsPremise}
 use Rattle.sx_outline.proofs.SameRows.{same_row}
 use Rattle.sx_outline.proofs.SameLaws.{has_word, same_fits}
 
@@ -43,7 +52,7 @@ pub other_head : (kind : FileKind) (name : List ℕ) (number : ℕ) (text : List
 other_head kind name number text e is n = subst (IsHeadRefused kind name number text) (sym is) (refl, n)
 
 -- a first line that is refused is a bad line
-pub head_refused : (kind : FileKind) (known : Declared) (name : List ℕ) (r : Reader) (s : State) (number : ℕ) (text : List ℕ) (e : OutlineError) → r.stage ≡ stages.Start → IsReader known r s → IsHeadRefused kind name number text e
+pub head_refused : (kind : FileKind) (known : Declared) (name : List ℕ) (r : Reader) (s : State) (number : ℕ) (text : List ℕ) (e : OutlineError) → r.stage ≡ stages.Start → IsOutlineReader known r s → IsHeadRefused kind name number text e
     → IsLineRefused kind known name s number text e
 head_refused kind known name r s number text Memory is reader h = tt
 head_refused kind known name r s number text (NotUtf8 place) is reader h = absurd h
@@ -69,18 +78,18 @@ shape_in kind text e is h = subst (λ x. IsRowRead kind text (Err x)) is h
 -- ---- lines where a row is due
 
 pub fits_from : (known before : Declared) (forms vars : ℕ) (b : Bool) (row : Row)
-    → ((d : Declared) → d.forms ≡ take forms known.forms → d.vars ≡ take vars known.vars → IsTrue b ↔ Fits known d row)
-    → IsFront before known → forms ≡ length before.forms → vars ≡ length before.vars → IsTrue b ↔ Fits known before row
+    → ((d : Declared) → d.forms ≡ take forms known.forms → d.vars ≡ take vars known.vars → IsTrue b ↔ RowFits known d row)
+    → IsFront before known → forms ≡ length before.forms → vars ≡ length before.vars → IsTrue b ↔ RowFits known before row
 fits_from known before forms vars b row h front ef ev =
     h before
     (sym (ap (λ n. take n known.forms) ef ∙ ap (take (length before.forms)) front.forms ∙ take-append_seam before.forms front.more.forms))
     (sym (ap (λ n. take n known.vars) ev ∙ ap (take (length before.vars)) front.vars ∙ take-append_seam before.vars front.more.vars))
 
-due_of : (known : Declared) (r : Reader) (s : State) → IsDue (stage r.stage) → IsReader known r s → IsDue s.stage
+due_of : (known : Declared) (r : Reader) (s : State) → IsDue (stage r.stage) → IsOutlineReader known r s → IsDue s.stage
 due_of known r s due is = subst IsDue is.stage_is due
 
 pub unfit_row : (kind : FileKind) (known : Declared) (name : List ℕ) (r : Reader) (s : State) (number : ℕ) (text : List ℕ) (row : Row) (e : OutlineError) → e ≡ Notation number Shape
-    → IsDue (stage r.stage) → IsReader known r s → IsRow kind text row → (Fits known s.declared row → ⊥) → IsLineRefused kind known name s number text e
+    → IsDue (stage r.stage) → IsOutlineReader known r s → IsRow kind text row → (RowFits known s.declared row → ⊥) → IsLineRefused kind known name s number text e
 unfit_row kind known name r s number text row e is due reader spelled n =
     subst (IsLineRefused kind known name s number text) (sym is) (
       refl,
@@ -92,7 +101,7 @@ unfit_row kind known name r s number text row e is due reader spelled n =
     )
 
 pub no_row : (kind : FileKind) (known : Declared) (name : List ℕ) (r : Reader) (s : State) (number : ℕ) (text : List ℕ) (e : OutlineError) → e ≡ Notation number Shape
-    → IsDue (stage r.stage) → IsReader known r s → HasWord kind text × ((row : Row) → IsRow kind text row → ⊥) → IsLineRefused kind known name s number text e
+    → IsDue (stage r.stage) → IsOutlineReader known r s → HasWord kind text × ((row : Row) → IsRow kind text row → ⊥) → IsLineRefused kind known name s number text e
 no_row kind known name r s number text e is due reader n =
     subst (IsLineRefused kind known name s number text) (sym is)
     (refl, (due_of known r s due reader, n.0, λ row spells fits. n.1 row spells))
@@ -107,7 +116,7 @@ due_steps (at_premises b) kind known name s number text t due h = absurd due
 due_steps (at_conclusion b) kind known name s number text t due h = absurd due
 due_steps (at_end r) kind known name s number text t due h = h
 
-row_refused : (kind : FileKind) (known : Declared) (name : List ℕ) (s : State) (number : ℕ) (text : List ℕ) (row : Row) (e : OutlineError) → IsDue s.stage → IsRow kind text row → Fits known s.declared row
+row_refused : (kind : FileKind) (known : Declared) (name : List ℕ) (s : State) (number : ℕ) (text : List ℕ) (row : Row) (e : OutlineError) → IsDue s.stage → IsRow kind text row → RowFits known s.declared row
     → IsRowRefused known s number row e → IsLineRefused kind known name s number text e
 row_refused kind known name s number text row Memory due spelled fits h = tt
 row_refused kind known name s number text row (NotUtf8 place) due spelled fits h = absurd h
@@ -120,7 +129,7 @@ row_refused kind known name s number text row (Notation l Unfinished) due spelle
 row_refused kind known name s number text row (Notation l Variable) due spelled fits h = absurd h
 
 pub row_taken : (kind : FileKind) (known : Declared) (name : List ℕ) (r : Reader) (number : ℕ) (text : List ℕ) (row : Row) (result : Result Reader OutlineError) → IsDue (stage r.stage) → IsRow kind text row
-    → ((s : State) → IsReader known r s → IsFront s.declared known → Fits known s.declared row) → IsRowTaken known r number row result → IsLineRead kind known name r number text result
+    → ((s : State) → IsOutlineReader known r s → IsFront s.declared known → RowFits known s.declared row) → IsRowTaken known r number row result → IsLineRead kind known name r number text result
 row_taken kind known name r number text row (Ok next) due spelled fits taken = λ s reader front.
     let h = taken s reader in (
       after s number row,
@@ -137,7 +146,7 @@ row_taken kind known name r number text row (Err e) due spelled fits taken = λ 
 abbrev pub with_stage : Reader → StageOf → Reader
 with_stage r at = record { stage = at; forms = r.forms; vars = r.vars; main = r.main; read = r.read }
 
-moved : (known : Declared) (r : Reader) (s t : State) (next : StageOf) → stage next ≡ t.stage → s.declared ≡ t.declared → s.plains ≡ t.plains → s.rules ≡ t.rules → IsReader known r s → IsReader known (with_stage r next) t
+moved : (known : Declared) (r : Reader) (s t : State) (next : StageOf) → stage next ≡ t.stage → s.declared ≡ t.declared → s.plains ≡ t.plains → s.rules ≡ t.rules → IsOutlineReader known r s → IsOutlineReader known (with_stage r next) t
 moved known r s t next e d p u h = record {
   stage_is = e;
   forms_are = h.forms_are ∙ ap (λ (x : Declared). length x.forms) d;
@@ -147,12 +156,12 @@ moved known r s t next e d p u h = record {
   rules_are = h.rules_are ∙ u;
 }
 
-steps_at : (kind : FileKind) (known : Declared) (name : List ℕ) (r : Reader) (s : State) (at : Stage) (number : ℕ) (text : List ℕ) (t : State) → stage r.stage ≡ at → IsReader known r s
+steps_at : (kind : FileKind) (known : Declared) (name : List ℕ) (r : Reader) (s : State) (at : Stage) (number : ℕ) (text : List ℕ) (t : State) → stage r.stage ≡ at → IsOutlineReader known r s
     → StepsAt at kind known name s number text t → StepsAt s.stage kind known name s number text t
 steps_at kind known name r s at number text t e reader h = subst (λ x. StepsAt x kind known name s number text t) (sym e ∙ reader.stage_is) h
 
 pub started : (kind : FileKind) (known : Declared) (name : List ℕ) (r : Reader) (s : State) (number : ℕ) (text : List ℕ) (next : StageOf) → r.stage ≡ stages.Start → IsRow kind text (head_row kind name) → next ≡ stages.Declarations
-    → IsReader known r s → (t : State) × StepsAt s.stage kind known name s number text t × IsReader known (with_stage r next) t
+    → IsOutlineReader known r s → (t : State) × StepsAt s.stage kind known name s number text t × IsOutlineReader known (with_stage r next) t
 started kind known name r s number text next is head e reader = (
   to s at_declarations,
   steps_at kind known name r s at_start number text (to s at_declarations) (ap stage is) reader (head, refl),
@@ -160,7 +169,7 @@ started kind known name r s number text next is head e reader = (
 )
 
 pub premised : (kind : FileKind) (known : Declared) (name : List ℕ) (r : Reader) (s : State) (number : ℕ) (text : List ℕ) (b : BegunOf) (next : StageOf) → r.stage ≡ stages.Premises b
-    → AddsPremise (begun b) number text (stage next) → IsReader known r s → (t : State) × StepsAt s.stage kind known name s number text t × IsReader known (with_stage r next) t
+    → AddsPremise (begun b) number text (stage next) → IsOutlineReader known r s → (t : State) × StepsAt s.stage kind known name s number text t × IsOutlineReader known (with_stage r next) t
 premised kind known name r s number text b next is (inl h) reader =
     let t : State = to s (at_conclusion (begun b)) in
     (t, steps_at kind known name r s (at_premises (begun b)) number text t (ap stage is) reader (inl (h.0, refl)), moved known r s t next h.1 refl refl refl reader)
@@ -169,8 +178,8 @@ premised kind known name r s number text b next is (inr h) reader =
     (t, steps_at kind known name r s (at_premises (begun b)) number text t (ap stage is) reader (inr (h.0, refl)), moved known r s t next h.1 refl refl refl reader)
 
 pub conclusion_read : (kind : FileKind) (known : Declared) (name : List ℕ) (r : Reader) (s : State) (number : ℕ) (text : List ℕ) (b : BegunOf) (next : StageOf) → r.stage ≡ stages.Conclusion b
-    → stage next ≡ at_end (concluded (begun b) (record { number = number; text = text })) → IsReader known r s
-    → (t : State) × StepsAt s.stage kind known name s number text t × IsReader known (with_stage r next) t
+    → stage next ≡ at_end (concluded (begun b) (record { number = number; text = text })) → IsOutlineReader known r s
+    → (t : State) × StepsAt s.stage kind known name s number text t × IsOutlineReader known (with_stage r next) t
 conclusion_read kind known name r s number text b next is h reader =
     let t : State = to s (at_end (concluded (begun b) (record { number = number; text = text }))) in
     (t, steps_at kind known name r s (at_conclusion (begun b)) number text t (ap stage is) reader refl, moved known r s t next h refl refl refl reader)
@@ -179,13 +188,13 @@ conclusion_read kind known name r s number text b next is h reader =
 abbrev pub with_pair : Reader → StageOf → ReadLines → Reader
 with_pair r at read = record { stage = at; forms = r.forms; vars = r.vars; main = r.main; read = read }
 
-pub same_read : (Leads : State → Type 0) (known : Declared) (r : Reader) (next : StageOf) (read : ReadLines) → read ≡ r.read → (t : State) × Leads t × IsReader known (with_stage r next) t
-    → (t : State) × Leads t × IsReader known (with_pair r next read) t
-same_read Leads known r next read e h = (h.0, h.1, subst (λ (x : ReadLines). IsReader known (with_pair r next x) h.0) (sym e) h.2)
+pub same_read : (Leads : State → Type 0) (known : Declared) (r : Reader) (next : StageOf) (read : ReadLines) → read ≡ r.read → (t : State) × Leads t × IsOutlineReader known (with_stage r next) t
+    → (t : State) × Leads t × IsOutlineReader known (with_pair r next read) t
+same_read Leads known r next read e h = (h.0, h.1, subst (λ (x : ReadLines). IsOutlineReader known (with_pair r next x) h.0) (sym e) h.2)
 
 pub body_read : (kind : FileKind) (known : Declared) (name : List ℕ) (r : Reader) (s : State) (number : ℕ) (text : List ℕ) (b : BegunPlainOf) (p : PlainLines) (next : StageOf) (read : ReadLines)
-    → r.stage ≡ stages.Body b → plain_data p ≡ paired (plain_begun b) (record { number = number; text = text }) → AddsPlain r.read p read → next ≡ stages.Plains → IsReader known r s
-    → (t : State) × StepsAt s.stage kind known name s number text t × IsReader known (with_pair r next read) t
+    → r.stage ≡ stages.Body b → plain_data p ≡ paired (plain_begun b) (record { number = number; text = text }) → AddsPlain r.read p read → next ≡ stages.Plains → IsOutlineReader known r s
+    → (t : State) × StepsAt s.stage kind known name s number text t × IsOutlineReader known (with_pair r next read) t
 body_read kind known name r s number text b p next read is pair adds e reader =
     let t : State = with_plain s (paired (plain_begun b) (record { number = number; text = text })) in (
       t,
@@ -226,7 +235,7 @@ body_taken known r number body next w = λ s reader.
     let e : s.stage ≡ at_end w.0 = sym reader.stage_is ∙ w.1 in (
       subst (λ x. MayStandAt x s.declared.mains (To body)) (sym e) w.2,
       tt,
-      subst (IsReader known (with_stage r next)) (sym (ap (λ x. bodied s x l) e)) (moved known r s (to s (at_end (with_body w.0 l))) next w.3 refl refl refl reader),
+      subst (IsOutlineReader known (with_stage r next)) (sym (ap (λ x. bodied s x l) e)) (moved known r s (to s (at_end (with_body w.0 l))) next w.3 refl refl refl reader),
     )
 
 pub body_refused : (known : Declared) (r : Reader) (number : ℕ) (body : List ℕ) (x : OutlineError) → x ≡ Notation number Order

@@ -8,12 +8,14 @@ use Rattle.sx_lines.specs.declared.kind.Kind.TheVariants.{Head, Shape}
 use Rattle.sx_directives.specs.Rows.{IsRow, keyword_text, word_of}
 use Rattle.sx_directives.specs.declared.file_kind.FileKind.TheVariants as files
 use Rattle.sx_directives.specs.declared.row.Row.{Row}
-use Rattle.sx_directives.specs.declared.row.Row.TheVariants.{Language, Sort, Prod, Var, Form, Main, Extension, Use, Plain, Rule}
+use Rattle.sx_directives.specs.declared.row.Row.TheVariants.{Language, Sort, Prod, Var, Form, Main}
+use Rattle.sx_directives.specs.declared.row.Row.TheVariants.{Extension, Use, Plain, Rule}
 use Rattle.sx_outline.specs.declared.outline_error.OutlineError.{OutlineError}
 use Rattle.sx_outline.specs.declared.outline_error.OutlineError.TheVariants.{Notation}
-use Rattle.sx_outline.specs.Fitting.{AreDistinct}
+use Rattle.sx_lines.specs.Distinct.{AreTextsDistinct}
 use Rattle.sx_outline.specs.Stages.{Numbered}
-use Rattle.sx_outline.specs.Headers.{HeaderData, begun, with_use, IsUseLine, AreUses, IsLanguageNext, IsHeaderOf, IsHeader}
+use Rattle.sx_outline.specs.Headers.{HeaderData, header_begun, with_use, IsUseLine, AreUses}
+use Rattle.sx_outline.specs.Headers.{IsLanguageNext, IsHeaderOf, IsHeader}
 use Rattle.sx_outline.specs.Structure.{numbered_lines, AreUseLines, AreHeaderLines}
 use Rattle.sx_outline.specs.BadExtensions.{BeginOther}
 use Rattle.sx_outline.proofs.KeptLaws.{distinct_push}
@@ -32,10 +34,10 @@ pub record UsesTo (h : HeaderData) (lines : Lines) (Next : HeaderData → Lines 
   pub language : last.language ≡ h.language
   pub uses_are : last.uses ≡ h.uses ++ more
   pub are : AreUseLines front more
-  pub once : AreDistinct last.uses
+  pub once : AreTextsDistinct last.uses
   pub holds : Next last left
 
-pub uses_lines : (Next : HeaderData → Lines → Type 0) (Bad : ℕ → Kind → Type 0) → ((n : ℕ) (bad : Kind) → Bad n bad → ⊥) → (h : HeaderData) (lines : Lines) → AreDistinct h.uses
+pub uses_lines : (Next : HeaderData → Lines → Type 0) (Bad : ℕ → Kind → Type 0) → ((n : ℕ) (bad : Kind) → Bad n bad → ⊥) → (h : HeaderData) (lines : Lines) → AreTextsDistinct h.uses
     → AreUses h lines Next Bad → UsesTo h lines Next
 uses_lines Next Bad n h (over end) once x = record {
   last = h;
@@ -93,7 +95,7 @@ pub header_lines : (Next : HeaderData → Lines → Type 0) (Bad : ℕ → Kind 
 header_lines Next Bad n (over end) x = absurd (n end Head x)
 header_lines Next Bad n (line number text after (over end)) (inl x) = absurd (n end Head x.2)
 header_lines Next Bad n (line number text after (line second other later more)) (inl (name, named, inl x)) =
-    let next = uses_lines Next Bad n (begun name x.0) more tt x.2 in
+    let next = uses_lines Next Bad n (header_begun name x.0) more tt x.2 in
     let first : Numbered = record { number = number; text = text } in
     let there : Numbered = record { number = second; text = other } in
     record {
@@ -147,7 +149,7 @@ no_use text (Plain p) h o = other_row text (Plain p) h (λ e. omega (arith, e))
 no_use text (Rule name) h o = other_row text (Rule name) h (λ e. omega (arith, e))
 no_use text _ h o = absurd o
 
-pub distinct_front : (texts : List (List ℕ)) (text : List ℕ) (more : List (List ℕ)) → AreDistinct (texts ++ text ∷ more) → Contains texts text → ⊥
+pub distinct_front : (texts : List (List ℕ)) (text : List ℕ) (more : List (List ℕ)) → AreTextsDistinct (texts ++ text ∷ more) → Contains texts text → ⊥
 distinct_front [] text more h (k, lt, e) = omega (arith, lt)
 distinct_front (first ∷ texts) text more h (zero, lt, e) =
     h.0 (Contains-append_right texts (text ∷ more) first (0, omega arith, sym e))
@@ -157,7 +159,7 @@ last_same : (last h : HeaderData) → last.name ≡ h.name → last.language ≡
 last_same last h n l u = λ i. record { name = n i; language = l i; uses = u i }
 
 pub uses_back : (Next : HeaderData → Lines → Type 0) (Bad : ℕ → Kind → Type 0) (h : HeaderData) (lines : Lines) (front rest : List Numbered) (more : List (List ℕ)) (last : HeaderData)
-    → numbered_lines lines ≡ front ++ rest → AreUseLines front more → last.name ≡ h.name → last.language ≡ h.language → last.uses ≡ h.uses ++ more → AreDistinct last.uses → BeginOther rest
+    → numbered_lines lines ≡ front ++ rest → AreUseLines front more → last.name ≡ h.name → last.language ≡ h.language → last.uses ≡ h.uses ++ more → AreTextsDistinct last.uses → BeginOther rest
     → ((left : Lines) → numbered_lines left ≡ rest → Next last left) → AreUses h lines Next Bad
 uses_back Next Bad h (over end) [] rest [] last e are n l u once other f = subst (λ (x : HeaderData). Next x (over end)) (last_same last h n l (u ∙ append-nil h.uses)) (f (over end) e)
 uses_back Next Bad h (line number text after more) [] rest [] last e are n l u once other f =
@@ -170,7 +172,7 @@ uses_back Next Bad h (line number text after lines) (first ∷ front) rest (used
     let same : here ≡ first = head_same here first (numbered_lines lines) (front ++ rest) e in
     inl (
       used,
-      (subst (λ (x : Numbered). IsRow files.Extension x.text (Use used)) (sym same) are.0, distinct_front h.uses used more (subst AreDistinct u once)),
+      (subst (λ (x : Numbered). IsRow files.Extension x.text (Use used)) (sym same) are.0, distinct_front h.uses used more (subst AreTextsDistinct u once)),
       uses_back Next Bad (with_use h used) lines front rest more last (tail_same here first (numbered_lines lines) (front ++ rest) e) are.1 n l
           (u ∙ sym (append_assoc h.uses (used ∷ []) more)) once other f,
     )
@@ -194,7 +196,7 @@ header_back Next Bad (line number text after (line second there later more)) fro
       inl (
         last.language,
         subst (λ (x : Numbered). IsRow files.Extension x.text (Language last.language)) (sym next) h.language,
-        uses_back Next Bad (begun last.name last.language) more h.others rest last.uses last (tail_same two h.second (numbered_lines more) (h.others ++ rest) off) h.uses refl refl refl h.once other f,
+        uses_back Next Bad (header_begun last.name last.language) more h.others rest last.uses last (tail_same two h.second (numbered_lines more) (h.others ++ rest) off) h.uses refl refl refl h.once other f,
       ),
     )
 
@@ -221,7 +223,7 @@ pub named_of : (Next : HeaderData → Lines → Type 0) (Bad : ℕ → Kind → 
 named_of Next Bad n last f (over end) x = absurd (n end Head x)
 named_of Next Bad n last f (line number text after (over end)) (inl x) = absurd (n end Head x.2)
 named_of Next Bad n last f (line number text after (line second other later more)) (inl (name, named, inl x)) =
-    let next = uses_named Next Bad n last f (begun name x.0) more x.2 in
+    let next = uses_named Next Bad n last f (header_begun name x.0) more x.2 in
     inl (
       subst (λ (y : List ℕ). IsRow files.Extension text (Extension y)) (sym next.1) named,
       subst (λ (y : List ℕ). IsLanguageNext y (line second other later more) (λ x left. one_header last ≡ Ok x) (λ n bad. one_header last ≡ Err (Notation n bad))) (sym next.1) (inl (x.0, x.1, next.0)),

@@ -11,7 +11,7 @@ use Rattle.sx_grammar.specs.declared.sort_line.SortLine.{SortLine}
 use Rattle.sx_grammar.specs.declared.symbol.Symbol.{Symbol}
 use Rattle.sx_grammar.specs.declared.symbol.Symbol.TheVariants.{Lit, Lex, Part}
 use Rattle.sx_directives.specs.Parts as directives
-use Rattle.sx_directives.specs.Spelling.{IsName, Spells, SpellsSort, SpellsForm, EachSpelled}
+use Rattle.sx_directives.specs.Spelling.{IsName, SpellsSymbol, SpellsSort, SpellsForm, EachSpelled}
 use Rattle.sx_directives.specs.Rows.{IsRow, IsSortRow, IsProdRow, AreBrackets}
 use Rattle.sx_directives.specs.declared.spelled.SpelledSort.TheVariants.{Lex as Lexical, Named}
 use Rattle.sx_directives.specs.declared.spelled.FormSymbol.{FormSymbol}
@@ -19,7 +19,8 @@ use Rattle.sx_directives.specs.declared.spelled.FormSymbol.TheVariants.{Lit as F
 use Rattle.sx_directives.specs.declared.file_kind.FileKind.{FileKind}
 use Rattle.sx_directives.specs.declared.row.Row.{Row}
 use Rattle.sx_directives.specs.declared.row.Row.TheVariants.{Sort, Prod, Var, Form, Main}
-use Rattle.sx_outline.specs.Declarations.{Declared, FormData, form, declare, parts_of}
+use Rattle.sx_outline.specs.Declarations.{Declared, FormData, declared_form, declare}
+use Rattle.sx_outline.specs.Declarations.{declared_parts}
 use Rattle.sx_outline.specs.Sized.{HaveGoodLevels, HasName}
 
 -- ---- lists
@@ -60,14 +61,14 @@ literals_in : Line → List (List ℕ)
 literals_in r = flat_map symbol_literals r.symbols
 
 pub weight : Declared → ℕ
-weight d = length d.sorts + length d.productions + length d.vars + length d.forms + (length (literals (parts_of d)) + length (flat_map (λ f. f.symbols) d.forms))
+weight d = length d.sorts + length d.productions + length d.vars + length d.forms + (length (literals (declared_parts d)) + length (flat_map (λ f. f.symbols) d.forms))
 
 pub weight_is : (d : Declared)
-    → weight d ≡ length d.sorts + length d.productions + length d.vars + length d.forms + (length (literals (parts_of d)) + length (flat_map (λ f. f.symbols) d.forms))
+    → weight d ≡ length d.sorts + length d.productions + length d.vars + length d.forms + (length (literals (declared_parts d)) + length (flat_map (λ f. f.symbols) d.forms))
 unfolding weight
 weight_is d = refl
 
-pub literals_many : (d : Declared) → length (literals (parts_of d)) ≡ length (flat_map (λ s. bracket_literals s.brackets) d.sorts) + length (flat_map (λ r. flat_map symbol_literals r.symbols) d.productions)
+pub literals_many : (d : Declared) → length (literals (declared_parts d)) ≡ length (flat_map (λ s. bracket_literals s.brackets) d.sorts) + length (flat_map (λ r. flat_map symbol_literals r.symbols) d.productions)
 literals_many d = length-append (flat_map (λ s. bracket_literals s.brackets) d.sorts) (flat_map (λ r. flat_map symbol_literals r.symbols) d.productions)
 
 bracket_few : (parts : List (List ℕ)) (pair : Option (List ℕ × List ℕ)) → AreBrackets parts pair → length (bracket_literals pair) ≤ length parts
@@ -112,7 +113,7 @@ prod_weighs d parts p h =
     let l = literals_many d in
     let m = literals_many (record { sorts = d.sorts; productions = d.productions ++ p ∷ []; vars = d.vars; forms = d.forms; mains = d.mains; uses = d.uses }) in
     let few = literal_few p.symbols in
-    let fewer = spelled_few Spells h.symbols p.symbols h.symbols_are in
+    let fewer = spelled_few SpellsSymbol h.symbols p.symbols h.symbols_are in
     let e : length parts ≡ suc (suc (suc (suc (length h.symbols)))) = ap length h.parts_are in
     omega arith
 
@@ -144,7 +145,7 @@ row_weighs kind d text (Var v) h =
     omega arith
 row_weighs kind d text (Form f) h =
     let e : length (directives.parts_of text) ≡ suc (length h.rest) = ap length h.parts_are in
-    let k = form_weighs d h.rest (form f) h.follows.symbols h.follows.parts_are h.follows.symbols_are in
+    let k = form_weighs d h.rest (declared_form f) h.follows.symbols h.follows.parts_are h.follows.symbols_are in
     omega arith
 row_weighs kind d text (Main m) h =
     let w = weight_is d in
@@ -182,7 +183,7 @@ named_level : (part sort : List ℕ) (least : ℕ) → SpellsSort part (Named so
 named_level part sort least (named, inl alone) = let e : least ≡ 0 = alone.level in omega arith
 named_level part sort least (named, inr level) = at_most level.digits least level.level
 
-good_symbol : (part : List ℕ) (s : Symbol) → Spells part s → IsGoodSymbol s
+good_symbol : (part : List ℕ) (s : Symbol) → SpellsSymbol part s → IsGoodSymbol s
 good_symbol part (Lit text) h = tt
 good_symbol part (Lex kind) h = tt
 good_symbol part (Part sort least) h = named_level part sort least h
@@ -200,7 +201,7 @@ good_each R P f (p ∷ parts) [] h = absurd h
 good_each R P f (p ∷ parts) (s ∷ symbols) h = (f p s h.0, good_each R P f parts symbols h.1)
 
 good_line : (parts : List (List ℕ)) (p : Line) → IsProdRow parts p → IsGoodLine p
-good_line parts p h = (at_most h.level p.level h.level_is, good_each Spells IsGoodSymbol good_symbol h.symbols p.symbols h.symbols_are)
+good_line parts p h = (at_most h.level p.level h.level_is, good_each SpellsSymbol IsGoodSymbol good_symbol h.symbols p.symbols h.symbols_are)
 
 pub row_good : (kind : FileKind) (d : Declared) (text : List ℕ) (row : Row) → IsRow kind text row → AreGood d → AreGood (declare d row)
 row_good kind d text (Sort s) h g = record { lines = g.lines; forms = g.forms }
@@ -208,12 +209,12 @@ row_good kind d text (Prod p) h g = record { lines = all_push IsGoodLine d.produ
 row_good kind d text (Var v) h g = record { lines = g.lines; forms = g.forms }
 row_good kind d text (Form f) h g = record {
   lines = g.lines;
-  forms = all_push IsGoodForm d.forms (form f) g.forms (good_each SpellsForm IsGoodPlace good_place h.follows.symbols f.symbols.items h.follows.symbols_are);
+  forms = all_push IsGoodForm d.forms (declared_form f) g.forms (good_each SpellsForm IsGoodPlace good_place h.follows.symbols f.symbols.items h.follows.symbols_are);
 }
 row_good kind d text (Main m) h g = record { lines = g.lines; forms = g.forms }
 row_good kind d text _ h g = g
 
-pub good_levels : (d : Declared) → AreGood d → HasGoodLevels (parts_of d)
+pub good_levels : (d : Declared) → AreGood d → HasGoodLevels (declared_parts d)
 good_levels d g = record {
   levels = λ r inside. (all_in IsGoodLine d.productions r g.lines inside).0;
   asked = λ r name least inside here. all_in IsGoodSymbol r.symbols (Part name least) (all_in IsGoodLine d.productions r g.lines inside).1 here;

@@ -15,8 +15,8 @@ pub record FormData : Type 0 where
   pub symbols : List FormSymbol
 
 -- the name and the symbols of a form line
-abbrev pub form : FormLine → FormData
-form f = record { name = f.name; symbols = f.symbols.items }
+abbrev pub declared_form : FormLine → FormData
+declared_form f = record { name = f.name; symbols = f.symbols.items }
 
 -- sorts, productions, stems, forms and main forms, each in the order of their lines, and the names
 -- that the first lines use
@@ -76,7 +76,7 @@ declare d (Form f) =
       sorts = d.sorts;
       productions = d.productions;
       vars = d.vars;
-      forms = d.forms ++ form f ∷ [];
+      forms = d.forms ++ declared_form f ∷ [];
       mains = d.mains;
       uses = d.uses;
     }
@@ -91,5 +91,5 @@ declare d (Main m) = record {
 declare d _ = d
 
 -- the parts of the grammar
-abbrev pub parts_of : Declared → Parts
-parts_of d = record { sorts = d.sorts; productions = d.productions }
+abbrev pub declared_parts : Declared → Parts
+declared_parts d = record { sorts = d.sorts; productions = d.productions }

@@ -5,7 +5,8 @@ use Rattle.sx_grammar.specs.Parts.{Parts, literals}
 use Rattle.sx_grammar.specs.Tables.{HasGoodLevels}
 use Rattle.sx_grammar.specs.declared.sort_line.SortLine.{SortLine}
 use Rattle.sx_directives.specs.declared.rows.VarLine.{VarLine}
-use Rattle.sx_outline.specs.Fitting.{ArePartNames, AreDistinct, IsKnownSort}
+use Rattle.sx_outline.specs.Fitting.{ArePartNames, IsKnownSort}
+use Rattle.sx_lines.specs.Distinct.{AreTextsDistinct}
 use Rattle.sx_outline.specs.Sized.{HasShortLines}
 use Rattle.sx_outline.specs.ExtensionOutlined.{ExtensionOutlineData, extension_declares}
 
@@ -28,9 +29,9 @@ pub record IsExtensionFit (sorts : List SortLine) (vars : List VarLine)
     (o : ExtensionOutlineData) : Type 0 where
   pub own : List VarLine
   pub vars_are : o.vars ≡ vars ++ own
-  pub stems_once : AreDistinct (map (λ v. v.stem) own)
+  pub stems_once : AreTextsDistinct (map (λ v. v.stem) own)
   pub stems_apart : AllByRecursion (λ v. Contains (map (λ w. w.stem) vars) v.stem → ⊥) own
   pub sorts_known : AllByRecursion (λ v. IsKnownSort (extension_declares sorts o) v.sort) own
   pub plains : AllByRecursion (λ p. ArePartNames (extension_declares sorts o) p.label
       p.names) o.plains
-  pub uses : AreDistinct o.header.uses
+  pub uses : AreTextsDistinct o.header.uses

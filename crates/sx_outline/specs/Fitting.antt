@@ -22,8 +22,9 @@ use Rattle.sx_directives.specs.declared.row.Row.{Row}
 use Rattle.sx_directives.specs.declared.rows.VarLine.{VarLine}
 use Rattle.sx_directives.specs.declared.row.Row.TheVariants.{Var, Form, Use, Plain}
 use Rattle.sx_outline.specs.declared.main_form.MainForm.{MainForm}
-use Rattle.sx_outline.specs.Declarations.{Declared, FormData, parts_of}
+use Rattle.sx_outline.specs.Declarations.{Declared, FormData, declared_parts}
 use Rattle.sx_outline.specs.Variables.{stem_of}
+use Rattle.sx_lines.specs.Distinct.{AreTextsDistinct}
 
 -- the names of the sorts
 abbrev pub sort_names : Declared → List (List ℕ)
@@ -69,8 +70,8 @@ abbrev pub sorts_at : Role → List FormSymbol → List SpelledSort
 sorts_at role symbols = flat_map (sort_at role) symbols
 
 -- there is one subject at most
-abbrev pub HasOneSubject : List FormSymbol → Type 0
-HasOneSubject symbols = length (sorts_at Sub symbols) ≤ 1
+abbrev pub HasOneSubjectSymbol : List FormSymbol → Type 0
+HasOneSubjectSymbol symbols = length (sorts_at Sub symbols) ≤ 1
 
 -- what a part of a production is: a lexeme of a kind, or of a sort at any level
 pub data Kid : Type 0 where
@@ -91,11 +92,6 @@ kids_of symbols = flat_map kid_of symbols
 abbrev pub kid_sort : Kid → List ℕ
 kid_sort (of_kind kind) = lex_text kind
 kid_sort (of_sort sort) = sort
-
--- no text stands twice
-abbrev pub AreDistinct : List (List ℕ) → Type 0
-AreDistinct [] = Unit {0}
-AreDistinct (text ∷ texts) = (Contains texts text → ⊥) × AreDistinct texts
 
 -- the first production with this label
 abbrev pub production_named : Declared → List ℕ → Option Line
@@ -126,26 +122,26 @@ pub record ArePartNames (d : Declared) (label : List ℕ) (names : List (List �
   pub line : Line
   pub line_is : production_named d label ≡ Some line
   pub plain : IsPlain d line.sort
-  pub once : AreDistinct names
+  pub once : AreTextsDistinct names
   pub fit : NamesFit d names (kids_of line.symbols)
 
 -- Among what the whole file declares, and after the lines before it, the row is as it should be.
 -- Names that stand twice are left to the grammar and to the rule set where these refuse them.
-abbrev pub Fits : (known before : Declared) → Row → Type 0
-Fits known before (Var v) = (Contains (stems before) v.stem → ⊥) × IsKnownSort known v.sort
-Fits known before (Form f) =
+abbrev pub RowFits : (known before : Declared) → Row → Type 0
+RowFits known before (Var v) = (Contains (stems before) v.stem → ⊥) × IsKnownSort known v.sort
+RowFits known before (Form f) =
     (Contains (form_names before) f.name → ⊥) × AllByRecursion (SymbolFits known) f.symbols.items ×
-    HasOneSubject f.symbols.items
-Fits known before (Use name) = Contains known.uses name → ⊥
-Fits known before (Plain p) = ArePartNames known p.label p.names.items
-Fits known before _ = Unit {0}
+    HasOneSubjectSymbol f.symbols.items
+RowFits known before (Use name) = Contains known.uses name → ⊥
+RowFits known before (Plain p) = ArePartNames known p.label p.names.items
+RowFits known before _ = Unit {0}
 
 -- the production with this label is the one with this number, and has this sort and these parts
 pub record IsConstructor (d : Declared) (label : List ℕ) (number : ℕ) (sort : List ℕ)
     (kids : List Kid) : Type 0 where
   pub line : Line
   pub is : slice_get d.productions number ≡ Some line
-  pub first : number ≡ number_of (labels (parts_of d)) label
+  pub first : number ≡ number_of (labels (declared_parts d)) label
   pub sort_is : line.sort ≡ sort
   pub kids_are : kids_of line.symbols ≡ kids
 

@@ -26,8 +26,8 @@ abbrev pub header : ExtensionHeader → HeaderData
 header h = record { name = h.name; language = h.language; uses = h.uses.items }
 
 -- a header that uses nothing yet
-abbrev pub begun : (name language : List ℕ) → HeaderData
-begun name language = record { name = name; language = language; uses = [] }
+abbrev pub header_begun : (name language : List ℕ) → HeaderData
+header_begun name language = record { name = name; language = language; uses = [] }
 
 -- a header that uses one more
 abbrev pub with_use : HeaderData → List ℕ → HeaderData
@@ -62,7 +62,7 @@ abbrev pub IsLanguageNext : (name : List ℕ) → Lines → (HeaderData → Line
 IsLanguageNext name (over end) Next Bad = Bad end Head
 IsLanguageNext name (line number text after more) Next Bad =
     ((language : List ℕ) × IsLanguageLine text language ×
-    AreUses (begun name language) more Next Bad)
+    AreUses (header_begun name language) more Next Bad)
     ⊎ (((language : List ℕ) → IsLanguageLine text language → ⊥) × Bad number Head)
 
 -- what comes of the lines of the extension with this name: the first is `extension NAME`

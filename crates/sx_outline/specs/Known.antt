@@ -23,10 +23,10 @@ kept_lines (line n text after more) = if is_dropped (parts_of text) then kept_li
 
 -- A row of a rule ends the declarations. After another they go on, and after one of a plain pair
 -- the next line is a body.
-abbrev pub GoesOn : Declared → Row → Declared → (Bool → Declared → Type 0) → Type 0
-GoesOn d (Rule name) all Next = all ≡ d
-GoesOn d (Plain p) all Next = Next true d
-GoesOn d row all Next = Next false (declare d row)
+abbrev pub RowGoesOn : Declared → Row → Declared → (Bool → Declared → Type 0) → Type 0
+RowGoesOn d (Rule name) all Next = all ≡ d
+RowGoesOn d (Plain p) all Next = Next true d
+RowGoesOn d row all Next = Next false (declare d row)
 
 -- After these declarations the lines up to the first that spells a row of a rule declare the rest
 -- of all. A line that spells no row declares nothing, nor does the body of a plain pair, which is
@@ -35,6 +35,6 @@ abbrev pub Declares : FileKind → (is_body : Bool) → Declared → Lines → D
 Declares kind is_body d (over n) all = all ≡ d
 Declares kind true d (line n text after more) all = Declares kind false d more all
 Declares kind false d (line n text after more) all =
-    ((row : Row) × IsRow kind text row × GoesOn d row all
+    ((row : Row) × IsRow kind text row × RowGoesOn d row all
     (λ is_body next. Declares kind is_body next more all))
     ⊎ (((row : Row) → IsRow kind text row → ⊥) × Declares kind false d more all)

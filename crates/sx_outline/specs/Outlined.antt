@@ -15,7 +15,7 @@ use Rattle.sx_outline.specs.declared.outline.Outline.{Outline}
 use Rattle.sx_outline.specs.declared.outline_error.OutlineError.{OutlineError}
 use Rattle.sx_outline.specs.declared.outline_error.OutlineError.TheVariants.{Memory, NotUtf8}
 use Rattle.sx_outline.specs.declared.outline_error.OutlineError.TheVariants.{Notation}
-use Rattle.sx_outline.specs.Declarations.{Declared, FormData, form, nothing}
+use Rattle.sx_outline.specs.Declarations.{Declared, FormData, declared_form, nothing}
 use Rattle.sx_outline.specs.Fitting.{IsMainOf}
 use Rattle.sx_outline.specs.Known.{Declares, kept_lines}
 use Rattle.sx_outline.specs.Stages.{RuleData, rule_data, at_start, State, start, IsWhole, IsInside}
@@ -34,7 +34,7 @@ abbrev pub outline : Outline → OutlineData
 outline o = record {
   parts = parts o.parts;
   vars = o.vars.items;
-  forms = map form o.forms.items;
+  forms = map declared_form o.forms.items;
   main = o.main;
   rules = map rule_data o.rules.items;
 }

@@ -27,7 +27,8 @@ use Rattle.sx_outline.specs.declared.reader.Reader.{Reader}
 use Rattle.sx_outline.specs.Declarations.{Declared}
 use Rattle.sx_outline.specs.Fitting.{IsMainOf}
 use Rattle.sx_outline.specs.Known.{Declares}
-use Rattle.sx_outline.specs.Stages.{Numbered, RuleData, numbered, rule_data, plain_data, with_body}
+use Rattle.sx_outline.specs.Stages.{Numbered, RuleData, numbered_rule_line, rule_data, plain_data}
+use Rattle.sx_outline.specs.Stages.{with_body}
 use Rattle.sx_outline.specs.Stages.{MayStandAt, Begun, BegunPlain, begun_plain, Stage, at_start}
 use Rattle.sx_outline.specs.Stages.{at_declarations, at_body, at_plains, at_rules, at_premises}
 use Rattle.sx_outline.specs.Stages.{at_conclusion, at_end, head_row, State, start, MayStand}
@@ -37,7 +38,11 @@ use Rattle.sx_outline.specs.Outlined.{outline, IsEnd}
 
 -- a rule that has begun, as plain data
 abbrev pub begun : BegunOf → Begun
-begun b = record { number = b.number; name = b.name; premises = map numbered b.premises.items }
+begun b = record {
+  number = b.number;
+  name = b.name;
+  premises = map numbered_rule_line b.premises.items;
+}
 
 -- a plain pair that has begun, as plain data
 abbrev pub plain_begun : BegunPlainOf → BegunPlain
@@ -61,7 +66,7 @@ IsMainRead known (Some main) (m ∷ []) = IsMainOf known m main
 IsMainRead known _ _ = ⊥
 
 -- in a file with these declarations the reader stands for this state
-pub record IsReader (known : Declared) (r : Reader) (s : State) : Type 0 where
+pub record IsOutlineReader (known : Declared) (r : Reader) (s : State) : Type 0 where
   pub stage_is : stage r.stage ≡ s.stage
   pub forms_are : r.forms ≡ length s.declared.forms
   pub vars_are : r.vars ≡ length s.declared.vars
@@ -76,12 +81,12 @@ pub record IsFront (before known : Declared) : Type 0 where
   pub vars : known.vars ≡ before.vars ++ more.vars
 
 -- one more form and one more stem can be counted
-pub record IsCounted (r : Reader) : Type 0 where
+pub record CanCountOne (r : Reader) : Type 0 where
   pub forms : r.forms + 1 < 2 ^ 64
   pub vars : r.vars + 1 < 2 ^ 64
 
 -- so many more forms and stems can be counted
-pub record HasRoom (r : Reader) (bytes : ℕ) : Type 0 where
+pub record HasCountRoom (r : Reader) (bytes : ℕ) : Type 0 where
   pub forms : r.forms + bytes + 1 < 2 ^ 64
   pub vars : r.vars + bytes + 1 < 2 ^ 64
 
@@ -151,9 +156,9 @@ IsRowRefused known s number row (Notation l _) = ⊥
 
 -- what taking a row that fits answers
 abbrev pub IsRowTaken : Declared → Reader → ℕ → Row → Result Reader OutlineError → Type 0
-IsRowTaken known r number row result = (s : State) → IsReader known r s →
+IsRowTaken known r number row result = (s : State) → IsOutlineReader known r s →
     MatchResult result (λ next. MayStand s row × HasMain known row ×
-    IsReader known next (after s number row)) (λ e. IsRowRefused known s number row e)
+    IsOutlineReader known next (after s number row)) (λ e. IsRowRefused known s number row e)
 
 -- why a line is refused
 abbrev pub IsLineRefused : FileKind → Declared → List ℕ → State → ℕ → List ℕ → OutlineError → Type 0
@@ -165,10 +170,10 @@ IsLineRefused kind known name s number text (Notation l bad) =
 -- what reading a line answers
 abbrev pub IsLineRead : FileKind → Declared → List ℕ → Reader → ℕ → List ℕ →
     Result Reader OutlineError → Type 0
-IsLineRead kind known name r number text result = (s : State) → IsReader known r s →
+IsLineRead kind known name r number text result = (s : State) → IsOutlineReader known r s →
     IsFront s.declared known →
     MatchResult result (λ next. (t : State) × Steps kind known name s number text t ×
-    IsReader known next t) (λ e. IsLineRefused kind known name s number text e)
+    IsOutlineReader known next t) (λ e. IsLineRefused kind known name s number text e)
 
 -- the answer of a reader that takes this stage and has read these lines then
 abbrev pub staged : Reader → ReadLines → Result StageOf OutlineError → Result Reader OutlineError
@@ -210,14 +215,14 @@ IsAhead kind _ before lines known = before ≡ known
 -- is left open, before a line of this number
 pub record IsReadTo (known : Declared) (r : Reader) (number : ℕ) (s : State) (end : ℕ) : Type 0
   where
-    pub stands : IsReader known r s
+    pub stands : IsOutlineReader known r s
     pub whole : IsWhole s.stage → s.declared ≡ known
     pub ends : end ≡ number
 
 -- where the reading ends
-abbrev pub EndsAt : Declared → Result (Reader × ℕ) OutlineError → State → ℕ → Type 0
-EndsAt known (Ok x) s end = IsReadTo known x.0 x.1 s end
-EndsAt known (Err e) s end = ⊥
+abbrev pub ReadingEndsAt : Declared → Result (Reader × ℕ) OutlineError → State → ℕ → Type 0
+ReadingEndsAt known (Ok x) s end = IsReadTo known x.0 x.1 s end
+ReadingEndsAt known (Err e) s end = ⊥
 
 -- the refusal is that of this line
 abbrev pub IsBadLine : Result (Reader × ℕ) OutlineError → ℕ → Kind → Type 0
@@ -229,7 +234,7 @@ abbrev pub AreLinesRead : FileKind → Declared → List ℕ → State → Lines
 AreLinesRead kind known name s lines (Err Memory) = Unit {0}
 AreLinesRead kind known name s lines (Err (NotUtf8 place)) = ⊥
 AreLinesRead kind known name s lines result =
-    IsOutcome kind known name s lines (EndsAt known result) (IsBadLine result)
+    IsOutcome kind known name s lines (ReadingEndsAt known result) (IsBadLine result)
 
 -- what reading the lines of a language file answers, where memory may be lacking at each
 abbrev pub IsOutlineRead : Declared → List ℕ → Lines → Result Outline OutlineError → Type 0

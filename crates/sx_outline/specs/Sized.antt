@@ -10,7 +10,9 @@ use Rattle.sx_directives.specs.declared.spelled.FormSymbol.{FormSymbol}
 use Rattle.sx_directives.specs.declared.spelled.FormSymbol.TheVariants.{Lit, Place}
 use Rattle.sx_directives.specs.declared.rows.MainLine.{MainLine}
 use Rattle.sx_outline.specs.Declarations.{FormData}
-use Rattle.sx_outline.specs.Fitting.{AreDistinct, IsKnownSort, SymbolFits, HasOneSubject, IsMainOf}
+use Rattle.sx_outline.specs.Fitting.{IsKnownSort, SymbolFits, HasOneSubjectSymbol}
+use Rattle.sx_lines.specs.Distinct.{AreTextsDistinct}
+use Rattle.sx_outline.specs.Fitting.{IsMainOf}
 use Rattle.sx_outline.specs.Fitting.{stems, form_names}
 use Rattle.sx_outline.specs.Stages.{RuleData}
 use Rattle.sx_outline.specs.Outlined.{OutlineData, declared_by}
@@ -43,15 +45,15 @@ HasName (Place role (Lex kind)) = Unit {0}
 HasName (Place role (Named sort least)) = IsName sort
 
 -- the rows of the outline fit what it declares, its main form is one, and its rules have no bodies
-pub record IsFit (o : OutlineData) : Type 0 where
+pub record IsFitOutline (o : OutlineData) : Type 0 where
   pub line : MainLine
   pub main : IsMainOf (declared_by o line) line o.main
   pub sorts : AllByRecursion (λ s. NotLexical s.name) o.parts.sorts
-  pub stems_once : AreDistinct (stems (declared_by o line))
+  pub stems_once : AreTextsDistinct (stems (declared_by o line))
   pub vars : AllByRecursion (λ v. IsKnownSort (declared_by o line) v.sort) o.vars
-  pub forms_once : AreDistinct (form_names (declared_by o line))
+  pub forms_once : AreTextsDistinct (form_names (declared_by o line))
   pub places : AllByRecursion (λ f. AllByRecursion
       (SymbolFits (declared_by o line)) f.symbols) o.forms
   pub named : AllByRecursion (λ f. AllByRecursion HasName f.symbols) o.forms
-  pub subjects : AllByRecursion (λ f. HasOneSubject f.symbols) o.forms
+  pub subjects : AllByRecursion (λ f. HasOneSubjectSymbol f.symbols) o.forms
   pub bodies : AllByRecursion (λ r. r.body ≡ None) o.rules

@@ -18,7 +18,7 @@ use Rattle.sx_outline.specs.declared.plain_lines.PlainLines.{PlainLines}
 use Rattle.sx_outline.specs.declared.rule_lines.RuleLine.{RuleLine}
 use Rattle.sx_outline.specs.declared.rule_lines.RuleLines.{RuleLines}
 use Rattle.sx_outline.specs.Declarations.{Declared, nothing, declare}
-use Rattle.sx_outline.specs.Fitting.{Fits, IsMainOf}
+use Rattle.sx_outline.specs.Fitting.{RowFits, IsMainOf}
 
 -- a line with its number
 pub record Numbered : Type 0 where
@@ -43,8 +43,8 @@ pub record PlainData : Type 0 where
   pub body : Numbered
 
 -- a line of a rule as plain data
-abbrev pub numbered : RuleLine → Numbered
-numbered l = record { number = l.number; text = l.text }
+abbrev pub numbered_rule_line : RuleLine → Numbered
+numbered_rule_line l = record { number = l.number; text = l.text }
 
 -- a rule as plain data
 abbrev pub rule_data : RuleLines → RuleData
@@ -52,9 +52,9 @@ rule_data r =
     record {
       number = r.number;
       name = r.name;
-      premises = map numbered r.premises.items;
-      conclusion = numbered r.conclusion;
-      body = option_map numbered r.body;
+      premises = map numbered_rule_line r.premises.items;
+      conclusion = numbered_rule_line r.conclusion;
+      body = option_map numbered_rule_line r.body;
     }
 
 -- a plain pair as plain data
@@ -63,7 +63,7 @@ plain_data p = record {
   number = p.number;
   label = p.label;
   names = p.names.items;
-  body = numbered p.body;
+  body = numbered_rule_line p.body;
 }
 
 -- a rule that has begun
@@ -149,7 +149,7 @@ HasMain known _ = Unit {0}
 pub record IsGoodRow (kind : FileKind) (known : Declared) (s : State) (text : List ℕ)
     (row : Row) : Type 0 where
   pub spelled : IsRow kind text row
-  pub fits : Fits known s.declared row
+  pub fits : RowFits known s.declared row
   pub stands : MayStand s row
   pub main : HasMain known row
 
@@ -272,9 +272,9 @@ IsBad kind known name s text Head = (s.stage ≡ at_start) ×
 IsBad kind known name s text Directive = IsDue s.stage × (HasWord kind text → ⊥)
 IsBad kind known name s text Shape =
     IsDue s.stage × HasWord kind text × ((row : Row) → IsRow kind text row →
-    Fits known s.declared row → ⊥)
+    RowFits known s.declared row → ⊥)
 IsBad kind known name s text Order = IsDue s.stage × (row : Row) × IsRow kind text row ×
-    Fits known s.declared row × (MayStand s row → ⊥)
+    RowFits known s.declared row × (MayStand s row → ⊥)
 IsBad kind known name s text NoMain =
     IsDue s.stage × (m : MainLine) × IsRow kind text (Main m) × MayStand s (Main m) ×
     ((main : MainForm) → IsMainOf known m main → ⊥)

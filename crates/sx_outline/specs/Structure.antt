@@ -11,7 +11,8 @@ use Rattle.sx_directives.specs.declared.row.Row.{Row}
 use Rattle.sx_directives.specs.declared.row.Row.TheVariants.{Language, Sort, Prod, Var, Form, Main}
 use Rattle.sx_directives.specs.declared.row.Row.TheVariants.{Plain, Rule, To, End, Extension, Use}
 use Rattle.sx_outline.specs.Declarations.{Declared, nothing, declare, declared_before}
-use Rattle.sx_outline.specs.Fitting.{ArePartNames, AreDistinct, Fits, IsMainOf}
+use Rattle.sx_outline.specs.Fitting.{ArePartNames, RowFits, IsMainOf}
+use Rattle.sx_lines.specs.Distinct.{AreTextsDistinct}
 use Rattle.sx_outline.specs.Stages.{Numbered, PlainData, RuleData, begun_plain, paired, IsBar}
 use Rattle.sx_grammar.specs.declared.sort_line.SortLine.{SortLine}
 use Rattle.sx_directives.specs.declared.rows.VarLine.{VarLine}
@@ -38,7 +39,7 @@ abbrev pub AreDeclarations : FileKind → (known before : Declared) → List Num
     Type 0
 AreDeclarations kind known before [] all = before ≡ all
 AreDeclarations kind known before (l ∷ lines) all =
-    (row : Row) × IsRow kind l.text row × IsDeclaring row × Fits known before row ×
+    (row : Row) × IsRow kind l.text row × IsDeclaring row × RowFits known before row ×
     AreDeclarations kind known (declare before row) lines all
 
 -- the lines are `use` lines of these names
@@ -115,7 +116,7 @@ pub record AreHeaderLines (lines : List Numbered) (h : HeaderData) : Type 0 wher
   pub named : IsRow files.Extension first.text (Extension h.name)
   pub language : IsRow files.Extension second.text (Language h.language)
   pub uses : AreUseLines others h.uses
-  pub once : AreDistinct h.uses
+  pub once : AreTextsDistinct h.uses
 
 -- the lines of an extension file: its first lines, those of the declarations, of the plain pairs,
 -- and of the rules

@@ -15,7 +15,7 @@ use Rattle.sx_outline.specs.declared.due.Due.{Due}
 use Rattle.sx_outline.specs.declared.due.Due.TheVariants as dues
 use Rattle.sx_directives.specs.declared.row.Row.{Row}
 use Rattle.sx_directives.specs.declared.row.Row.TheVariants.{Rule, Plain}
-use Rattle.sx_outline.specs.Declarations.{Declared, declare, form, parts_of}
+use Rattle.sx_outline.specs.Declarations.{Declared, declare, declared_form, declared_parts}
 use Rattle.sx_outline.specs.Known.{Declares}
 use Rattle.sx_outline.specs.Fitting.{sort_names, stems, form_names}
 
@@ -25,7 +25,7 @@ declared_in r = record {
   sorts = r.sorts.items;
   productions = map grammar.line r.productions.items;
   vars = r.vars.items;
-  forms = map form r.forms.items;
+  forms = map declared_form r.forms.items;
   mains = r.mains.items;
   uses = r.uses.items;
 }
@@ -38,7 +38,7 @@ ArePlaces names places = (name : List ℕ) → get_by_text places.entries name
 -- the names of sorts, labels, stems, names of forms and names that are used are found
 pub record AreTables (d : Declared) (t : Tables) : Type 0 where
   pub sorts_found : ArePlaces (sort_names d) t.sorts
-  pub labels_found : ArePlaces (labels (parts_of d)) t.labels
+  pub labels_found : ArePlaces (labels (declared_parts d)) t.labels
   pub stems_found : ArePlaces (stems d) t.stems
   pub forms_found : ArePlaces (form_names d) t.forms
   pub uses_found : ArePlaces d.uses t.uses

@@ -2,7 +2,7 @@
 
 ghost use Rattle.std.specs.Prelude.{◌≡◌, []};
 ghost use Rattle.sx_outline.specs.Stages.{State, IsWhole, at_start};
-ghost use Rattle.sx_outline.specs.Reading.{IsReader};
+ghost use Rattle.sx_outline.specs.Reading.{IsOutlineReader};
 ghost use Rattle.sx_outline.specs.ExtensionReading.{IsExtensionEndRead};
 ghost use Rattle.sx_outline.specs.View as view;
 
@@ -25,7 +25,7 @@ pub(crate) fn finish_extension(
 ) -> Result<ExtensionOutline, OutlineError>
     requires no_forms { (view.known known).forms ≡ [] }
     requires no_mains { (view.known known).mains ≡ [] }
-    ensures { (s : State) → IsReader (view.known known) reader s → (s.stage ≡ at_start → ⊥) →
+    ensures { (s : State) → IsOutlineReader (view.known known) reader s → (s.stage ≡ at_start → ⊥) →
         (IsWhole s.stage → s.declared ≡ view.known known)
         → IsExtensionEndRead (view.known known).sorts
         (record { name = name; language = language; uses = (view.known known).uses }) s result }

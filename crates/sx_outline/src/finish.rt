@@ -2,7 +2,7 @@
 
 ghost use Rattle.std.specs.Prelude.{◌≡◌, [], map};
 ghost use Rattle.sx_outline.specs.Stages.{State, IsWhole, rule_data};
-ghost use Rattle.sx_outline.specs.Reading.{IsReader, IsMainRead, IsEndRead};
+ghost use Rattle.sx_outline.specs.Reading.{IsOutlineReader, IsMainRead, IsEndRead};
 ghost use Rattle.sx_outline.specs.View as view;
 
 use crate::known::Known;
@@ -50,7 +50,7 @@ fn finish_whole(
 /// What comes of a reader where no line is left. A further line would have this number.
 pub(crate) fn finish(known: Known, reader: Reader, number: u32) -> Result<Outline, OutlineError>
     requires { (view.known known).uses ≡ [] }
-    ensures { (s : State) → IsReader (view.known known) reader s →
+    ensures { (s : State) → IsOutlineReader (view.known known) reader s →
         (IsWhole s.stage → s.declared ≡ view.known known) → IsEndRead s number result }
 {
     let Reader {

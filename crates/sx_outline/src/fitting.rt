@@ -4,7 +4,8 @@ ghost use Rattle.std.specs.Prelude.{◌≡◌, ◌↔◌, IsTrue, IfOk, take, Co
 ghost use Rattle.std.specs.List.{AllByRecursion};
 ghost use Rattle.sx_term.specs.Roles as roles;
 ghost use Rattle.sx_outline.specs.Declarations.{Declared};
-ghost use Rattle.sx_outline.specs.Fitting.{Fits, HasOneSubject, IsKnownSort, IsPlain, PlaceFits};
+ghost use Rattle.sx_outline.specs.Fitting.{RowFits, HasOneSubjectSymbol, IsKnownSort, IsPlain};
+ghost use Rattle.sx_outline.specs.Fitting.{PlaceFits};
 ghost use Rattle.sx_outline.specs.Fitting.{SymbolFits, form_names, sort_named, stems};
 ghost use Rattle.sx_outline.specs.View.{known};
 
@@ -109,7 +110,7 @@ impl Known {
         ensures { IsTrue result
             ↔ ((Contains (take forms (form_names (known self.now))) form.now.name → ⊥)
             × AllByRecursion (SymbolFits (known self.now)) form.now.symbols.items ×
-            HasOneSubject form.now.symbols.items) }
+            HasOneSubjectSymbol form.now.symbols.items) }
     {
         if self.tables.forms.is_before(forms, &form.name) {
             return false;
@@ -137,7 +138,7 @@ impl Known {
     ) -> Result<bool, NoMemory>
         ensures { (before : Declared) → before.forms ≡ take forms (known self.now).forms →
             before.vars ≡ take vars (known self.now).vars
-            → IfOk result (λ fits. IsTrue fits ↔ Fits (known self.now) before row.now) }
+            → IfOk result (λ fits. IsTrue fits ↔ RowFits (known self.now) before row.now) }
     {
         match row {
             Row::Var(var) => Ok(self.var_fits(vars, var)),

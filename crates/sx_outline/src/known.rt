@@ -2,7 +2,7 @@
 
 ghost use Rattle.std.specs.Prelude.{◌≡◌, ◌↔◌, IsTrue, map, IfOk};
 ghost use Rattle.sx_grammar.specs.Parts.{line, parts};
-ghost use Rattle.sx_outline.specs.Declarations.{form, parts_of};
+ghost use Rattle.sx_outline.specs.Declarations.{declared_form, declared_parts};
 ghost use Rattle.sx_outline.specs.Tables.{AreTables, AreFew, declared_in};
 
 use crate::declared_rows::DeclaredRows;
@@ -52,9 +52,9 @@ impl Known {
 
     /// The parts of the grammar, the stems and the forms.
     pub(crate) fn into_parts(self) -> (GrammarParts, Vec<VarLine>, Vec<FormLine>)
-        ensures parts { parts result.0 ≡ parts_of (declared_in self.rows) }
+        ensures parts { parts result.0 ≡ declared_parts (declared_in self.rows) }
         ensures vars { result.1.items ≡ (declared_in self.rows).vars }
-        ensures forms { map form result.2.items ≡ (declared_in self.rows).forms }
+        ensures forms { map declared_form result.2.items ≡ (declared_in self.rows).forms }
     {
         let Known { rows, tables } = self;
         drop(tables);

@@ -4,9 +4,10 @@ ghost use Rattle.std.specs.Prelude.{◌≡◌, ◌↔◌, List, ℕ, IsTrue, IfO
 ghost use Rattle.std.specs.Str.{IsUtf8};
 ghost use Rattle.sx_directives.specs.declared.row.Row.TheVariants as rows;
 ghost use Rattle.sx_outline.specs.Declarations.{Declared};
-ghost use Rattle.sx_outline.specs.Stages.{IsDue, IsBar, at_end, at_premises, concluded, numbered};
+ghost use Rattle.sx_outline.specs.Stages.{IsDue, IsBar, at_end, at_premises, concluded};
+ghost use Rattle.sx_outline.specs.Stages.{numbered_rule_line};
 ghost use Rattle.sx_outline.specs.Stages.{paired, plain_data, with_premise};
-ghost use Rattle.sx_outline.specs.Reading.{IsCounted, GrowsByOne, IsLineRead, IsStageRead};
+ghost use Rattle.sx_outline.specs.Reading.{CanCountOne, GrowsByOne, IsLineRead, IsStageRead};
 ghost use Rattle.sx_outline.specs.Reading.{AddsPremise};
 ghost use Rattle.sx_outline.specs.Reading.{begun as begun_of, plain_begun, stage as stage_of};
 ghost use Rattle.sx_outline.specs.View as view;
@@ -63,7 +64,8 @@ fn is_bar(alloc: Global, text: &[u8]) -> Result<bool, NoMemory>
 /// The line with this number as a line of a rule.
 fn rule_line(alloc: Global, number: u32, text: &[u8]) -> Result<RuleLine, NoMemory>
     requires { IsUtf8 text.now }
-    ensures { IfOk result (λ l. numbered l ≡ record { number = number; text = text.now }) }
+    ensures { IfOk result
+        (λ l. numbered_rule_line l ≡ record { number = number; text = text.now }) }
 {
     match Text::make(alloc, text) {
         Ok(text) => Ok(RuleLine { number, text }),
@@ -184,7 +186,7 @@ fn row_line(
     line: Line,
 ) -> Result<Reader, OutlineError>
     requires due { IsDue (stage_of reader.stage) }
-    requires counted { IsCounted reader }
+    requires counted { CanCountOne reader }
     ensures read { (name : List ℕ) → IsLineRead kind (view.known known.now) name reader
         line.entry.number line.entry.text.now result }
     ensures grows { IfOk result (GrowsByOne reader) }
@@ -301,7 +303,7 @@ pub(crate) fn read_next(
     reader: Reader,
     line: Line,
 ) -> Result<Reader, OutlineError>
-    requires counted { IsCounted reader }
+    requires counted { CanCountOne reader }
     requires utf8 { IsUtf8 line.text.now }
     ensures read { IsLineRead kind (view.known known.now) name.now reader line.entry.number
         line.entry.text.now result }

@@ -1,7 +1,9 @@
 //! Whether the names of a `plain` line are variables of its production's parts.
 
 ghost use Rattle.std.specs.Prelude.{◌↔◌, IsTrue, IfOk};
-ghost use Rattle.sx_outline.specs.Fitting.{ArePartNames, AreDistinct, IsPlain, IsVariableOf, Kid};
+ghost use Rattle.sx_outline.specs.Fitting.{ArePartNames, IsPlain, IsVariableOf};
+ghost use Rattle.sx_lines.specs.Distinct.{AreTextsDistinct};
+ghost use Rattle.sx_outline.specs.Fitting.{Kid};
 ghost use Rattle.sx_outline.specs.Fitting.{NamesFit, kids_of, kid_sort};
 ghost use Rattle.sx_outline.specs.MainSorts.{IsKid};
 ghost use Rattle.sx_outline.specs.View.{known};
@@ -17,7 +19,7 @@ use sx_term::{NoMemory, Text};
 
 /// Whether no name stands twice.
 fn are_distinct(alloc: Global, names: &[Text]) -> Result<bool, NoMemory>
-    ensures { IfOk result (λ b. IsTrue b ↔ AreDistinct names.now) }
+    ensures { IfOk result (λ b. IsTrue b ↔ AreTextsDistinct names.now) }
 {
     let mut places = Places::new(alloc);
     for i in 0..names.len() {
@@ -70,7 +72,7 @@ impl Known {
         plain: &PlainLine,
     ) -> Result<bool, NoMemory>
         ensures { IfOk result (λ b. IsTrue b ↔
-            (IsPlain (known self.now) production.now.sort × AreDistinct plain.now.names.items
+            (IsPlain (known self.now) production.now.sort × AreTextsDistinct plain.now.names.items
             × NamesFit (known self.now) plain.now.names.items
             (kids_of production.now.symbols.items))) }
     {

@@ -8,7 +8,7 @@ ghost use Rattle.sx_outline.specs.Declarations.{nothing};
 ghost use Rattle.sx_outline.specs.Known.{kept_lines, Declares};
 ghost use Rattle.sx_outline.specs.Outlined.{outline as outline_of, IsOutlined};
 ghost use Rattle.sx_outline.specs.Reading.{IsOutlineRead};
-ghost use Rattle.sx_outline.specs.Sized.{IsSized, IsFit};
+ghost use Rattle.sx_outline.specs.Sized.{IsSized, IsFitOutline};
 ghost use Rattle.sx_outline.specs.View as view;
 
 use crate::declared_rows::DeclaredRows;
@@ -62,7 +62,7 @@ fn read_language(
 pub fn read_outline(alloc: Global, name: &Text, bytes: &[u8]) -> Result<Outline, OutlineError>
     ensures answer { IsOutlined name.now bytes.now result }
     ensures sized { IfOk result (λ o. IsSized (length bytes.now) (outline_of o)) }
-    ensures fit { IfOk result (λ o. IsFit (outline_of o)) }
+    ensures fit { IfOk result (λ o. IsFitOutline (outline_of o)) }
 {
     match std::str::from_utf8(bytes) {
         Ok(_) => {

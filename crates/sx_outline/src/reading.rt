@@ -5,7 +5,7 @@ ghost use Rattle.std.specs.Str.{IsUtf8};
 ghost use Rattle.sx_lines.specs.Left.{left as left_of};
 ghost use Rattle.sx_outline.specs.Known.{kept_lines};
 ghost use Rattle.sx_outline.specs.Stages.{State};
-ghost use Rattle.sx_outline.specs.Reading.{AreLinesRead, HasRoom, IsAhead, IsReader};
+ghost use Rattle.sx_outline.specs.Reading.{AreLinesRead, HasCountRoom, IsAhead, IsOutlineReader};
 ghost use Rattle.sx_outline.specs.View as view;
 
 use crate::kept::next_kept_line;
@@ -28,9 +28,9 @@ pub(crate) fn read_lines(
     reader: Reader,
     lines: Rest,
 ) -> Result<(Reader, u32), OutlineError>
-    requires room { HasRoom reader (length lines.bytes.now) }
+    requires room { HasCountRoom reader (length lines.bytes.now) }
     requires utf8 { IsUtf8 lines.bytes.now }
-    ensures { (s : State) → IsReader (view.known known.now) reader s →
+    ensures { (s : State) → IsOutlineReader (view.known known.now) reader s →
         IsAhead kind s.stage s.declared (kept_lines (left_of lines.entry)) (view.known known.now)
         → AreLinesRead kind (view.known known.now) name.now s
         (kept_lines (left_of lines.entry)) result }

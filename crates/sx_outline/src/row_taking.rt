@@ -6,7 +6,7 @@ ghost use Rattle.sx_directives.specs.declared.row.Row.TheVariants as rows;
 ghost use Rattle.sx_lines.specs.declared.kind.Kind.TheVariants as kinds;
 ghost use Rattle.sx_outline.specs.declared.outline_error.OutlineError.TheVariants as errors;
 ghost use Rattle.sx_outline.specs.Declarations.{Declared};
-ghost use Rattle.sx_outline.specs.Reading.{IsBodyTaken, IsPlainBegun, IsCounted, GrowsByOne};
+ghost use Rattle.sx_outline.specs.Reading.{IsBodyTaken, IsPlainBegun, CanCountOne, GrowsByOne};
 ghost use Rattle.sx_outline.specs.Reading.{IsDeclaration, IsRowTaken, stage as stage_of};
 ghost use Rattle.sx_outline.specs.View as view;
 
@@ -87,7 +87,7 @@ impl Reader {
         more_forms: usize,
         more_vars: usize,
     ) -> Result<Reader, OutlineError>
-        requires counted { IsCounted self }
+        requires counted { CanCountOne self }
         requires few { (more_forms ≤ 1) × (more_vars ≤ 1) }
         ensures taken { (known : Declared) (row : RowOf) → IsDeclaration more_forms more_vars row →
             IsRowTaken known self number row result }
@@ -289,7 +289,7 @@ impl Reader {
         number: u32,
         row: Row,
     ) -> Result<Reader, OutlineError>
-        requires { IsCounted self }
+        requires { CanCountOne self }
         ensures taken { IsRowTaken (view.known known.now) self number row result }
         ensures grows { IfOk result (GrowsByOne self) }
     {

@@ -2,7 +2,7 @@
 
 ghost use Rattle.std.specs.Prelude.{map, IfOk};
 ghost use Rattle.sx_grammar.specs.Parts.{line};
-ghost use Rattle.sx_outline.specs.Declarations.{form};
+ghost use Rattle.sx_outline.specs.Declarations.{declared_form};
 ghost use Rattle.sx_outline.specs.Tables.{ArePlaces, AreTables, declared_in};
 
 use crate::declared_rows::DeclaredRows;
@@ -61,7 +61,7 @@ fn stem_places(alloc: Global, vars: &[VarLine]) -> Result<Places, NoMemory>
 
 /// The places of the names of forms.
 fn form_places(alloc: Global, forms: &[FormLine]) -> Result<Places, NoMemory>
-    ensures { IfOk result (ArePlaces (map (λ f. f.name) (map form forms.now))) }
+    ensures { IfOk result (ArePlaces (map (λ f. f.name) (map declared_form forms.now))) }
 {
     let mut places = Places::new(alloc);
     for i in 0..forms.len() {

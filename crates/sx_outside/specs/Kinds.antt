@@ -42,14 +42,14 @@ abbrev pub new_source : List ℕ → SourceData
 new_source bytes = record { bytes = bytes; calls = no_calls; faults = 0 }
 
 -- a read fails exactly where its number is to fail, and then it is counted
-pub record IsRead (old new : ShelfData) (answer : ReadAnswer) : Type 0 where
+pub record IsShelfRead (old new : ShelfData) (answer : ReadAnswer) : Type 0 where
   pub calls : new.calls ≡ called old.calls
   pub fails : (answer ≡ reads.Failed) ↔ IsToFail old.calls
   pub counts : Counts (answer ≡ reads.Failed) old.read_faults new.read_faults
 
 -- A write is done only where its number is not to fail. It fails only where its number is to fail:
 -- then it is counted, and under the name stands the first half of the bytes, rounded down.
-pub record IsWritten (old new : ShelfData) (name bytes : List ℕ)
+pub record IsShelfWritten (old new : ShelfData) (name bytes : List ℕ)
     (answer : WriteAnswer) : Type 0 where
   pub calls : new.calls ≡ called old.calls
   pub done : answer ≡ writes.Done → IsToFail old.calls → ⊥
@@ -66,7 +66,7 @@ pub record IsSent (old new : SinkData) (answer : WriteAnswer) : Type 0 where
   pub counts : Counts (answer ≡ writes.Failed) old.faults new.faults
 
 -- a take fails exactly where its number is to fail, and then it is counted
-pub record IsTaken (old new : SourceData) (answer : TakeAnswer) : Type 0 where
+pub record IsSourceTaken (old new : SourceData) (answer : TakeAnswer) : Type 0 where
   pub calls : new.calls ≡ called old.calls
   pub fails : (answer ≡ takes.Failed) ↔ IsToFail old.calls
   pub counts : Counts (answer ≡ takes.Failed) old.faults new.faults

@@ -5,8 +5,8 @@ ghost use Rattle.sx_outside.specs.Files.{put};
 ghost use Rattle.sx_outside.specs.Table.{files_in};
 ghost use Rattle.sx_outside.specs.Faults.{Rose};
 ghost use Rattle.sx_outside.specs.Calls.{failing_at};
-ghost use Rattle.sx_outside.specs.Shelf.{IsReading, IsWriting};
-ghost use Rattle.sx_outside.specs.Kinds.{new_shelf, IsRead, IsWritten};
+ghost use Rattle.sx_outside.specs.Shelf.{IsFileReading, IsWriting};
+ghost use Rattle.sx_outside.specs.Kinds.{new_shelf, IsShelfRead, IsShelfWritten};
 
 use crate::calls::{Calls, next};
 use crate::table::Table;
@@ -78,7 +78,7 @@ impl Shelf for MemShelf {
     ghost write_faults = { λ shelf. shelf.writes_failed };
 
     fn read(&mut self, name: &Text, limit: u32, into: &mut Vec<u8>) -> ReadAnswer
-        ensures answer { IsReading
+        ensures answer { IsFileReading
             (Some (shelf_of self.old).files) name.now limit result into.new.items }
         ensures content { (shelf_of self.new).files ≡ (shelf_of self.old).files }
         ensures faults { (shelf_of self.old).read_faults ≤ (shelf_of self.new).read_faults }
@@ -87,7 +87,7 @@ impl Shelf for MemShelf {
             Rose (shelf_of self.old).read_faults (shelf_of self.new).read_faults }
         ensures only { result ≢ ReadAnswer.Failed →
             (shelf_of self.new).read_faults ≡ (shelf_of self.old).read_faults }
-        ensures reads { IsRead (shelf_of self.old) (shelf_of self.new) result }
+        ensures reads { IsShelfRead (shelf_of self.old) (shelf_of self.new) result }
     {
         into.clear();
         if self.calls.call() {
@@ -106,7 +106,7 @@ impl Shelf for MemShelf {
             Rose (shelf_of self.old).write_faults (shelf_of self.new).write_faults }
         ensures only { result ≢ WriteAnswer.Failed →
             (shelf_of self.new).write_faults ≡ (shelf_of self.old).write_faults }
-        ensures writes { IsWritten (shelf_of self.old)
+        ensures writes { IsShelfWritten (shelf_of self.old)
             (shelf_of self.new) name.now bytes.now result }
     {
         if self.calls.call() {

@@ -4,7 +4,7 @@ ghost use Rattle.std.specs.Prelude.{◌≡◌, ◌≢◌, ◌≤◌, Some, drop}
 ghost use Rattle.sx_outside.specs.Faults.{Rose};
 ghost use Rattle.sx_outside.specs.Calls.{failing_at};
 ghost use Rattle.sx_outside.specs.Source.{IsTaking};
-ghost use Rattle.sx_outside.specs.Kinds.{new_source, IsTaken};
+ghost use Rattle.sx_outside.specs.Kinds.{new_source, IsSourceTaken};
 
 use crate::calls::{Calls, next};
 use crate::rest::Rest;
@@ -63,7 +63,7 @@ impl Source for MemSource {
         ensures faults { self.old.faults ≤ self.new.faults }
         ensures cause { result ≡ TakeAnswer.Failed → Rose self.old.faults self.new.faults }
         ensures only { result ≢ TakeAnswer.Failed → self.new.faults ≡ self.old.faults }
-        ensures takes { IsTaken self.old self.new result }
+        ensures takes { IsSourceTaken self.old self.new result }
     {
         if self.calls.call() {
             self.failed = next(self.failed);

@@ -3,7 +3,7 @@
 ghost use Rattle.std.specs.Prelude.{◌≡◌, ◌≢◌, ℕ, ◌≤◌, Option};
 ghost use Rattle.sx_outside.specs.Files.{Files};
 ghost use Rattle.sx_outside.specs.Faults.{Rose};
-ghost use Rattle.sx_outside.specs.Shelf.{IsReading, IsWriting};
+ghost use Rattle.sx_outside.specs.Shelf.{IsFileReading, IsWriting};
 
 use crate::{ReadAnswer, WriteAnswer};
 use sx_term::Text;
@@ -21,7 +21,7 @@ pub trait Shelf {
 
     /// Reads the bytes under the name, at most `limit` of them.
     fn read(&mut self, name: &Text, limit: u32, into: &mut Vec<u8>) -> ReadAnswer
-        ensures answer { IsReading (content self.old) name.now limit result into.new.items }
+        ensures answer { IsFileReading (content self.old) name.now limit result into.new.items }
         ensures content { content self.new ≡ content self.old }
         ensures faults { read_faults self.old ≤ read_faults self.new }
         ensures write_faults { write_faults self.new ≡ write_faults self.old }

@@ -2,7 +2,7 @@
 
 ghost use Rattle.std.specs.Prelude.{◌≡◌, ◌≢◌, [], MatchOption, None, Some, OnOk, OnErr};
 ghost use Rattle.sx_outside.specs.Files.{put, no_files};
-ghost use Rattle.sx_outside.specs.Shelf.{IsReading};
+ghost use Rattle.sx_outside.specs.Shelf.{IsFileReading};
 
 use crate::ReadAnswer;
 use std::alloc::Global;
@@ -63,7 +63,8 @@ impl Table {
     /// Reads the bytes under the name, at most `limit` of them, into an empty vector.
     pub fn read(&self, name: &Text, limit: u32, into: &mut Vec<u8>) -> ReadAnswer
         requires { into.old.items ≡ [] }
-        ensures answer { IsReading (Some (files_of self.now)) name.now limit result into.new.items }
+        ensures answer { IsFileReading (Some (files_of self.now)) name.now limit result
+            into.new.items }
         ensures never { result ≢ ReadAnswer.Failed }
     {
         match self.get(name) {

@@ -13,9 +13,10 @@ use Rattle.sx_term.proofs.Kids.{trees, tree-at_node, trees-drop, trees-drop_all}
 use Rattle.sx_term.specs.Instances.{Stands}
 use Rattle.sx_plain.specs.declared.entry.Entry.{Entry}
 use Rattle.sx_plain.specs.Plain.{Body, Table, image}
-use Rattle.sx_plain.specs.Tables.{IsFlat, IsTable, FitsTable, IsCovered, AreCovered}
+use Rattle.sx_plain.specs.Tables.{IsFlat, IsPlainTable, FitsTable, IsCovered, AreCovered}
 use Rattle.sx_plain.specs.Entries.{body, bodies, entries_from}
-use Rattle.sx_plain.specs.Adds.{with_entry, uncovered, or_else, first_uncovered, first_uncovered_of, UsesAll}
+use Rattle.sx_plain.specs.Adds.{with_entry, uncovered, or_else, first_uncovered, first_uncovered_of}
+use Rattle.sx_plain.specs.Adds.{UsesAll}
 use Rattle.sx_plain.proofs.Tables.{image-base, stands-image, image-stands}
 
 -- the kids' first label is the node's, where the node's own is known
@@ -137,7 +138,7 @@ put-push base label p es e l q h other =
     (λ i m. get-push (bodies es) (Some (body e)) i (label - base) r m) other
 
 -- a table with one more flat entry is a table
-with-is : (base label : ℕ) (table new : Table) (b : Body) → base ≤ label → IsFlat base b → ((other : ℕ) → new other ≡ with_entry table label b other) → IsTable base table → IsTable base new
+with-is : (base label : ℕ) (table new : Table) (b : Body) → base ≤ label → IsFlat base b → ((other : ℕ) → new other ≡ with_entry table label b other) → IsPlainTable base table → IsPlainTable base new
 with-is base label table new b l flat same is = record {
   keeps_base = λ other k. same other ∙ below other k (other == label) refl;
   flat = λ other body e. flat_at other body (other == label) refl (sym (same other) ∙ e);
@@ -151,7 +152,7 @@ with-is base label table new b l flat same is = record {
     flat_at other body true f e = let q : b ≡ body = cc in subst (λ (x : Body). IsFlat base x) q flat
     flat_at other body false f e = is.flat other body e
 
-pub put_is_table : (base label : ℕ) (table new : Table) (b : Body) → base ≤ label → ∥ IsFlat base b ∥₁ → ((other : ℕ) → new other ≡ with_entry table label b other) → ∥ IsTable base table ∥₁ → ∥ IsTable base new ∥₁
+pub put_is_table : (base label : ℕ) (table new : Table) (b : Body) → base ≤ label → ∥ IsFlat base b ∥₁ → ((other : ℕ) → new other ≡ with_entry table label b other) → ∥ IsPlainTable base table ∥₁ → ∥ IsPlainTable base new ∥₁
 put_is_table base label table new b l flat same is = ∥∥₁_map₂ flat is (λ f i. with-is base label table new b l f same i)
 
 -- a push of no entry, done or refused, leaves the table as it is
@@ -161,15 +162,15 @@ pushed-none base es new false e = ap (λ (x : List (Option Entry)). entries_from
 
 -- a push of the entry, done or refused, leaves a table
 pub pushed-is : (base label p : ℕ) (es new : List (Option Entry)) (e : Entry) (done : Bool) → base ≤ label → p ≡ label - base → p ≡ length es → ∥ IsFlat base (body e) ∥₁ →
-    new ≡ (if done then es ++ Some e ∷ [] else es) → ∥ IsTable base (entries_from base (bodies es)) ∥₁ → ∥ IsTable base (entries_from base (bodies new)) ∥₁
+    new ≡ (if done then es ++ Some e ∷ [] else es) → ∥ IsPlainTable base (entries_from base (bodies es)) ∥₁ → ∥ IsPlainTable base (entries_from base (bodies new)) ∥₁
 pushed-is base label p es new e true l q h flat n is =
     put_is_table base label (entries_from base (bodies es)) (entries_from base (bodies new)) (body e) l flat
     (λ other. ap (λ (x : List (Option Entry)). entries_from base (bodies x) other) n ∙ put-push base label p es e l q h other) is
-pushed-is base label p es new e false l q h flat n is = subst (λ (x : List (Option Entry)). ∥ IsTable base (entries_from base (bodies x)) ∥₁) (sym n) is
+pushed-is base label p es new e false l q h flat n is = subst (λ (x : List (Option Entry)). ∥ IsPlainTable base (entries_from base (bodies x)) ∥₁) (sym n) is
 
 -- the image of a term that uses just its parts, and only base labels and labels with entries, is flat
 pub flat-image : (base : ℕ) (table : Table) (arity : ℕ) (t u : Tree) → u ≡ image table t → first_uncovered base table t ≡ None → FitsTable table t →
-    ((v : ℕ) → Stands v t → v < arity) → UsesAll arity t → ∥ IsTable base table ∥₁ → ∥ IsFlat base (record { arity = arity; flat = u }) ∥₁
+    ((v : ℕ) → Stands v t → v < arity) → UsesAll arity t → ∥ IsPlainTable base table ∥₁ → ∥ IsFlat base (record { arity = arity; flat = u }) ∥₁
 flat-image base table arity t u e known_all fits within all is = ∥∥₁_map is (λ i. subst (λ (x : Tree). IsFlat base (record { arity = arity; flat = x })) (sym e) (record {
   labels = image-base base table i t fits (covered base table t known_all);
   parts = λ v. (λ h. within v (stands-image table t v h), λ l. image-stands base table i t v fits (all v l));

@@ -7,7 +7,7 @@ use Rattle.sx_plain.specs.Plain.{Body, Table}
 use Rattle.sx_plain.specs.declared.part_use.PartUse.{PartUse}
 use Rattle.sx_plain.specs.Measures.{depth_with, size_with}
 use Rattle.sx_plain.specs.Uses.{AreNear, ArePositive, used_depth, used_size, IsMeasured}
-use Rattle.sx_plain.specs.Tables.{LabelsBelow, AllLabelsBelow, IsFlat, IsTable}
+use Rattle.sx_plain.specs.Tables.{LabelsBelow, AllLabelsBelow, IsFlat, IsPlainTable}
 
 -- the fact is not refuted
 abbrev pub Unrefuted : Type 0 → Type 0
@@ -76,13 +76,13 @@ no_entry : (o : Option Body) → Unrefuted (o ≡ None) → o ≡ None
 no_entry None h = refl
 no_entry (Some b) h = absurd (h (λ e. cc))
 
-pub table_kept : (base : ℕ) (table : Table) → Unrefuted (IsTable base table) → IsTable base table
+pub table_kept : (base : ℕ) (table : Table) → Unrefuted (IsPlainTable base table) → IsPlainTable base table
 table_kept base table h = record {
   keeps_base = λ label l. no_entry (table label) (λ f. h (λ x. f (x.keeps_base label l)));
   flat = λ label body e. kept_flat base body (λ f. h (λ x. f (x.flat label body e)));
 }
 
-pub kept_table : (base : ℕ) (table : Table) → ∥ IsTable base table ∥₁ → IsTable base table
+pub kept_table : (base : ℕ) (table : Table) → ∥ IsPlainTable base table ∥₁ → IsPlainTable base table
 kept_table base table t = table_kept base table (unrefuted t)
 
 -- what an entry keeps of its flat body

@@ -4,7 +4,7 @@ use Rattle.std.specs.Prelude.{MatchOption}
 use Rattle.sx_term.specs.Tree.{Tree, Trees, node, lexeme, hole, none, ◌▹◌, size_of, total_size}
 use Rattle.sx_term.specs.Instances.{Stands, StandsInKids}
 use Rattle.sx_plain.specs.Adds.{IsFirstDropped, UsesAll}
-use Rattle.sx_plain.specs.Marks.{unmarked, marked_at, marked, marked_all, IsFirstUnmarked}
+use Rattle.sx_plain.specs.Marks.{no_marks, marked_at, marked, marked_all, IsFirstUnmarked}
 
 -- as many marks as before
 length-marked_at : (v : ℕ) (ms : List Bool) → length (marked_at v ms) ≡ length ms
@@ -22,7 +22,7 @@ mutual
   length-marked_all none ms = refl
   length-marked_all (t ▹ ts) ms = length-marked_all ts (marked t ms) ∙ length-marked t ms
 
-length-unmarked : (n : ℕ) → length (unmarked n) ≡ n
+length-unmarked : (n : ℕ) → length (no_marks n) ≡ n
 length-unmarked zero = refl
 length-unmarked (suc n) = let e = length-unmarked n in omega arith
 
@@ -98,7 +98,7 @@ mutual
   stands-all_marked (t ▹ ts) ms v l (inl h) = all_marked-stay ts (marked t ms) v (stands-marked t ms v l h)
   stands-all_marked (t ▹ ts) ms v l (inr h) = stands-all_marked ts (marked t ms) v (let e = length-marked t ms in omega arith) h
 
-unset : (n v : ℕ) → Set (unmarked n) v → ⊥
+unset : (n v : ℕ) → Set (no_marks n) v → ⊥
 unset zero v h = cc
 unset (suc n) zero h = cc
 unset (suc n) (suc v) h = unset n v h
@@ -128,7 +128,7 @@ mutual
       let a = trues-marked t ms in
       let b = trues-marked_all ts (marked t ms) in omega arith
 
-trues-unmarked : (n : ℕ) → trues (unmarked n) ≡ 0
+trues-unmarked : (n : ℕ) → trues (no_marks n) ≡ 0
 trues-unmarked zero = refl
 trues-unmarked (suc n) = trues-unmarked n
 
@@ -139,20 +139,20 @@ trues-all (false ∷ ms) h = false_is (h zero (omega arith))
 
 -- what the first mark that is not set says of the term
 pub dropped-is : (arity most : ℕ) (t : Tree) (ms new : List Bool) (found : Option ℕ) → most ≡ min arity (min (min (size_of t) (2 ^ 64 - 1) + 1) (2 ^ 64 - 1)) → arity < 2 ^ 32 →
-    ms ≡ unmarked most → new ≡ marked t ms → MatchOption found ((v : ℕ) → v < length new → get_or new v false ≡ true) (λ at. IsFirstUnmarked new at) →
+    ms ≡ no_marks most → new ≡ marked t ms → MatchOption found ((v : ℕ) → v < length new → get_or new v false ≡ true) (λ at. IsFirstUnmarked new at) →
     MatchOption found (UsesAll arity t) (λ v. IsFirstDropped arity t v)
 dropped-is arity most t ms new found m small e n h = go found h
   where
-    is : new ≡ marked t (unmarked most)
+    is : new ≡ marked t (no_marks most)
     is = n ∙ ap (marked t) e
 
     many : length new ≡ most
-    many = ap (λ (x : List Bool). length x) is ∙ length-marked t (unmarked most) ∙ length-unmarked most
+    many = ap (λ (x : List Bool). length x) is ∙ length-marked t (no_marks most) ∙ length-unmarked most
 
     was : (v : ℕ) → Set new v → Stands v t
-    was v s = other (marked-was t (unmarked most) v (subst (λ (x : List Bool). Set x v) is s))
+    was v s = other (marked-was t (no_marks most) v (subst (λ (x : List Bool). Set x v) is s))
       where
-        other : Set (unmarked most) v ⊎ Stands v t → Stands v t
+        other : Set (no_marks most) v ⊎ Stands v t → Stands v t
         other (inl x) = absurd (unset most v x)
         other (inr x) = x
 
@@ -161,12 +161,12 @@ dropped-is arity most t ms new found m small e n h = go found h
     go None all = λ v l.
         let a = trues-all new all in
         let b = ap trues is in
-        let c = trues-marked t (unmarked most) in
+        let c = trues-marked t (no_marks most) in
         let d = trues-unmarked most in
         was v (all v (let k = many in omega arith))
     go (Some at) f = record {
       within = (let k = many in let w = f.within in omega arith);
-      dropped = λ s. false_is (sym f.here ∙ subst (λ (x : List Bool). Set x at) (sym is) (stands-marked t (unmarked most) at (let k = many in let w = f.within in let u = length-unmarked most in omega arith) s));
+      dropped = λ s. false_is (sym f.here ∙ subst (λ (x : List Bool). Set x at) (sym is) (stands-marked t (no_marks most) at (let k = many in let w = f.within in let u = length-unmarked most in omega arith) s));
       before = λ w l. was w (f.before w l);
     }
 
@@ -181,11 +181,11 @@ marked-past v [] l = refl
 marked-past zero (m ∷ ms) l = absurd (omega arith)
 marked-past (suc v) (m ∷ ms) l = ap (λ (xs : List Bool). m ∷ xs) (marked-past v ms (omega arith))
 
-pub unmarked-push : (n : ℕ) → unmarked n ++ false ∷ [] ≡ unmarked (n + 1)
-unmarked-push zero = refl
-unmarked-push (suc n) =
+pub no_marks-push : (n : ℕ) → no_marks n ++ false ∷ [] ≡ no_marks (n + 1)
+no_marks-push zero = refl
+no_marks-push (suc n) =
     let m : suc n + 1 ≡ suc (n + 1) = omega arith in
-    rw m (ap (λ (ms : List Bool). false ∷ ms) (unmarked-push n))
+    rw m (ap (λ (ms : List Bool). false ∷ ms) (no_marks-push n))
 
-pub marks-few : (most : ℕ) (t : Tree) (ms new : List Bool) → ms ≡ unmarked most → new ≡ marked t ms → length new ≡ most
+pub marks-few : (most : ℕ) (t : Tree) (ms new : List Bool) → ms ≡ no_marks most → new ≡ marked t ms → length new ≡ most
 marks-few most t ms new e n = ap (λ (x : List Bool). length x) n ∙ length-marked t ms ∙ ap (λ (x : List Bool). length x) e ∙ length-unmarked most

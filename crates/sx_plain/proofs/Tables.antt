@@ -5,11 +5,16 @@ use Rattle.std.proofs.lemmas.Option.{slice_get_within}
 use Rattle.sx_term.specs.Tree.{Tree, Trees, node, lexeme, hole, none, ◌▹◌, listed}
 use Rattle.sx_term.specs.declared.sort.Sort.{Sort}
 use Rattle.sx_term.specs.Sorts.{Shape, HasSort, KidsHaveSorts}
-use Rattle.sx_term.specs.Instances.{instance, instances, Stands, StandsInKids, StandsAmong, bound_by}
+use Rattle.sx_term.specs.Instances.{instance, instances, Stands, StandsInKids, StandsAmong}
+use Rattle.sx_term.specs.Instances.{bound_by}
 use Rattle.sx_term.specs.Untyped.{IsUntypedSort, PlainHaveNoTyped, AreUntypedSorts}
 use Rattle.sx_plain.specs.Plain.{Body, Table, image_node, image, images}
-use Rattle.sx_plain.specs.Tables.{LabelsBelow, AllLabelsBelow, IsFlat, IsTable, HasParts, FitsTable, FitTable, IsCovered, AreCovered, Begins, IsBodyFor, HasBodies, Desugars}
-use Rattle.sx_plain.specs.Laws.{ImagesKeepVariables, BaseTermsStay, ImagesAreBase, ImagesStay, ImagesAreSorted, PlainTermsAreCovered, SortedTermsFit, SortedTermsAreBelow}
+use Rattle.sx_plain.specs.Tables.{LabelsBelow, AllLabelsBelow, IsFlat, IsPlainTable, HasParts}
+use Rattle.sx_plain.specs.Tables.{FitsTable, FitTable, IsCovered, AreCovered, Begins, IsBodyFor}
+use Rattle.sx_plain.specs.Tables.{HasBodies, Desugars}
+use Rattle.sx_plain.specs.Laws.{ImagesKeepVariables, BaseTermsStay, ImagesAreBase, ImagesStay}
+use Rattle.sx_plain.specs.Laws.{ImagesAreSorted, PlainTermsAreCovered, SortedTermsFitTables}
+use Rattle.sx_plain.specs.Laws.{SortedTermsAreBelow}
 
 -- the variables of an instance
 mutual
@@ -88,7 +93,7 @@ module _ (table : Table) where
     stands_images (t ▹ ts) v (inl h) = inl (stands-image t v h)
     stands_images (t ▹ ts) v (inr h) = inr (stands_images ts v h)
 
-module _ (base : ℕ) (table : Table) (is : IsTable base table) where
+module _ (base : ℕ) (table : Table) (is : IsPlainTable base table) where
   mutual
     pub image-stands : (t : Tree) (v : ℕ) → FitsTable table t → Stands v t → Stands v (image table t)
     image-stands (node label ts) v f h =
@@ -168,7 +173,7 @@ node-below base (Some body) label ts f p c h =
     instance-below base (bound_by (listed ts)) body.flat
     (λ v k. bound-below base ts v (let l = (is.parts v).0 k in let e : length (listed ts) ≡ body.arity = p in omega arith) h) is.labels
 
-module _ (base : ℕ) (table : Table) (is : IsTable base table) where
+module _ (base : ℕ) (table : Table) (is : IsPlainTable base table) where
   mutual
     pub image-base : (t : Tree) → FitsTable table t → IsCovered base table t → LabelsBelow base (image table t)
     image-base (node label ts) f c =
@@ -294,8 +299,8 @@ pub sorted-fits : (base shapes : List Shape) (table : Table) (vars : List Sort) 
     (t : Tree) (sort : Sort) → HasSort shapes vars t sort → FitsTable table t
 sorted-fits base shapes table vars d t sort h = fits-sorted base shapes table vars d.bodies t sort h
 
-pub sorted_terms_fit : SortedTermsFit
-sorted_terms_fit base shapes table vars t sort d h = fits-sorted base shapes table vars d t sort h
+pub sorted_terms_fit_tables : SortedTermsFitTables
+sorted_terms_fit_tables base shapes table vars t sort d h = fits-sorted base shapes table vars d t sort h
 
 -- the labels of a well sorted term are those of the shapes
 mutual

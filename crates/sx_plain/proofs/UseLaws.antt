@@ -5,11 +5,14 @@ use Rattle.std.specs.declared.alloc.Global.{Global}
 use Rattle.sx_term.specs.declared.term.Term.{Term, Node}
 use Rattle.sx_term.specs.Term.{tree}
 use Rattle.sx_term.proofs.Kids.{trees, tree-at_node}
-use Rattle.sx_term.specs.Tree.{Tree, Trees, node, lexeme, hole, none, ◌▹◌, depth_of, greatest_depth, size_of, total_size}
+use Rattle.sx_term.specs.Tree.{Tree, Trees, node, lexeme, hole, none, ◌▹◌, depth_of, greatest_depth}
+use Rattle.sx_term.specs.Tree.{size_of, total_size}
 use Rattle.sx_term.specs.Instances.{Stands, StandsInKids}
 use Rattle.sx_plain.specs.declared.part_use.PartUse.{PartUse}
 use Rattle.sx_plain.specs.Measures.{depth_with, greatest_with, size_with, total_with, greatest}
-use Rattle.sx_plain.specs.Uses.{unused, once_more, noted_at, noted, noted_all, own_size, own_sizes, most_times, used_depth, used_size, AreNear, ArePositive, IsMeasured}
+use Rattle.sx_plain.specs.Uses.{unused_parts, once_more, noted_at, noted, noted_all, own_size}
+use Rattle.sx_plain.specs.Uses.{own_sizes, most_times, used_depth, used_size, AreNear, ArePositive}
+use Rattle.sx_plain.specs.Uses.{IsMeasured}
 
 -- as many parts as before
 length-noted_at : (above v : ℕ) (us : List PartUse) → length (noted_at above v us) ≡ length us
@@ -102,34 +105,34 @@ greatest-within (d ∷ ds) most h =
     let b = greatest-within ds most (λ v l. h (suc v) (omega arith)) in omega arith
 
 -- parts that are not used
-length-unused : (n : ℕ) → length (unused n) ≡ n
+length-unused : (n : ℕ) → length (unused_parts n) ≡ n
 length-unused zero = refl
 length-unused (suc n) = let e = length-unused n in omega arith
 
-size-unused : (n : ℕ) (ns : List ℕ) → used_size (unused n) ns ≡ 0
+size-unused : (n : ℕ) (ns : List ℕ) → used_size (unused_parts n) ns ≡ 0
 size-unused zero ns = refl
 size-unused (suc n) [] = refl
 size-unused (suc n) (m ∷ ns) = let h = size-unused n ns in omega arith
 
-depth-unused : (n : ℕ) (ds : List ℕ) → length ds ≡ n → used_depth (unused n) ds ≡ greatest ds
+depth-unused : (n : ℕ) (ds : List ℕ) → length ds ≡ n → used_depth (unused_parts n) ds ≡ greatest ds
 depth-unused zero [] e = refl
 depth-unused zero (d ∷ ds) e = absurd (omega arith)
 depth-unused (suc n) [] e = absurd (omega arith)
 depth-unused (suc n) (d ∷ ds) e = let h = depth-unused n ds (omega arith) in omega arith
 
-pub times-unused : (n : ℕ) → most_times (unused n) ≡ 0
+pub times-unused : (n : ℕ) → most_times (unused_parts n) ≡ 0
 times-unused zero = refl
 times-unused (suc n) = let h = times-unused n in omega arith
 
-near-unused : (n : ℕ) → AreNear (unused n)
+near-unused : (n : ℕ) → AreNear (unused_parts n)
 near-unused zero = tt
 near-unused (suc n) = (omega arith, near-unused n)
 
-pub unused-push : (n : ℕ) (u : PartUse) → u ≡ record { times = 0; above = 0 } → unused n ++ u ∷ [] ≡ unused (n + 1)
-unused-push zero u e = ap (λ (x : PartUse). x ∷ []) e
-unused-push (suc n) u e =
+pub unused_parts-push : (n : ℕ) (u : PartUse) → u ≡ record { times = 0; above = 0 } → unused_parts n ++ u ∷ [] ≡ unused_parts (n + 1)
+unused_parts-push zero u e = ap (λ (x : PartUse). x ∷ []) e
+unused_parts-push (suc n) u e =
     let m : suc n + 1 ≡ suc (n + 1) = omega arith in
-    rw m (ap (λ (us : List PartUse). record { times = 0; above = 0 } ∷ us) (unused-push n u e))
+    rw m (ap (λ (us : List PartUse). record { times = 0; above = 0 } ∷ us) (unused_parts-push n u e))
 
 -- how near and how often
 near-noted_at : (above v : ℕ) (us : List PartUse) → above ≤ 1000 → AreNear us → AreNear (noted_at above v us)
@@ -166,30 +169,30 @@ mutual
 
 -- a flat body is measured by what it does with its parts
 is_measured : (arity : ℕ) (t : Tree) → depth_of t ≤ 1000 → ((v : ℕ) → Stands v t ↔ (v < arity)) →
-    IsMeasured t (own_size t) (depth_of t) (noted 0 t (unused arity))
+    IsMeasured t (own_size t) (depth_of t) (noted 0 t (unused_parts arity))
 is_measured arity t l parts = record {
-  near = near-noted 0 t (unused arity) (omega arith) (near-unused arity);
+  near = near-noted 0 t (unused_parts arity) (omega arith) (near-unused arity);
   sizes = λ ns e.
       let n = length-unused arity in
-      let m = length-noted 0 t (unused arity) in
-      let a = size-noted 0 t (unused arity) ns (λ v s. let k = (parts v).0 s in omega arith) (omega arith) in
+      let m = length-noted 0 t (unused_parts arity) in
+      let a = size-noted 0 t (unused_parts arity) ns (λ v s. let k = (parts v).0 s in omega arith) (omega arith) in
       let b = size-unused arity ns in omega arith;
   depths = λ ds e p.
       let n = length-unused arity in
-      let m = length-noted 0 t (unused arity) in
-      let a = depth-noted 0 t (unused arity) ds (λ v s. let k = (parts v).0 s in omega arith) (omega arith) p in
+      let m = length-noted 0 t (unused_parts arity) in
+      let a = depth-noted 0 t (unused_parts arity) ds (λ v s. let k = (parts v).0 s in omega arith) (omega arith) p in
       let b = depth-unused arity ds (omega arith) in
       let c = greatest-within ds (depth_with ds t) (λ v k. stands-within ds t v ((parts v).1 (omega arith))) in omega arith;
 }
 
 pub measured_by : (arity : ℕ) (t : Tree) (own depth : ℕ) (us new : List PartUse) → depth_of t ≤ 1000 → ((v : ℕ) → Stands v t ↔ (v < arity)) →
-    own ≡ own_size t → depth ≡ depth_of t → us ≡ unused arity → new ≡ noted 0 t us → IsMeasured t own depth new
+    own ≡ own_size t → depth ≡ depth_of t → us ≡ unused_parts arity → new ≡ noted 0 t us → IsMeasured t own depth new
 measured_by arity t own depth us new l parts o d e n =
     subst (λ (x : ℕ). IsMeasured t x depth new) (sym o)
     (subst (λ (x : ℕ). IsMeasured t (own_size t) x new) (sym d)
     (subst (λ (x : List PartUse). IsMeasured t (own_size t) (depth_of t) x) (sym (n ∙ ap (noted 0 t) e)) (is_measured arity t l parts)))
 
-pub many_noted : (arity : ℕ) (t : Tree) (us new : List PartUse) → us ≡ unused arity → new ≡ noted 0 t us → length new ≡ arity
+pub many_noted : (arity : ℕ) (t : Tree) (us new : List PartUse) → us ≡ unused_parts arity → new ≡ noted 0 t us → length new ≡ arity
 many_noted arity t us new e n = ap (λ (x : List PartUse). length x) n ∙ length-noted 0 t us ∙ ap (λ (x : List PartUse). length x) e ∙ length-unused arity
 
 -- noting at a place

@@ -48,22 +48,22 @@ abbrev pub UsesAll : ℕ → Tree → Type 0
 UsesAll arity t = (v : ℕ) → v < arity → Stands v t
 
 -- the entry with the body's image was added, or this is the first reason why not
-abbrev pub IsAdded : ℕ → Table → Table → ℕ → ℕ → Tree → Result (Unit {0}) PlainError → Type 0
-IsAdded base old new label arity body (Ok x) =
+abbrev pub IsBodyAdded : ℕ → Table → Table → ℕ → ℕ → Tree → Result (Unit {0}) PlainError → Type 0
+IsBodyAdded base old new label arity body (Ok x) =
     (old label ≡ None) × (first_uncovered base old body ≡ None) × UsesAll arity body ×
     (depth_of (image old body) ≤ most_depth) × (size_of (image old body) ≤ most_size)
     × ((other : ℕ) → new other ≡ with_entry old label
     (record { arity = arity; flat = image old body }) other)
-IsAdded base old new label arity body (Err Memory) = Unit {0}
-IsAdded base old new label arity body (Err (Twice l)) = (l ≡ label) × IsSome (old label)
-IsAdded base old new label arity body (Err (UsesLater l)) =
+IsBodyAdded base old new label arity body (Err Memory) = Unit {0}
+IsBodyAdded base old new label arity body (Err (Twice l)) = (l ≡ label) × IsSome (old label)
+IsBodyAdded base old new label arity body (Err (UsesLater l)) =
     (old label ≡ None) × (first_uncovered base old body ≡ Some l)
-IsAdded base old new label arity body (Err (Drops v)) =
+IsBodyAdded base old new label arity body (Err (Drops v)) =
     (old label ≡ None) × (first_uncovered base old body ≡ None) × IsFirstDropped arity body v
-IsAdded base old new label arity body (Err (TooDeep depth)) =
+IsBodyAdded base old new label arity body (Err (TooDeep depth)) =
     (old label ≡ None) × (first_uncovered base old body ≡ None) × UsesAll arity body ×
     (most_depth < depth_of (image old body)) × (depth ≡ depth_of (image old body))
-IsAdded base old new label arity body (Err (TooBig nodes)) =
+IsBodyAdded base old new label arity body (Err (TooBig nodes)) =
     (old label ≡ None) × (first_uncovered base old body ≡ None) × UsesAll arity body ×
     (depth_of (image old body) ≤ most_depth) × (most_size < size_of (image old body))
     × (nodes ≡ min (size_of (image old body)) (2 ^ 64 - 1))

@@ -8,9 +8,9 @@ use Rattle.sx_term.specs.Sorts.{Shape, HasSort}
 use Rattle.sx_term.specs.Instances.{instance, Stands}
 use Rattle.sx_term.specs.Untyped.{IsUntypedSort, PlainHaveNoTyped}
 use Rattle.sx_plain.specs.Plain.{Table, image}
-use Rattle.sx_plain.specs.Tables.{LabelsBelow, IsTable, FitsTable, IsCovered}
+use Rattle.sx_plain.specs.Tables.{LabelsBelow, IsPlainTable, FitsTable, IsCovered}
 use Rattle.sx_plain.specs.Tables.{Begins, HasBodies, Desugars}
-use Rattle.sx_plain.specs.Adds.{IsAdded}
+use Rattle.sx_plain.specs.Adds.{IsBodyAdded}
 
 -- the plain image of an instance is the instance of the plain image, by the plain images of what is
 -- put for the variables
@@ -20,17 +20,19 @@ ImagesOfInstances = (table : Table) (s : ℕ → Tree) (t : Tree) →
 
 -- the plain image has just the variables of the term
 abbrev pub ImagesKeepVariables : Type 0
-ImagesKeepVariables = (base : ℕ) (table : Table) (t : Tree) → IsTable base table →
+ImagesKeepVariables = (base : ℕ) (table : Table) (t : Tree) → IsPlainTable base table →
     FitsTable table t → (v : ℕ) → Stands v (image table t) ↔ Stands v t
 
 -- a base term is its own plain image
 abbrev pub BaseTermsStay : Type 0
-BaseTermsStay = (base : ℕ) (table : Table) (t : Tree) → IsTable base table → LabelsBelow base t →
+BaseTermsStay = (base : ℕ) (table : Table) (t : Tree) → IsPlainTable base table →
+    LabelsBelow base t →
     image table t ≡ t
 
 -- where each label of a term is base or has an entry, its plain image is base
 abbrev pub ImagesAreBase : Type 0
-ImagesAreBase = (base : ℕ) (table : Table) (t : Tree) → IsTable base table → FitsTable table t →
+ImagesAreBase = (base : ℕ) (table : Table) (t : Tree) → IsPlainTable base table →
+    FitsTable table t →
     IsCovered base table t → LabelsBelow base (image table t)
 
 -- tables that agree at the labels of a term give it one plain image
@@ -55,7 +57,8 @@ BodiesStaySorted =
     (base shapes : List Shape) (old new : Table) (label : ℕ) (shape : Shape) (t : Tree) →
     Begins base shapes → HasBodies base shapes old → slice_get shapes label ≡ Some shape →
     IsUntypedSort shape.sort → HasSort shapes shape.kids t shape.sort →
-    IsAdded (length base) old new label (length shape.kids) t (Ok tt) → HasBodies base shapes new
+    IsBodyAdded (length base) old new label (length shape.kids) t (Ok tt) →
+    HasBodies base shapes new
 
 -- in a well sorted term of a plain or lexical sort each label is base or has an entry
 abbrev pub PlainTermsAreCovered : Type 0
@@ -65,8 +68,8 @@ PlainTermsAreCovered =
     HasSort shapes vars t sort → IsUntypedSort sort → IsCovered (length base) table t
 
 -- a well sorted term has as many parts as the table asks for
-abbrev pub SortedTermsFit : Type 0
-SortedTermsFit =
+abbrev pub SortedTermsFitTables : Type 0
+SortedTermsFitTables =
     (base shapes : List Shape) (table : Table) (vars : List Sort) (t : Tree) (sort : Sort) →
     HasBodies base shapes table → HasSort shapes vars t sort → FitsTable table t
 

@@ -4,9 +4,9 @@ use Rattle.std.specs.Prelude.{false}
 use Rattle.sx_term.specs.Tree.{Tree, Trees, node, lexeme, hole, none, ◌▹◌}
 
 -- so many marks, none of which is set
-abbrev pub unmarked : ℕ → List Bool
-unmarked zero = []
-unmarked (suc n) = false ∷ unmarked n
+abbrev pub no_marks : ℕ → List Bool
+no_marks zero = []
+no_marks (suc n) = false ∷ no_marks n
 
 -- with the mark of the variable set
 abbrev pub marked_at : ℕ → List Bool → List Bool

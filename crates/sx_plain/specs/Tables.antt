@@ -26,7 +26,7 @@ pub record IsFlat (base : ℕ) (body : Body) : Type 0 where
   pub parts : (v : ℕ) → Stands v body.flat ↔ (v < body.arity)
 
 -- a plain table: no base label has an entry, and each entry is flat
-pub record IsTable (base : ℕ) (table : Table) : Type 0 where
+pub record IsPlainTable (base : ℕ) (table : Table) : Type 0 where
   pub keeps_base : (label : ℕ) → label < base → table label ≡ None
   pub flat : (label : ℕ) (body : Body) → table label ≡ Some body → IsFlat base body
 
@@ -79,7 +79,7 @@ HasBodies base shapes table = (label : ℕ) (body : Body) → table label ≡ So
 -- the table has just the plain constructors of the shapes that are not base, each with a body of
 -- its sort
 pub record Desugars (base shapes : List Shape) (table : Table) : Type 0 where
-  pub is_table : IsTable (length base) table
+  pub is_table : IsPlainTable (length base) table
   pub bodies : HasBodies base shapes table
   pub every : (label : ℕ) (shape : Shape) → slice_get shapes label ≡ Some shape →
       IsUntypedSort shape.sort → (label < length base) ⊎ IsSome (table label)

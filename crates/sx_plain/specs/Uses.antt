@@ -6,9 +6,9 @@ use Rattle.sx_plain.specs.Measures.{depth_with, size_with}
 use Rattle.sx_term.specs.Limits.{most_depth}
 
 -- no part is used yet
-abbrev pub unused : ℕ → List PartUse
-unused zero = []
-unused (suc n) = record { times = 0; above = 0 } ∷ unused n
+abbrev pub unused_parts : ℕ → List PartUse
+unused_parts zero = []
+unused_parts (suc n) = record { times = 0; above = 0 } ∷ unused_parts n
 
 -- the use of a part that stands once more, under so many nodes
 abbrev pub once_more : ℕ → PartUse → PartUse

@@ -7,7 +7,7 @@ ghost use Rattle.sx_term.specs.Instances.{Stands};
 ghost use Rattle.sx_plain.specs.Tables.{IsFlat, FitsTable};
 ghost use Rattle.sx_plain.specs.Entries.{body};
 ghost use Rattle.sx_plain.specs.Views.{table_of};
-ghost use Rattle.sx_plain.specs.Adds.{with_entry, uncovered, first_uncovered, IsAdded};
+ghost use Rattle.sx_plain.specs.Adds.{with_entry, uncovered, first_uncovered, IsBodyAdded};
 ghost use Rattle.sx_term.specs.Limits.{most_depth};
 
 use crate::dropped::first_dropped;
@@ -59,7 +59,8 @@ impl PlainTable {
         requires parts { (v : ℕ) → Stands v (tree term) → v < arity }
         requires fits { FitsTable (table_of self.old) (tree term) }
         requires shallow { depth_of (tree term) ≤ most_depth }
-        ensures answer { IsAdded self.old.base (table_of self.old) (table_of self.new) label arity
+        ensures answer { IsBodyAdded self.old.base (table_of self.old)
+            (table_of self.new) label arity
             (tree term) result }
         ensures err { OnErr result (table_of self.new ≡ table_of self.old) }
         ensures base { self.new.base ≡ self.old.base }

@@ -26,7 +26,7 @@ pub(crate) fn first_dropped(alloc: Global, term: &Term, arity: u32) -> Result<Op
 
 /// So many marks, none of which is set.
 fn unmarked(alloc: Global, count: usize) -> Result<Vec<bool>, NoMemory>
-    ensures { IfOk result (λ marks. marks.items ≡ spec.unmarked count) }
+    ensures { IfOk result (λ marks. marks.items ≡ spec.no_marks count) }
 {
     let mut marks = Vec::new(alloc);
     for _ in 0..count {

@@ -33,7 +33,7 @@ pub use adding::first_later;
 pub use laws::{
     base_terms_stay, bodies_stay_sorted, images_are_base, images_are_sorted, images_keep_variables,
     images_of_instances, images_stay, lexical_terms_stay, plain_terms_are_covered,
-    sorted_terms_are_below, sorted_terms_fit,
+    sorted_terms_are_below, sorted_terms_fit_tables,
 };
 pub use lowering::lower;
 pub use measure::{Measure, image_measure};

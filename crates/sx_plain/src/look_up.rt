@@ -3,7 +3,7 @@
 ghost use Rattle.std.specs.Prelude.{◌≡◌, ◌≤◌, MatchOption, Some, None, IfOk, IfSome, option_map};
 ghost use Rattle.sx_term.specs.Tree.{depth_of};
 ghost use Rattle.sx_term.specs.Term.{tree};
-ghost use Rattle.sx_plain.specs.Tables.{IsTable};
+ghost use Rattle.sx_plain.specs.Tables.{IsPlainTable};
 ghost use Rattle.sx_plain.specs.Entries.{body, bodies};
 ghost use Rattle.sx_plain.specs.Views.{table_of};
 ghost use Rattle.sx_term.specs.Limits.{most_depth};
@@ -57,7 +57,7 @@ impl PlainTable {
     /// What holds of every plain table: base labels have no entry, and each entry is flat and uses
     /// each of its parts.
     pub fn facts(&self)
-        ensures { IsTable self.now.base (table_of self.now) }
+        ensures { IsPlainTable self.now.base (table_of self.now) }
     {}
 
     /// The flat body of the label, or None exactly where it has no entry.

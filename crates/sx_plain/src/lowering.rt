@@ -3,7 +3,7 @@
 ghost use Rattle.std.specs.Prelude.{◌≡◌, ◌<◌, ◌≤◌, IfOk, map};
 ghost use Rattle.sx_term.specs.Tree.{node, depth_of, greatest_depth, forest, listed};
 ghost use Rattle.sx_term.specs.Term.{tree};
-ghost use Rattle.sx_term.specs.Subst.{IsWithinLimits};
+ghost use Rattle.sx_term.specs.Subst.{IsInstanceWithin};
 ghost use Rattle.sx_term.specs.Instances.{instance, instances, bound_by};
 ghost use Rattle.sx_plain.specs.Plain.{image, images};
 ghost use Rattle.sx_plain.specs.Tables.{FitsTable};
@@ -22,7 +22,7 @@ use sx_term::{MOST_DEPTH, MOST_SIZE, NoMemory, Term, TermError};
 pub fn lower(alloc: Global, table: &PlainTable, term: &Term) -> Result<Term, TermError>
     requires shallow { depth_of (tree term.now) ≤ most_depth }
     requires fits { FitsTable (table_of table.now) (tree term.now) }
-    ensures { IsWithinLimits (image (table_of table.now) (tree term.now)) result }
+    ensures { IsInstanceWithin (image (table_of table.now) (tree term.now)) result }
 {
     let measure = image_measure(table, term);
     if measure.depth > MOST_DEPTH {

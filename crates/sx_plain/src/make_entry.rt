@@ -51,7 +51,7 @@ impl Entry {
 
 /// So many parts, none of which is used.
 fn no_uses(alloc: Global, arity: u32) -> Result<Vec<PartUse>, NoMemory>
-    ensures { IfOk result (λ us. us.items ≡ spec.unused arity) }
+    ensures { IfOk result (λ us. us.items ≡ spec.unused_parts arity) }
 {
     let mut uses = Vec::new(alloc);
     for _ in 0..arity {

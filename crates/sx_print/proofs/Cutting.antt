@@ -13,7 +13,7 @@ use Rattle.sx_term.proofs.SpacedLaws.{spaced_cut, spaced_outcome}
 use Rattle.sx_grammar.specs.Grammar.{Text, Stem, Mark, is_literal, is_lexeme, is_variable, Token}
 use Rattle.sx_grammar.specs.Parts.{Parts}
 use Rattle.sx_grammar.specs.Tables.{literals_of}
-use Rattle.sx_print.specs.Tokens.{shown_mark, shown}
+use Rattle.sx_print.specs.Tokens.{shown_mark, shown_piece}
 use Rattle.sx_print.specs.Printed.{text_of, HaveUtf8}
 use Rattle.sx_print.specs.Cut.{IsCutInto}
 use Rattle.sx_print.proofs.Shapes.{good_shape}
@@ -48,7 +48,7 @@ mark_for p (is_variable stem) text good utf8 = absurd good
 -- the tokens with such marks
 record Marked (p : Parts) (ts : List Token) (ms : List (cut.Mark × Text)) : Type 0 where
   stand : (metas : Bool) → AllByRecursion (λ m. IsTokenText (literals_of p) metas m.0 m.1) ms
-  show : (stem_of : Text → Stem) (from : ℕ) → map (shown stem_of) (placed from ms) ≡ ts
+  show : (stem_of : Text → Stem) (from : ℕ) → map (shown_piece stem_of) (placed from ms) ≡ ts
   texts : map (λ m. m.1) ms ≡ map (λ token. token.text) ts
   utf8 : AllByRecursion (λ m. IsUtf8 m.1) ms
   many : length ms ≡ length ts

@@ -3,10 +3,13 @@ use Rattle.std.proofs.Common.{◌≡◌, ℕ, suc, ◌+◌, ◌<◌, ◌≤◌, 
 use Rattle.std.specs.Prelude.{slice_get}
 use Rattle.std.proofs.lemmas.Option.{none-some, slice_get_within}
 use Rattle.sx_term.specs.Tree.{Tree, Trees, node, lexeme, hole, ◌▹◌, listed}
-use Rattle.sx_grammar.specs.Grammar.{Text, Symbol, literal, lexical, part, Production, Grammar, Stem, of_kind, of_sort}
-use Rattle.sx_grammar.specs.Print.{print, Fits, node_fits, lexeme_fits, hole_fits, AllFit, none_fit, past_literal_fit, lexical_fit, part_fit, HasBrackets, BracketsWhereAsked}
+use Rattle.sx_grammar.specs.Grammar.{Text, Symbol, literal, lexical, part, Production, Grammar}
+use Rattle.sx_grammar.specs.Grammar.{Stem, of_kind, of_sort}
+use Rattle.sx_grammar.specs.Print.{print, Fits, node_fits, lexeme_fits, hole_fits, AllFit, none_fit}
+use Rattle.sx_grammar.specs.Print.{past_literal_fit, lexical_fit, part_fit, HasBrackets}
+use Rattle.sx_grammar.specs.Print.{BracketsWhereAsked}
 use Rattle.sx_grammar.proofs.Printing.{prints_read}
-use Rattle.sx_print.specs.Printed.{IsAskedFor, IsPrintable, parts_in, IsBuilt, AreBuilt}
+use Rattle.sx_print.specs.Printed.{IsAskedFor, IsPrintableTerm, parts_in, IsBuilt, AreBuilt}
 use Rattle.sx_print.specs.Cut.{HasReading}
 
 module _ (g : Grammar) where
@@ -44,6 +47,6 @@ module _ (g : Grammar) where
   asked_brackets asked sort least (inr (label, p, place, at, here)) = asked label p place sort least at here
 
   -- what is printed of a term without variables has a reading whose term it is
-  pub printed_read : (names : List Text) (variables sort least : ℕ) (t : Tree) → BracketsWhereAsked g → IsPrintable g variables least t → Fits g [] (of_sort sort) t → HasReading g names (print g names t (of_sort sort) least) sort least t
+  pub printed_read : (names : List Text) (variables sort least : ℕ) (t : Tree) → BracketsWhereAsked g → IsPrintableTerm g variables least t → Fits g [] (of_sort sort) t → HasReading g names (print g names t (of_sort sort) least) sort least t
   printed_read names variables sort least t asked can fits =
       prints_read g names sort least t asked (asked_brackets asked sort least (subst (λ s. IsAskedFor g s least) (one_place can.fits fits) can.asked)) fits

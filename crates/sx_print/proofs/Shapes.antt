@@ -6,7 +6,7 @@ use Rattle.std.specs.List.{AllByRecursion}
 use Rattle.std.proofs.lemmas.Str.{encode_same, encodes_same, length-encode, len_utf8_bounds}
 use Rattle.std.proofs.lemmas.Bool.{false≢true, cases_Bool}
 use Rattle.unicode_ident.specs.Ident.{is_xid_continue}
-use Rattle.sx_term.specs.Cutting.{is_symbol, begins_word, BeginsWith}
+use Rattle.sx_term.specs.Cutting.{is_symbol, begins_word, BeginsWhere}
 use Rattle.sx_term.specs.Spaced.{IsWordLiteral, IsSymbolLiteral}
 use Rattle.sx_grammar.specs.Grammar.{Text}
 use Rattle.sx_grammar.specs.Made.{IsBadLiteral}
@@ -24,7 +24,7 @@ all_or_not p (c ∷ cs) = both (cases_Bool (p c)) (all_or_not p cs)
 no_character : (c : ℕ) (rest : List ℕ) → [] ≡ encode_utf8 c ++ rest → ⊥
 no_character c rest e = absurd (omega (arith, ap length e, length-append (encode_utf8 c) rest, length-encode c, (len_utf8_bounds c).0))
 
-no_front : (p : ℕ → Bool) → ¬ (BeginsWith p [])
+no_front : (p : ℕ → Bool) → ¬ (BeginsWhere p [])
 no_front p (c, rest, pass, e) = no_character c rest e
 
 word_or_not : (cs : List ℕ) → IsWordLiteral (encode_utf8_all cs) ⊎ ¬ (IsWordLiteral (encode_utf8_all cs))

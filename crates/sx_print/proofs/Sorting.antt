@@ -8,12 +8,14 @@ use Rattle.sx_term.specs.declared.sort.Sort.TheVariants.{Lex, Plain, Typed}
 use Rattle.sx_term.specs.Tree.{Tree, Trees, node, lexeme, hole, none, ◌▹◌}
 use Rattle.sx_term.specs.Sorts.{HasSort, KidsHaveSorts}
 use Rattle.sx_grammar.specs.declared.sort_line.SortLine.{SortLine}
-use Rattle.sx_grammar.specs.Grammar.{Symbol, literal, lexical, part, Grammar, Stem, of_kind, of_sort}
+use Rattle.sx_grammar.specs.Grammar.{Symbol, literal, lexical, part, Grammar, Stem, of_kind}
+use Rattle.sx_grammar.specs.Grammar.{of_sort}
 use Rattle.sx_grammar.specs.Parts.{Parts, numbered}
 use Rattle.sx_grammar.specs.Told.{is_typed, sort_with, kid_sorts, shape_of, shapes_of}
-use Rattle.sx_grammar.specs.Print.{Fits, node_fits, lexeme_fits, hole_fits, AllFit, none_fit, past_literal_fit, lexical_fit, part_fit}
+use Rattle.sx_grammar.specs.Print.{Fits, node_fits, lexeme_fits, hole_fits, AllFit, none_fit}
+use Rattle.sx_grammar.specs.Print.{past_literal_fit, lexical_fit, part_fit}
 use Rattle.sx_grammar.proofs.Finding.{mapped_at}
-use Rattle.sx_print.specs.Printed.{IsAskedFor, IsPrintable}
+use Rattle.sx_print.specs.Printed.{IsAskedFor, IsPrintableTerm}
 use Rattle.sx_print.specs.Sorted.{place_of, SortedTermsFit, SortedTermsArePrintable}
 
 place_with : (sorts : List SortLine) (number : ℕ) → place_of (sort_with sorts number) ≡ of_sort number

@@ -14,15 +14,17 @@ use Rattle.sx_grammar.specs.declared.numbered.NumberedSymbol.{NumberedSymbol}
 use Rattle.sx_grammar.specs.declared.numbered.NumberedSymbol.TheVariants.{Lit, Lex, Part}
 use Rattle.sx_grammar.specs.declared.numbered.NumberedProduction.{NumberedProduction}
 use Rattle.sx_term.specs.declared.lex_kind.LexKind.{LexKind}
-use Rattle.sx_grammar.specs.Grammar.{Text, Brackets, Grammar, Stem, of_kind, of_sort, Mark, is_lexeme, is_variable, Token, pair_of}
+use Rattle.sx_grammar.specs.Grammar.{Text, Brackets, Grammar, Stem, of_kind, of_sort, Mark}
+use Rattle.sx_grammar.specs.Grammar.{is_lexeme, is_variable, Token, pair_of}
 use Rattle.sx_grammar.specs.Parts.{Parts, numbered, numbered_line, names}
 use Rattle.sx_grammar.specs.Numbered.{symbol, production}
 use Rattle.sx_grammar.specs.Tables.{literals_of, AreNumbered, HaveLiteralsBelow, IsNumberedPair}
-use Rattle.sx_grammar.specs.Print.{literal_token, in_brackets, print, print_each, print_node, print_symbols}
+use Rattle.sx_grammar.specs.Print.{literal_token, in_brackets, print, print_each, print_node}
+use Rattle.sx_grammar.specs.Print.{print_symbols}
 use Rattle.sx_grammar.proofs.TableLaws.{production_at, numbered_length}
-use Rattle.sx_print.specs.Printed.{Adds, IsBuilt, AreBuilt, brackets_below, parts_in}
+use Rattle.sx_print.specs.Printed.{AddsTokens, IsBuilt, AreBuilt, brackets_below, parts_in}
 use Rattle.sx_print.specs.Rows.{HasLiteralsBelow}
-use Rattle.sx_print.proofs.Adding.{Adds-append}
+use Rattle.sx_print.proofs.Adding.{AddsTokens-append}
 
 -- the production of a label of a term that is built by the grammar
 pub production_here : (p : Parts) (ps : List NumberedProduction) (label variables : ℕ) (q : NumberedProduction) (t : Tree) (kids : Trees) → AreNumbered p ps → t ≡ node label kids → IsBuilt (numbered p) variables t → q ≡ get_or ps label q
@@ -68,13 +70,13 @@ pair_within texts None opening closing is = absurd is
 pair_within texts (Some pair) opening closing is = (slice_get_within texts opening pair.opening is.0, slice_get_within texts closing pair.closing is.1)
 
 -- a lexeme and a variable are one token
-pub lexeme_adds : (g : Grammar) (vars : List Text) (term : Term) (kind : LexKind) (text : Text) (least : ℕ) (old new : List ℕ) → term ≡ TheTerm.Lex kind text → ((mark : Mark) → Adds (record { mark = mark; text = text } ∷ []) old new)
-    → (place : Stem) → Adds (print g vars (tree term) place least) old new
-lexeme_adds g vars term kind text least old new is adds place = subst (λ t. Adds (print g vars (tree t) place least) old new) (sym is) (adds (is_lexeme kind))
+pub lexeme_adds : (g : Grammar) (vars : List Text) (term : Term) (kind : LexKind) (text : Text) (least : ℕ) (old new : List ℕ) → term ≡ TheTerm.Lex kind text → ((mark : Mark) → AddsTokens (record { mark = mark; text = text } ∷ []) old new)
+    → (place : Stem) → AddsTokens (print g vars (tree term) place least) old new
+lexeme_adds g vars term kind text least old new is adds place = subst (λ t. AddsTokens (print g vars (tree t) place least) old new) (sym is) (adds (is_lexeme kind))
 
 pub variable_adds : (g : Grammar) (vars : List Text) (term : Term) (v least : ℕ) (old new : List ℕ) → term ≡ TheTerm.Var v
-    → ((place : Stem) → Adds (record { mark = is_variable place; text = 126 ∷ slice_index_or vars v [] } ∷ []) old new) → (place : Stem) → Adds (print g vars (tree term) place least) old new
-variable_adds g vars term v least old new is adds place = subst (λ t. Adds (print g vars (tree t) place least) old new) (sym is) (adds place)
+    → ((place : Stem) → AddsTokens (record { mark = is_variable place; text = 126 ∷ slice_index_or vars v [] } ∷ []) old new) → (place : Stem) → AddsTokens (print g vars (tree term) place least) old new
+variable_adds g vars term v least old new is adds place = subst (λ t. AddsTokens (print g vars (tree t) place least) old new) (sym is) (adds place)
 
 -- a node is its symbols in the brackets that it needs
 by_test : (b : Bool) (pair : Option Brackets) (inner : List Token) → cond b (in_brackets pair inner) inner ≡ in_brackets (cond b pair None) inner
@@ -97,10 +99,10 @@ module _ (p : Parts) (vars : List Text) where
 
   pub node_plain : (term : Term) (label : ℕ) (kids : Vec Term Global) (q : NumberedProduction) (least : ℕ) (ss : List NumberedSymbol) (ts : List Term) (old new : List ℕ) → term ≡ Node label kids
       → slice_get (numbered p).productions label ≡ Some (production (literals_of p) q) → ss ≡ q.symbols.items → ts ≡ kids.items → IsNumberedPair (literals_of p) (pair_at q least) None
-      → Adds (row ss ts) old new → (place : Stem) → Adds (print (numbered p) vars (tree term) place least) old new
+      → AddsTokens (row ss ts) old new → (place : Stem) → AddsTokens (print (numbered p) vars (tree term) place least) old new
   node_plain term label kids q least ss ts old new is here symbols same bare adds place =
       let e : in_brackets (pair_at q least) (row q.symbols.items kids.items) ≡ row ss ts = unpaired (pair_at q least) bare (row q.symbols.items kids.items) ∙ sym (λ i. row (symbols i) (same i)) in
-      subst (λ x. Adds x old new) (sym (node_prints term label kids q least place is here ∙ e)) adds
+      subst (λ x. AddsTokens x old new) (sym (node_prints term label kids q least place is here ∙ e)) adds
     where
       unpaired : (pair : Option Brackets) → IsNumberedPair (literals_of p) pair None → (inner : List Token) → in_brackets pair inner ≡ inner
       unpaired None h inner = refl
@@ -108,13 +110,13 @@ module _ (p : Parts) (vars : List Text) where
 
   pub node_bracketed : (term : Term) (label : ℕ) (kids : Vec Term Global) (q : NumberedProduction) (least : ℕ) (ss : List NumberedSymbol) (ts : List Term) (opening closing : ℕ) (old a b new : List ℕ) → term ≡ Node label kids
       → slice_get (numbered p).productions label ≡ Some (production (literals_of p) q) → ss ≡ q.symbols.items → ts ≡ kids.items → IsNumberedPair (literals_of p) (pair_at q least) (Some (opening, closing))
-      → Adds (literal_token (slice_index_or (literals_of p) opening []) ∷ []) old a → Adds (row ss ts) a b → Adds (literal_token (slice_index_or (literals_of p) closing []) ∷ []) b new
-      → (place : Stem) → Adds (print (numbered p) vars (tree term) place least) old new
+      → AddsTokens (literal_token (slice_index_or (literals_of p) opening []) ∷ []) old a → AddsTokens (row ss ts) a b → AddsTokens (literal_token (slice_index_or (literals_of p) closing []) ∷ []) b new
+      → (place : Stem) → AddsTokens (print (numbered p) vars (tree term) place least) old new
   node_bracketed term label kids q least ss ts opening closing old a b new is here symbols same pair first inner last place =
-      let all = Adds-append (literal_token (slice_index_or (literals_of p) opening []) ∷ []) (row ss ts ++ (literal_token (slice_index_or (literals_of p) closing []) ∷ [])) old a new
-      first (Adds-append (row ss ts) (literal_token (slice_index_or (literals_of p) closing []) ∷ []) a b new inner last) in
+      let all = AddsTokens-append (literal_token (slice_index_or (literals_of p) opening []) ∷ []) (row ss ts ++ (literal_token (slice_index_or (literals_of p) closing []) ∷ [])) old a new
+      first (AddsTokens-append (row ss ts) (literal_token (slice_index_or (literals_of p) closing []) ∷ []) a b new inner last) in
       let e = paired (pair_at q least) pair (row q.symbols.items kids.items) ∙ sym (λ i. literal_token (slice_index_or (literals_of p) opening []) ∷ (row (symbols i) (same i) ++ (literal_token (slice_index_or (literals_of p) closing []) ∷ []))) in
-      subst (λ x. Adds x old new) (sym (node_prints term label kids q least place is here ∙ e)) all
+      subst (λ x. AddsTokens x old new) (sym (node_prints term label kids q least place is here ∙ e)) all
     where
       paired : (pair : Option Brackets) → IsNumberedPair (literals_of p) pair (Some (opening, closing)) → (inner : List Token)
           → in_brackets pair inner ≡ literal_token (slice_index_or (literals_of p) opening []) ∷ (inner ++ (literal_token (slice_index_or (literals_of p) closing []) ∷ []))
@@ -126,31 +128,31 @@ module _ (p : Parts) (vars : List Text) where
 
   -- where the symbols and kids that are left are added, all are
   abbrev pub Leads : List NumberedSymbol → List Term → (i n : ℕ) (start now : List ℕ) → Type 0
-  Leads ss ts i n start now = (end : List ℕ) → Adds (row (drop i ss) (drop n ts)) now end → Adds (row ss ts) start end
+  Leads ss ts i n start now = (end : List ℕ) → AddsTokens (row (drop i ss) (drop n ts)) now end → AddsTokens (row ss ts) start end
 
   leads_on : (ss : List NumberedSymbol) (ts : List Term) (i n j m : ℕ) (here : List Token) (start now next : List ℕ) → row (drop i ss) (drop n ts) ≡ here ++ row (drop j ss) (drop m ts)
-      → Leads ss ts i n start now → Adds here now next → Leads ss ts j m start next
+      → Leads ss ts i n start now → AddsTokens here now next → Leads ss ts j m start next
   leads_on ss ts i n j m here start now next e leads adds end rest =
-      leads end (subst (λ x. Adds x now end) (sym e) (Adds-append here (row (drop j ss) (drop m ts)) now next end adds rest))
+      leads end (subst (λ x. AddsTokens x now end) (sym e) (AddsTokens-append here (row (drop j ss) (drop m ts)) now next end adds rest))
 
   symbols_drop : (ss : List NumberedSymbol) (i : ℕ) (s : NumberedSymbol) → i < length ss → s ≡ get_or ss i s → map (symbol (literals_of p)) (drop i ss) ≡ symbol (literals_of p) s ∷ map (symbol (literals_of p)) (drop (i + 1) ss)
   symbols_drop ss i s lt at = at_drop_more (map (symbol (literals_of p))) ss i s lt ∙ ap (λ x. symbol (literals_of p) x ∷ map (symbol (literals_of p)) (drop (i + 1) ss)) (sym at)
 
   pub leads_past_literal : (ss : List NumberedSymbol) (ts : List Term) (i n number : ℕ) (s : NumberedSymbol) (start now next : List ℕ) → i < length ss → s ≡ get_or ss i s → s ≡ Lit number
-      → Leads ss ts i n start now → Adds (literal_token (slice_index_or (literals_of p) number []) ∷ []) now next → Leads ss ts (i + 1) n start next
+      → Leads ss ts i n start now → AddsTokens (literal_token (slice_index_or (literals_of p) number []) ∷ []) now next → Leads ss ts (i + 1) n start next
   leads_past_literal ss ts i n number s start now next lt at is leads adds =
       leads_on ss ts i n (i + 1) n (literal_token (slice_index_or (literals_of p) number []) ∷ []) start now next
       (ap (λ x. print_symbols x (print_each (numbered p) vars (trees (drop n ts)))) (symbols_drop ss i s lt at ∙ ap (λ x. symbol (literals_of p) x ∷ map (symbol (literals_of p)) (drop (i + 1) ss)) is)) leads adds
 
   pub leads_past_lexeme : (ss : List NumberedSymbol) (ts : List Term) (i n : ℕ) (kind : LexKind) (s : NumberedSymbol) (k : Term) (start now next : List ℕ) → i < length ss → s ≡ get_or ss i s → s ≡ Lex kind → n < length ts → k ≡ get_or ts n k
-      → Leads ss ts i n start now → ((place : Stem) → Adds (print (numbered p) vars (tree k) place 0) now next) → Leads ss ts (i + 1) (n + 1) start next
+      → Leads ss ts i n start now → ((place : Stem) → AddsTokens (print (numbered p) vars (tree k) place 0) now next) → Leads ss ts (i + 1) (n + 1) start next
   leads_past_lexeme ss ts i n kind s k start now next lt at is within kid leads adds =
       leads_on ss ts i n (i + 1) (n + 1) (print (numbered p) vars (tree k) (of_kind kind) 0) start now next
       (λ j. print_symbols ((symbols_drop ss i s lt at ∙ ap (λ x. symbol (literals_of p) x ∷ map (symbol (literals_of p)) (drop (i + 1) ss)) is) j) (print_each (numbered p) vars (trees-drop ts n k within kid j)))
       leads (adds (of_kind kind))
 
   pub leads_past_part : (ss : List NumberedSymbol) (ts : List Term) (i n sort least : ℕ) (s : NumberedSymbol) (k : Term) (start now next : List ℕ) → i < length ss → s ≡ get_or ss i s → s ≡ Part sort least → n < length ts → k ≡ get_or ts n k
-      → Leads ss ts i n start now → ((place : Stem) → Adds (print (numbered p) vars (tree k) place least) now next) → Leads ss ts (i + 1) (n + 1) start next
+      → Leads ss ts i n start now → ((place : Stem) → AddsTokens (print (numbered p) vars (tree k) place least) now next) → Leads ss ts (i + 1) (n + 1) start next
   leads_past_part ss ts i n sort least s k start now next lt at is within kid leads adds =
       leads_on ss ts i n (i + 1) (n + 1) (print (numbered p) vars (tree k) (of_sort sort) least) start now next
       (λ j. print_symbols ((symbols_drop ss i s lt at ∙ ap (λ x. symbol (literals_of p) x ∷ map (symbol (literals_of p)) (drop (i + 1) ss)) is) j) (print_each (numbered p) vars (trees-drop ts n k within kid j)))
@@ -186,7 +188,7 @@ module _ (p : Parts) (vars : List Text) where
     pub appends : Grows start now
 
   pub past_literal : (ss : List NumberedSymbol) (ts : List Term) (i n number : ℕ) (d : NumberedSymbol) (start now next : List ℕ) → Progress ss ts i n start now → i < length ss → get_or ss i d ≡ Lit number
-      → Adds (literal_token (slice_index_or (literals_of p) number []) ∷ []) now next → Progress ss ts (i + 1) n start next
+      → AddsTokens (literal_token (slice_index_or (literals_of p) number []) ∷ []) now next → Progress ss ts (i + 1) n start next
   past_literal ss ts i n number d start now next before lt is adds =
       let at = symbol_is ss i d (Lit number) lt is in
       record {
@@ -199,7 +201,7 @@ module _ (p : Parts) (vars : List Text) where
   kid_of_lexeme ss ts i n kind d start now before lt is = (counts_past_lexeme ss i n (length ts) kind (Lex kind) lt (symbol_is ss i d (Lex kind) lt is) refl before.counts).0
 
   pub past_lexeme : (ss : List NumberedSymbol) (ts : List Term) (i n : ℕ) (kind : LexKind) (d : NumberedSymbol) (k : Term) (start now next : List ℕ) → Progress ss ts i n start now → i < length ss → get_or ss i d ≡ Lex kind
-      → k ≡ get_or ts n k → ((place : Stem) → Adds (print (numbered p) vars (tree k) place 0) now next) → Progress ss ts (i + 1) (n + 1) start next
+      → k ≡ get_or ts n k → ((place : Stem) → AddsTokens (print (numbered p) vars (tree k) place 0) now next) → Progress ss ts (i + 1) (n + 1) start next
   past_lexeme ss ts i n kind d k start now next before lt is kid adds =
       let at = symbol_is ss i d (Lex kind) lt is in
       let counts = counts_past_lexeme ss i n (length ts) kind (Lex kind) lt at refl before.counts in
@@ -213,7 +215,7 @@ module _ (p : Parts) (vars : List Text) where
   kid_of_part ss ts i n sort least d start now before lt is = (counts_past_part ss i n (length ts) sort least (Part sort least) lt (symbol_is ss i d (Part sort least) lt is) refl before.counts).0
 
   pub past_part : (ss : List NumberedSymbol) (ts : List Term) (i n sort least : ℕ) (d : NumberedSymbol) (k : Term) (start now next : List ℕ) → Progress ss ts i n start now → i < length ss → get_or ss i d ≡ Part sort least
-      → k ≡ get_or ts n k → ((place : Stem) → Adds (print (numbered p) vars (tree k) place least) now next) → Progress ss ts (i + 1) (n + 1) start next
+      → k ≡ get_or ts n k → ((place : Stem) → AddsTokens (print (numbered p) vars (tree k) place least) now next) → Progress ss ts (i + 1) (n + 1) start next
   past_part ss ts i n sort least d k start now next before lt is kid adds =
       let at = symbol_is ss i d (Part sort least) lt is in
       let counts = counts_past_part ss i n (length ts) sort least (Part sort least) lt at refl before.counts in
@@ -231,6 +233,6 @@ module _ (p : Parts) (vars : List Text) where
   }
 
   -- at the end nothing is left
-  pub leads_to_end : (ss : List NumberedSymbol) (ts : List Term) (i n : ℕ) (start now : List ℕ) → length ss ≤ i → Leads ss ts i n start now → Adds (row ss ts) start now
+  pub leads_to_end : (ss : List NumberedSymbol) (ts : List Term) (i n : ℕ) (start now : List ℕ) → length ss ≤ i → Leads ss ts i n start now → AddsTokens (row ss ts) start now
   leads_to_end ss ts i n start now past leads =
-      leads now (subst (λ x. Adds x now now) (sym (at_drop_all (λ x. print_symbols (map (symbol (literals_of p)) x) (print_each (numbered p) vars (trees (drop n ts)))) ss i past)) (record { text = sym (append-nil now); utf8 = tt }))
+      leads now (subst (λ x. AddsTokens x now now) (sym (at_drop_all (λ x. print_symbols (map (symbol (literals_of p)) x) (print_each (numbered p) vars (trees (drop n ts)))) ss i past)) (record { text = sym (append-nil now); utf8 = tt }))

@@ -8,7 +8,7 @@ use Rattle.sx_term.specs.Spaced.{IsTokenText, AreBlanks}
 use Rattle.sx_grammar.specs.Grammar.{Text, Grammar, Stem, Token}
 use Rattle.sx_grammar.specs.Reading.{Reading, Reads}
 use Rattle.sx_grammar.specs.Print.{term_of}
-use Rattle.sx_print.specs.Tokens.{shown}
+use Rattle.sx_print.specs.Tokens.{shown_piece}
 use Rattle.sx_term.specs.Limits.{most_tokens}
 
 abbrev mutual
@@ -27,7 +27,7 @@ abbrev mutual
 -- show as just these tokens
 pub record IsCutInto (literals : List Text) (tokens : List Token) (text : List ℕ) : Type 0 where
   pub pieces : List Piece
-  pub show : (stem_of : Text → Stem) → map (shown stem_of) pieces ≡ tokens
+  pub show : (stem_of : Text → Stem) → map (shown_piece stem_of) pieces ≡ tokens
   pub cut : (metas : Bool) (blanks : List ℕ) → AreBlanks blanks →
       Cuts literals metas (length (text ++ blanks)) (text ++ blanks) pieces []
   pub outcome : (metas : Bool) (blanks : List ℕ) → AreBlanks blanks → length tokens ≤ most_tokens →

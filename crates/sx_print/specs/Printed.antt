@@ -20,7 +20,7 @@ IsAskedFor g (of_sort sort) least = (least ≡ 0)
     (slice_get p.symbols place ≡ Some (part sort least)))
 
 -- the term fits where this least level is asked for, under some sorts of as many variables at most
-pub record IsPrintable (g : Grammar) (variables least : ℕ) (t : Tree) : Type 0 where
+pub record IsPrintableTerm (g : Grammar) (variables least : ℕ) (t : Tree) : Type 0 where
   pub stems : List Stem
   pub place : Stem
   pub fits : Fits g stems place t
@@ -28,16 +28,16 @@ pub record IsPrintable (g : Grammar) (variables least : ℕ) (t : Tree) : Type 0
   pub asked : IsAskedFor g place least
 
 -- the tokens' texts, each with a blank behind it
-abbrev pub written : List Token → List ℕ
-written tokens = flat_map (λ token. token.text ++ 32 ∷ []) tokens
+abbrev pub written_tokens : List Token → List ℕ
+written_tokens tokens = flat_map (λ token. token.text ++ 32 ∷ []) tokens
 
 -- each token's text is UTF-8
 abbrev pub HaveUtf8 : List Token → Type 0
 HaveUtf8 tokens = AllByRecursion (λ token. IsUtf8 token.text) tokens
 
 -- the new text is the old one and the tokens, each with a blank behind it; they are UTF-8
-pub record Adds (tokens : List Token) (old new : List ℕ) : Type 0 where
-  pub text : new ≡ old ++ written tokens
+pub record AddsTokens (tokens : List Token) (old new : List ℕ) : Type 0 where
+  pub text : new ≡ old ++ written_tokens tokens
   pub utf8 : HaveUtf8 tokens
 
 -- how many of the symbols are no literals

@@ -8,7 +8,7 @@ use Rattle.sx_grammar.specs.Grammar.{Stem, of_kind, of_sort}
 use Rattle.sx_grammar.specs.Parts.{Parts, numbered}
 use Rattle.sx_grammar.specs.Told.{shapes_of}
 use Rattle.sx_grammar.specs.Print.{Fits}
-use Rattle.sx_print.specs.Printed.{IsPrintable}
+use Rattle.sx_print.specs.Printed.{IsPrintableTerm}
 
 -- the place where a term of the sort stands
 abbrev pub place_of : Sort → Stem
@@ -25,4 +25,4 @@ SortedTermsFit = (p : Parts) (vars : List Sort) (t : Tree) (sort : Sort) →
 abbrev pub SortedTermsArePrintable : Type 0
 SortedTermsArePrintable = (p : Parts) (vars : List Sort) (variables : ℕ) (t : Tree) (sort : Sort) →
     HasSort (shapes_of p) vars t sort → length vars ≤ variables →
-    IsPrintable (numbered p) variables 0 t
+    IsPrintableTerm (numbered p) variables 0 t

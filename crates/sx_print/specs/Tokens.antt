@@ -13,5 +13,8 @@ shown_mark stem_of (Lex kind) text = is_lexeme kind
 shown_mark stem_of Meta text = is_variable (stem_of text)
 
 -- the token that a piece shows as
-abbrev pub shown : (Text → Stem) → Piece → Token
-shown stem_of piece = record { mark = shown_mark stem_of piece.mark piece.text; text = piece.text }
+abbrev pub shown_piece : (Text → Stem) → Piece → Token
+shown_piece stem_of piece = record {
+  mark = shown_mark stem_of piece.mark piece.text;
+  text = piece.text;
+}

@@ -9,7 +9,7 @@ ghost use Rattle.sx_grammar.specs.Parts.{numbered};
 ghost use Rattle.sx_grammar.specs.Tables.{literals_of};
 ghost use Rattle.sx_grammar.specs.Print as plain;
 ghost use Rattle.sx_grammar.specs.Print.{Fits};
-ghost use Rattle.sx_print.specs.Printed.{text_of, IsPrintable};
+ghost use Rattle.sx_print.specs.Printed.{text_of, IsPrintableTerm};
 ghost use Rattle.sx_print.specs.Cut.{HasLexemes, IsCutInto, HasReading};
 ghost use Rattle.sx_term.specs.Limits.{most_depth};
 
@@ -31,7 +31,7 @@ pub fn print(
     into: &mut Vec<u8>,
 ) -> Result<(), NoMemory>
     requires depth { depth_of (tree term.now) ≤ most_depth }
-    requires printable { IsPrintable (numbered grammar.now.parts) (length vars.now) least
+    requires printable { IsPrintableTerm (numbered grammar.now.parts) (length vars.now) least
         (tree term.now) }
 
     // The printed tokens are appended. Their text is the same at each place: a place decides only

@@ -8,7 +8,7 @@ ghost use Rattle.sx_grammar.specs.Parts.{numbered};
 ghost use Rattle.sx_grammar.specs.Numbered.{symbol};
 ghost use Rattle.sx_grammar.specs.Tables.{literals_of, IsNumberedPair};
 ghost use Rattle.sx_grammar.specs.Print.{print_symbols, print, print_each};
-ghost use Rattle.sx_print.specs.Printed.{Adds, IsBuilt, AreBuilt, brackets_below, parts_in};
+ghost use Rattle.sx_print.specs.Printed.{AddsTokens, IsBuilt, AreBuilt, brackets_below, parts_in};
 ghost use Rattle.sx_print.specs.Rows.{HasLiteralsBelow};
 ghost use Rattle.sx_term.specs.Limits.{most_depth};
 
@@ -43,7 +43,7 @@ pub fn put_term(
     requires depth { depth_of (tree term.now) ≤ most_depth }
     requires built { IsBuilt (numbered grammar.now.parts) (length vars.now) (tree term.now) }
     ensures ok { OnOk result ((place : Stem) →
-        Adds (print (numbered grammar.now.parts) vars.now
+        AddsTokens (print (numbered grammar.now.parts) vars.now
         (tree term.now) place least) into.old.items into.new.items) }
     ensures appends { (more : List ℕ) × (into.new.items ≡ into.old.items ++ more) }
 {
@@ -80,7 +80,7 @@ fn put_symbols(
         ≡ length kids.now }
     requires built { AreBuilt (numbered grammar.now.parts) (length vars.now)
         (forest (map tree kids.now)) }
-    ensures ok { OnOk result (Adds
+    ensures ok { OnOk result (AddsTokens
         (print_symbols (map (symbol (literals_of grammar.now.parts)) symbols.now)
         (print_each (numbered grammar.now.parts) vars.now (forest (map tree kids.now))))
         into.old.items into.new.items) }

@@ -11,8 +11,8 @@ use Rattle.sx_lines.specs.Reading.{written}
 use Rattle.sx_lines.specs.Words.{is_name}
 use Rattle.sx_lines.proofs.Utf8Laws.{name_utf8}
 use Rattle.sx_interface.specs.Headers.{HeaderParts}
-use Rattle.sx_interface.specs.StatedHeader.{AreNames, row_lines}
-use Rattle.sx_unit.specs.Texts.{base_of}
+use Rattle.sx_interface.specs.StatedHeader.{ArePlainNames, row_lines}
+use Rattle.sx_unit.specs.Texts.{base_bytes}
 use Rattle.sx_unit.proofs.Shown.{line_utf8}
 
 -- a test that each byte is ASCII, which computes
@@ -39,14 +39,14 @@ written_utf8 [] h = IsUtf8-nil
 written_utf8 (text ∷ lines) h =
     IsUtf8-append (text ++ 10 ∷ []) (written lines) (line_utf8 text h.0) (written_utf8 lines h.1)
 
-rows_utf8 : (names : List (List ℕ)) → AreNames names →
+rows_utf8 : (names : List (List ℕ)) → ArePlainNames names →
     AllByRecursion IsUtf8 (row_lines (codes "import ") names ++ codes "---" ∷ [])
 rows_utf8 [] h = (low_utf8 (codes "---") refl, tt)
 rows_utf8 (name ∷ names) h = (row_utf8 (codes "import ") name refl h.0, rows_utf8 names h.1)
 
 pub base_utf8 : (h : HeaderParts) (shown : List ℕ) → is_name false h.name ≡ true →
-    is_name false h.language ≡ true → AreNames h.imports → IsUtf8 (shown ++ 10 ∷ []) →
-    IsUtf8 (base_of h shown)
+    is_name false h.language ≡ true → ArePlainNames h.imports → IsUtf8 (shown ++ 10 ∷ []) →
+    IsUtf8 (base_bytes h shown)
 base_utf8 h shown named language imports utf8 =
     IsUtf8-append
     (written ((codes "module " ++ h.name) ∷ (codes "language " ++ h.language) ∷

@@ -12,7 +12,7 @@ use Rattle.sx_accepting.specs.ReadLanguage.{Stated, ReadsLanguage}
 use Rattle.sx_headers.specs.ReadModule.{Module}
 use Rattle.sx_closure.specs.ReadModules.{ReadsModules}
 use Rattle.sx_closure.proofs.Agreeing.{modules_alike}
-use Rattle.sx_build.specs.BuildModules.{Progress, begun, MakesAfter, whole_plan, language_in}
+use Rattle.sx_build.specs.BuildModules.{Progress, none_made, MakesAfter, whole_plan, language_in}
 use Rattle.sx_build.specs.BuildModules.{BuildsOver, BuildsRead, BuildsModule}
 use Rattle.sx_build.specs.MadeModules.{with_made}
 use Rattle.sx_rebuilding.proofs.Turns.{Turn, turn_of}
@@ -43,7 +43,7 @@ build_ended name budgets auditors old new plan n builds files_are modules reads 
     let language = went_on (Untried (ReadsLanguage (language_in ms) old))
     (BuildsOver budgets auditors old ms) plan read.after read.goes in
     let l = language.given in
-    let all = went_on (MakesAfter budgets old l (begun auditors) ms)
+    let all = went_on (MakesAfter budgets old l (none_made auditors) ms)
     (λ end. Untried (λ result. result ≡ Ok (whole_plan end))) plan language.after
     language.goes in
     let planned : plan ≡ whole_plan all.given = ok_same plan (whole_plan all.given) all.goes.0 in
@@ -55,6 +55,6 @@ build_ended name budgets auditors old new plan n builds files_are modules reads 
       states = language.begins.0;
       end = all.given;
       is = files_are ∙ ap (λ (p : Plan). after p.files old) planned;
-      turn = turn_of budgets old l auditors ms all.given [] ms (begun auditors) all.before refl
+      turn = turn_of budgets old l auditors ms all.given [] ms (none_made auditors) all.before refl
           (λ none. none) all.begins m here;
     }

@@ -14,7 +14,7 @@ use Rattle.sx_imports.proofs.Lists.{split}
 use Rattle.sx_walking.specs.Opened.{AreOnce}
 use Rattle.sx_headers.specs.ReadModule.{Module}
 use Rattle.sx_closure.specs.Closures.{IsClosure}
-use Rattle.sx_closure.specs.ReadModules.{name_of}
+use Rattle.sx_closure.specs.ReadModules.{module_name}
 
 -- ---- names that are all new
 
@@ -91,17 +91,17 @@ few_among (name ∷ names) others once all =
 -- ---- a module of a closure
 
 pub names_more : (front : List Module) (m : Module) (name : List ℕ) →
-    Contains (map name_of front) name → Contains (map name_of (front ++ m ∷ [])) name
+    Contains (map module_name front) name → Contains (map module_name (front ++ m ∷ [])) name
 names_more front m name has =
-    subst (λ (l : List (List ℕ)). Contains l name) (sym (map-append name_of front (m ∷ [])))
-    (Contains-append_left (map name_of front) (name_of m ∷ []) name has)
+    subst (λ (l : List (List ℕ)). Contains l name) (sym (map-append module_name front (m ∷ [])))
+    (Contains-append_left (map module_name front) (module_name m ∷ []) name has)
 
 -- the name of the last module stands among those of all
 pub name_last : (front : List Module) (m : Module) →
-    Contains (map name_of (front ++ m ∷ [])) (name_of m)
+    Contains (map module_name (front ++ m ∷ [])) (module_name m)
 name_last front m =
-    subst (λ (l : List (List ℕ)). Contains l (name_of m))
-    (sym (map-append name_of front (m ∷ []))) (Contains-push (map name_of front) (name_of m))
+    subst (λ (l : List (List ℕ)). Contains l (module_name m))
+    (sym (map-append module_name front (m ∷ []))) (Contains-push (map module_name front) (module_name m))
 
 module _ (name : List ℕ) (ms : List Module) (closure : IsClosure name ms) where
   module _ (before behind : List Module) (m : Module) (is : ms ≡ before ++ m ∷ behind) where
@@ -112,9 +112,9 @@ module _ (name : List ℕ) (ms : List Module) (closure : IsClosure name ms) wher
 
     pub imports_few : EachNew (λ n. n) [] m.header.imports → length m.header.imports ≤ 255
     imports_few new =
-        let few = few_among m.header.imports (map name_of before)
+        let few = few_among m.header.imports (map module_name before)
         (new_once [] m.header.imports new) (closure.order before behind m is).after_them in
-        let names = length-map before name_of in
+        let names = length-map before module_name in
         let whole = ap (λ (l : List Module). length l) is in
         let parts = length-append before (m ∷ behind) in
         let all = closure.few in
@@ -122,11 +122,11 @@ module _ (name : List ℕ) (ms : List Module) (closure : IsClosure name ms) wher
 
   -- no name of the first modules stands among the others
   pub no_more : (front behind : List Module) → ms ≡ front ++ behind → (n : List ℕ) →
-      Contains (map name_of front) n → Contains (map name_of behind) n → ⊥
+      Contains (map module_name front) n → Contains (map module_name behind) n → ⊥
   no_more front [] is n has (k, below, same) = omega (arith, below)
   no_more front (x ∷ behind) is n has (zero, below, same) =
       (closure.order front behind x is).once
-      (subst (λ (other : List ℕ). Contains (map name_of front) other) (sym same) has)
+      (subst (λ (other : List ℕ). Contains (map module_name front) other) (sym same) has)
   no_more front (x ∷ behind) is n has (suc k, below, same) =
       no_more (front ++ x ∷ []) behind (is ∙ sym (append_assoc front (x ∷ []) behind)) n
       (names_more front x n has) (k, omega (arith, below), same)

@@ -3,7 +3,7 @@ use Rattle.std.proofs.Common.{◌≡◌, ℕ, false, List, [], ◌∷◌, map, r
 use Rattle.std.proofs.Common.{◌∙◌}
 use Rattle.std.specs.Prelude.{Result, Ok, Err}
 use Rattle.sx_outside.specs.Files.{Files, after}
-use Rattle.sx_words.specs.Commands.{AuditWord, Meant, builds, compiles, verifies, Spells}
+use Rattle.sx_words.specs.Commands.{AuditWord, Meant, builds, compiles, verifies, SpellsCommand}
 use Rattle.sx_words.proofs.CommandLaws.{one_command}
 use Rattle.sx_words.proofs.OneAnswer.{no_misfit}
 use Rattle.sx_audit.specs.Meaning.{Meaning}
@@ -23,7 +23,7 @@ use Rattle.sx_rebuilding.specs.VerifyAgain.{VerifyingFollowsBuilding}
 use Rattle.sx_top.specs.Calls.{Call}
 use Rattle.sx_top.specs.Commands.{Commands}
 use Rattle.sx_rebuilding.specs.GivenAgain.{CompileRepeatsBuild, VerifyFollowsBuild}
-use Rattle.sx_top.specs.Outcome.{budgets_of, audits_of, NamesFor, Runs, RunsFor, Outcome}
+use Rattle.sx_top.specs.Outcome.{budgets_of, audits_of, NamesFor, Runs, RunsFor, RunOutcome}
 
 -- none of those that are handed in is set
 none_set : (handed : List Meaning) → set_ones (map unset handed) ≡ []
@@ -36,7 +36,7 @@ unnamed_kept handed kept h =
     let same : map unset handed ≡ h.0 = sym (ok_same h.0 (map unset handed) h.1) in
     h.2 ∙ ap set_ones (sym same) ∙ none_set handed
 
-module _ (c : Call) (command : Meant) (spelled : Spells c.words command)
+module _ (c : Call) (command : Meant) (spelled : SpellsCommand c.words command)
     (none : audits_of command ≡ []) (files : Files) (result : Result Plan StepError)
     (sure : IsSure result) where
   -- the steps of the command, without auditors, and their tries
@@ -81,8 +81,8 @@ module _ (c : Call) (command : Meant) (spelled : Spells c.words command)
       let misfit = begins.0 in
       absurd (no_misfit c.words command misfit.0 spelled misfit.1)
 
-  pub ran : (made : ℕ) → Outcome c files result made → Ran
-  unfolding Outcome
+  pub ran : (made : ℕ) → RunOutcome c files result made → Ran
+  unfolding RunOutcome
   ran made h = after_command h.given h.before h.after h.begins h.goes
 
 -- the steps of the build that a call spells, with the auditors that it names
@@ -94,9 +94,9 @@ pub record Built (c : Call) (name : List ℕ) (tries nodes : ℕ) (old : Files) 
 
 built_by : (c : Call) (name : List ℕ) (tries nodes : ℕ) (audits : List AuditWord)
     (old : Files) (plan : Plan) (made : ℕ) →
-    Spells c.words (builds false name tries nodes audits) → Outcome c old (Ok plan) made →
+    SpellsCommand c.words (builds false name tries nodes audits) → RunOutcome c old (Ok plan) made →
     Built c name tries nodes old plan
-unfolding Outcome
+unfolding RunOutcome
 built_by c name tries nodes audits old plan made spelled comes =
     let command = builds false name tries nodes audits in
     let steps = went_on _ _ _ made comes in

@@ -19,7 +19,7 @@ use Rattle.sx_replay.specs.Fronts.{whole}
 use Rattle.sx_replay.specs.Replay.{IsWithin}
 use Rattle.sx_plain.specs.Plain.{image}
 use Rattle.sx_rewrite.specs.Lowers.{IsImageOf}
-use Rattle.sx_rewrite.specs.Puts.{IsSmall}
+use Rattle.sx_rewrite.specs.Puts.{IsSmallTerm}
 use Rattle.sx_rewrite.specs.Stored.{signature_of}
 use Rattle.sx_rewrite.proofs.Lowerings.{lowered_are_derivations}
 use Rattle.sx_extcheck.specs.declared.budgets.Budgets.{Budgets}
@@ -27,7 +27,8 @@ use Rattle.sx_notation.specs.Language.{sort_when, sorts_with}
 use Rattle.sx_typing.specs.Dialects.{DialectData, IsDialect}
 use Rattle.sx_typing.specs.Goals.{dialect_rules}
 use Rattle.sx_typing.specs.MainGoals.{input_at, main_terms, main_goal}
-use Rattle.sx_typing.specs.Outcomes.{bare, no_hypotheses}
+use Rattle.sx_typing.specs.Outcomes.{nameless}
+use Rattle.sx_rules.specs.Rules.{no_hypotheses}
 use Rattle.sx_typing.proofs.Walks.{typings_are_first}
 use Rattle.sx_unit.specs.Modules.{ModuleData}
 use Rattle.sx_unit.specs.PrintedParts.{PrintedData}
@@ -38,7 +39,7 @@ use Rattle.sx_steps.specs.Steps.{Untried}
 use Rattle.sx_steps.proofs.StepsOn.{went_on}
 use Rattle.sx_uses.specs.ReadUses.{ReadsUses}
 use Rattle.sx_accepting.specs.ExtendedLanguages.{unextended}
-use Rattle.sx_accepting.specs.Extending.{Extends}
+use Rattle.sx_accepting.specs.Extending.{ExtendsLanguage}
 use Rattle.sx_accepting.specs.ReadLanguage.{base_in}
 use Rattle.sx_headers.specs.FreeImports.{HasFreeImports}
 use Rattle.sx_importing.specs.MakeEnvironment.{SeesImports}
@@ -47,7 +48,7 @@ use Rattle.sx_compiling.specs.Given.{Given, interfaces_in, seen_in}
 use Rattle.sx_compiling.specs.Headline.{HasUnit}
 use Rattle.sx_compiling.specs.MakeUnit.{MakesUnit, MakesIn, MakesSeeing, MakesExtended}
 use Rattle.sx_compiling.specs.MakeUnit.{MakesReached}
-use Rattle.sx_compiling.specs.Reached.{HasLanguage, IsReached, HasGround, module_over}
+use Rattle.sx_compiling.specs.Reached.{HasNamedLanguage, IsReached, HasGround, module_over}
 use Rattle.sx_compiling.proofs.MadeUnits.{dialect_by, dialect_is}
 use Rattle.sx_compiling.proofs.LoweredGoals.{lowered_goal}
 use Rattle.sx_rebuilding.proofs.LoweredWithin.{AllSmall, lowered_few, goal_small}
@@ -62,7 +63,7 @@ pub record MadeUnit (budgets : Budgets) (files : Files) (g : Given) (unit : Unit
     pub gives : GivesUnit (module_over ground) budgets unit
 
 pub made_unit : (budgets : Budgets) (files : Files) (g : Given) (unit : UnitData) (tries : ℕ) →
-    HasLanguage g → MakesUnit budgets files g (Ok unit) tries → MadeUnit budgets files g unit
+    HasNamedLanguage g → MakesUnit budgets files g (Ok unit) tries → MadeUnit budgets files g unit
 made_unit budgets files g unit tries l made =
     let free = went_on
     (Untried (HasFreeImports g.file (literals_of g.language.language.parts) g.read))
@@ -72,7 +73,7 @@ made_unit budgets files g unit tries l made =
     (MakesExtended budgets g) unit free.after free.goes in
     let xs = reached.given in
     let extended = went_on
-    (Extends (base_in g.language) budgets xs (unextended g.language.language))
+    (ExtendsLanguage (base_in g.language) budgets xs (unextended g.language.language))
     (λ x. MakesSeeing budgets g (seen_in g xs x)) unit reached.after reached.goes in
     let s = seen_in g xs extended.given in
     let seen = went_on (Untried (SeesImports g.file s (interfaces_in g))) (MakesIn budgets g s) unit
@@ -96,7 +97,7 @@ made_unit budgets files g unit tries l made =
 
 environment_small : (places : List Place) (environment subject : Tree) (input : Sort) →
     sorts_with In places ≡ input ∷ [] → AllSmall (main_terms places environment subject) →
-    IsSmall environment
+    IsSmallTerm environment
 environment_small [] environment subject input e h = cc
 environment_small (p ∷ places) environment subject input e h =
     by_role p.role p.sort e h (environment_small places environment subject input)
@@ -105,14 +106,14 @@ environment_small (p ∷ places) environment subject input e h =
         sort_when In role sort ++ sorts_with In places ≡ input ∷ [] →
         AllSmall (input_at environment subject role ++ main_terms places environment subject) →
         (sorts_with In places ≡ input ∷ [] → AllSmall (main_terms places environment subject) →
-        IsSmall environment) → IsSmall environment
+        IsSmallTerm environment) → IsSmallTerm environment
     by_role In sort e h more = h.0
     by_role Sub sort e h more = more e h.1
     by_role Out sort e h more = more e h
 
 -- ---- its derivation
 
-module _ (budgets : Budgets) (files : Files) (g : Given) (l : HasLanguage g) (u : UnitData)
+module _ (budgets : Budgets) (files : Files) (g : Given) (l : HasNamedLanguage g) (u : UnitData)
     (made : MadeUnit budgets files g u) where
   abbrev pub m : ModuleData
   m = module_over made.ground
@@ -189,7 +190,7 @@ module _ (budgets : Budgets) (files : Files) (g : Given) (l : HasLanguage g) (u 
       low.lowered.judgement unit.compiled.first.derives.1 lowered.1.same_form lowered.1.images
       low.are.subject
 
-  pub derived : DerivesGoal (modes_of forms) (bare d.language.rules) no_hypotheses asked
+  pub derived : DerivesGoal (modes_of forms) (nameless d.language.rules) no_hypotheses asked
       (low.lowered.proof, terms.signature ∷ [])
   derived = (
     low.lowered.judgement,
@@ -202,7 +203,7 @@ module _ (budgets : Budgets) (files : Files) (g : Given) (l : HasLanguage g) (u 
   -- it has no more nodes than the budget
   pub few : nodes_of low.lowered.proof ≤ budgets.nodes
   few =
-      lowered_few (modes_of forms) (bare d.language.rules) (signature_of forms)
+      lowered_few (modes_of forms) (nameless d.language.rules) (signature_of forms)
       (shapes_of d.language.parts) (shapes_of d.parts) d.set is.accepted is.base
       low.typing.answer.0 budgets.nodes low.lowered low.rewriting
 
@@ -211,16 +212,16 @@ module _ (budgets : Budgets) (files : Files) (g : Given) (l : HasLanguage g) (u 
   depth =
       (environment_small (places_at forms d.language.main.form) environment terms.subject _
       (ap (λ f. sorts_with In (places_or_none f)) is.main.is ∙ is.main.input)
-      (goal_small (modes_of forms) (bare d.language.rules) (signature_of forms)
+      (goal_small (modes_of forms) (nameless d.language.rules) (signature_of forms)
       (shapes_of d.language.parts) (shapes_of d.parts) d.set is.accepted is.base
       low.typing.answer.0 budgets.nodes low.lowered low.rewriting asked (terms.signature ∷ [])
       derived)).0
 
   -- and its list is replayed within the limits
-  pub within : IsWithin (modes_of forms) (bare d.language.rules) no_hypotheses asked
+  pub within : IsWithin (modes_of forms) (nameless d.language.rules) no_hypotheses asked
       (whole (terms.signature ∷ [])) (order_of low.lowered.proof)
   within =
-      lowered_within (modes_of forms) (bare d.language.rules)
+      lowered_within (modes_of forms) (nameless d.language.rules)
       (signature_of forms) (shapes_of d.language.parts) (shapes_of d.parts) d.set is.accepted
       is.base low.typing.answer.0 budgets.nodes low.lowered low.rewriting asked
       (terms.signature ∷ []) derived

@@ -8,7 +8,7 @@ use Rattle.std.specs.Char.{is_ascii_alphabetic}
 use Rattle.std.proofs.lemmas.Bool.{leb-true}
 use Rattle.std.proofs.lemmas.Fmt.{length-decimal-le}
 use Rattle.std.proofs.lemmas.List.{length-append}
-use Rattle.sx_lines.specs.Lines.{lines_from, texts}
+use Rattle.sx_lines.specs.Lines.{lines_from, line_texts}
 use Rattle.sx_lines.specs.Reading.{written}
 use Rattle.sx_lines.specs.Words.{is_name, is_name_byte}
 use Rattle.sx_lines.proofs.ReadLaws.{numbered}
@@ -44,7 +44,7 @@ text_of names list = written (list_lines names list)
 -- it states the list
 pub text_states : (names : List (List ℕ)) (list : List EntryOf) → AreRuleNames names →
     AllByRecursion (IsEntry names) list →
-    StatesList names (texts (lines_from 1 (text_of names list))) list
+    StatesList names (line_texts (lines_from 1 (text_of names list))) list
 text_states names list named are =
     list_stated names (lines_from 1 (text_of names list)) list (numbered 1 (text_of names list))
     (list_round names list named are)

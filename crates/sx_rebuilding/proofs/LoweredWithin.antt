@@ -20,7 +20,7 @@ use Rattle.sx_replay.specs.Replay.{IsWithin}
 use Rattle.sx_auditing.proofs.Once.{all-back, all-joined}
 use Rattle.sx_rewrite.specs.Accepted.{Accepted, Signature, IsAccepted}
 use Rattle.sx_rewrite.specs.Measured.{node_terms, AllPass, ProofPasses, ProofsPass}
-use Rattle.sx_rewrite.specs.Puts.{IsSmall}
+use Rattle.sx_rewrite.specs.Puts.{IsSmallTerm}
 use Rattle.sx_rewrite.specs.Rewriting.{first_over, Rewritten, IsRewritten}
 use Rattle.sx_rewrite.proofs.BasedTerms.{small-here}
 use Rattle.sx_rewrite.proofs.Counted.{lowered_are_counted}
@@ -35,7 +35,7 @@ fits t =
     else if nat_lt 1000000 (size_of t) then false else true
 
 abbrev pub AllSmall : List Tree → Type 0
-AllSmall ts = AllByRecursion IsSmall ts
+AllSmall ts = AllByRecursion IsSmallTerm ts
 
 none_over : (ts : List Tree) → first_over ts ≡ None → AllPass fits ts
 none_over [] e = tt
@@ -57,7 +57,7 @@ all_small : (ts : List Tree) → AllPass fits ts → AllSmall ts
 all_small [] h = tt
 all_small (t ∷ ts) h =
     let tests = both_false (nat_lt 1000 (depth_of t)) (nat_lt 1000000 (size_of t)) h.0 in
-    let small : IsSmall t =
+    let small : IsSmallTerm t =
     (ltb-false 1000 (depth_of t) tests.0, ltb-false 1000000 (size_of t) tests.1) in
     (small, all_small ts h.1)
 
@@ -91,7 +91,7 @@ module _ (modes : Modes) (rules : List Rule) where
       AllPass fits (node_terms (slice_get rules r) binds) →
       AllSmall (judgement_instance (bound_by binds) rule.conclusion).places
   concluded_small r binds rule at h =
-      all-back IsSmall binds (judgement_instance (bound_by binds) rule.conclusion).places
+      all-back IsSmallTerm binds (judgement_instance (bound_by binds) rule.conclusion).places
       (all_small (node_terms (Some rule) binds)
       (subst (λ (o : Option Rule). AllPass fits (node_terms o binds)) at h))
 
@@ -109,7 +109,7 @@ module _ (modes : Modes) (rules : List Rule) where
         let own = judgement_instance (bound_by binds) rule.conclusion in
         subst (λ (o : Option Rule). AllSmall (made_below modes rules (asked_of o)
         (bound_by binds) kids ++ concluded_of modes o (bound_by binds))) (sym at)
-        (all-joined IsSmall
+        (all-joined IsSmallTerm
         (made_below modes rules (judgements_of rule.premises) (bound_by binds) kids)
         (outputs_of modes own)
         (below_small (judgements_of rule.premises) (bound_by binds) kids each h.1)
@@ -122,10 +122,10 @@ module _ (modes : Modes) (rules : List Rule) where
     below_small (j ∷ js) s no_more d h = tt
     below_small (j ∷ js) s (p ⊳ kids) d h =
         let asked = judgement_instance s j in
-        all-joined IsSmall (inputs_of modes asked)
+        all-joined IsSmallTerm (inputs_of modes asked)
         (made_in modes rules p ++ made_below modes rules js s kids)
         (inputs_small (modes asked.form) asked.places (root_small asked p d.0 h.0))
-        (all-joined IsSmall (made_in modes rules p) (made_below modes rules js s kids)
+        (all-joined IsSmallTerm (made_in modes rules p) (made_below modes rules js s kids)
         (made_small asked p d.0 h.0) (below_small js s kids d.1 h.1))
 
   -- ---- lowered derivations

@@ -14,7 +14,7 @@ use Rattle.sx_headers.specs.ReadModule.{Module}
 use Rattle.sx_importing.specs.ReadImports.{ReadsImports}
 use Rattle.sx_closure.specs.Closures.{HaveLanguage, IsClosure}
 use Rattle.sx_closure.specs.ReadImport.{ReadsNamed}
-use Rattle.sx_closure.specs.ReadModules.{name_of}
+use Rattle.sx_closure.specs.ReadModules.{module_name}
 use Rattle.sx_closure.proofs.Closing.{are_closure}
 use Rattle.sx_build.specs.BuildModules.{language_in}
 use Rattle.sx_build.specs.BuiltModules.{HoldsTexts, IsNoFileOf}
@@ -99,7 +99,7 @@ module _ (name : List ℕ) (budgets : Budgets) (auditors : List Meaning) (old ne
   closure = (are_closure name old b.modules b.reads).0
 
   -- the later modules have other names than the first ones
-  later_apart : (n : List ℕ) → Contains (map name_of (t.before ++ m ∷ [])) n →
+  later_apart : (n : List ℕ) → Contains (map module_name (t.before ++ m ∷ [])) n →
       IsApart n t.rest.made
   later_apart n has =
       apart_by t.rest.made n
@@ -119,7 +119,7 @@ module _ (name : List ℕ) (budgets : Budgets) (auditors : List Meaning) (old ne
   -- the module was read from its file
   pub read_old : ReadsNamed old m.header.name (Ok m)
   read_old =
-      all_at (λ (x : Module). ReadsNamed old (name_of x) (Ok x)) b.modules m
+      all_at (λ (x : Module). ReadsNamed old (module_name x) (Ok x)) b.modules m
       (are_closure name old b.modules b.reads).1 b.among
 
   -- the language is read from its file
@@ -139,5 +139,5 @@ module _ (name : List ℕ) (budgets : Budgets) (auditors : List Meaning) (old ne
       (λ n has. let first = (closure.order t.before t.behind m t.stands).after_them n has in
       same_interface old new t.start.made t.rest.made own parts n
       (λ same. (closure.order t.before t.behind m t.stands).once
-      (subst (λ (x : List ℕ). Contains (map name_of t.before) x) same first))
+      (subst (λ (x : List ℕ). Contains (map module_name t.before) x) same first))
       (later_apart n (names_more t.before m n first))) (Ok t.one.imports) t.one.reads

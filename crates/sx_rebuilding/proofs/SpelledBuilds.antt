@@ -4,7 +4,8 @@ use Rattle.std.proofs.Common.{inr, arith}
 use Rattle.sx_lines.specs.Words.{is_name}
 use Rattle.sx_words.specs.Commands.{Given, core, tries, nodes, audit, Settings, AuditWord}
 use Rattle.sx_words.specs.Commands.{builds, samples, IsGiven, with_option, with_options}
-use Rattle.sx_words.specs.Commands.{nothing_said, MayStand, or_most, meant, SpellsNamed, Spells}
+use Rattle.sx_words.specs.Commands.{nothing_said, MayStand, or_most, meant, SpellsNamed}
+use Rattle.sx_words.specs.Commands.{SpellsCommand}
 
 -- no more nodes than 1,000,000 are said
 abbrev HasFewNodes : Settings → Type 0
@@ -52,7 +53,7 @@ no_sample number most size of_core name audits is = cc
 
 -- a build has a name, and at most 1,000,000 nodes to spend
 pub spelled_build : (words : List (List ℕ)) (name : List ℕ) (most size : ℕ)
-    (audits : List AuditWord) → Spells words (builds false name most size audits) →
+    (audits : List AuditWord) → SpellsCommand words (builds false name most size audits) →
     (is_name false name ≡ true) × (size ≤ 1000000)
 spelled_build words name most size audits (inl h) =
     named_build words false name most size audits h

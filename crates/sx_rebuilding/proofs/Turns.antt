@@ -18,7 +18,7 @@ use Rattle.sx_headers.specs.ModuleFiles.{module_file}
 use Rattle.sx_headers.specs.ReadModule.{Module}
 use Rattle.sx_importing.specs.ReadImports.{ImportData, ReadsImports}
 use Rattle.sx_compiling.specs.MakeUnit.{MakesUnit}
-use Rattle.sx_closure.specs.ReadModules.{name_of}
+use Rattle.sx_closure.specs.ReadModules.{module_name}
 use Rattle.sx_build.specs.BuildModules.{Progress, grown, given_in, ShowsUnit, MakesWith, MakesNext}
 use Rattle.sx_build.specs.BuildModules.{MakesAfter}
 use Rattle.sx_build.specs.MadeModules.{Made, made_of, with_made}
@@ -71,7 +71,7 @@ module _ (budgets : Budgets) (old : Files) (l : Stated) where
   -- the modules that are left are made, with their names
   pub record AllMore (start : Progress) (ms : List Module) (end : Progress) : Type 0 where
     pub made : List Made
-    pub named : map (λ x. x.name) made ≡ map name_of ms
+    pub named : map (λ x. x.name) made ≡ map module_name ms
     pub is : end.made ≡ start.made ++ made
 
   -- so one was made, and then the others

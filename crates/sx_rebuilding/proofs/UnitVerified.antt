@@ -5,7 +5,7 @@ use Rattle.std.specs.Prelude.{Ok}
 use Rattle.std.specs.List.{AllByRecursion}
 use Rattle.std.specs.Str.{IsUtf8}
 use Rattle.sha2.specs.Sha256.{sha256}
-use Rattle.sx_lines.specs.Lines.{lines_from, texts}
+use Rattle.sx_lines.specs.Lines.{lines_from, line_texts}
 use Rattle.sx_lines.specs.Reading.{kept, written}
 use Rattle.sx_lines.specs.Words.{is_name}
 use Rattle.sx_grammar.specs.Told.{shapes_of}
@@ -13,7 +13,7 @@ use Rattle.sx_rules.specs.Derivations.{Proof, nodes_of}
 use Rattle.sx_rules.specs.EntryView.{entries}
 use Rattle.sx_rules.specs.ListText.{IsEntry, entry_line, StatesList}
 use Rattle.sx_rules.specs.Orders.{Entry, of_rule, of_given, order_of}
-use Rattle.sx_rules.specs.RuleNames.{AreNames, AreDistinct}
+use Rattle.sx_rules.specs.RuleNames.{AreNames, AreNamesDistinct}
 use Rattle.sx_rules.specs.Views.{modes_of}
 use Rattle.sx_replay.specs.Fronts.{whole}
 use Rattle.sx_replay.specs.Replay.{IsWithin}
@@ -23,8 +23,9 @@ use Rattle.sx_interface.specs.StatedHeader.{StatesHeader}
 use Rattle.sx_extcheck.specs.declared.budgets.Budgets.{Budgets}
 use Rattle.sx_notation.specs.Language.{LanguageData}
 use Rattle.sx_typing.specs.Dialects.{IsDialect}
-use Rattle.sx_typing.specs.Growing.{unextended}
-use Rattle.sx_typing.specs.Outcomes.{bare, no_hypotheses}
+use Rattle.sx_typing.specs.Growing.{unextended_dialect}
+use Rattle.sx_typing.specs.Outcomes.{nameless}
+use Rattle.sx_rules.specs.Rules.{no_hypotheses}
 use Rattle.sx_unit.specs.Texts.{print_text, print_line, base_text, entry_text, derivation_text}
 use Rattle.sx_unit.specs.Modules.{ModuleData}
 use Rattle.sx_unit.specs.PrintedParts.{PrintedData}
@@ -42,7 +43,7 @@ use Rattle.sx_dialects.proofs.LanguagesBegun.{extended_is_dialect}
 use Rattle.sx_headers.specs.ReadModule.{Module}
 use Rattle.sx_compiling.specs.Given.{Given, interfaces_in}
 use Rattle.sx_compiling.specs.Headline.{IsInterfaceText}
-use Rattle.sx_compiling.specs.Reached.{HasLanguage, HasModule, seen_over}
+use Rattle.sx_compiling.specs.Reached.{HasNamedLanguage, HasModule, seen_over}
 use Rattle.sx_compiling.proofs.InterfaceTexts.{parts_from}
 use Rattle.sx_compiling.proofs.UnitInterfaces.{interface_stated}
 use Rattle.sx_build.specs.BuiltModules.{HoldsTexts}
@@ -79,7 +80,7 @@ module _ (name : List ℕ) (budgets : Budgets) (old new : Files) (g : Given) (u 
     (StatesLanguage g.read.header.language) g.language)
     (imports : AreKept (interface_file name) new g.read.header.imports g.imports)
     (holds : HoldsTexts new (made_of name u)) where
-  abbrev l : HasLanguage g
+  abbrev l : HasNamedLanguage g
   l = record { bytes = language.given; states = language.goes }
 
   abbrev h : HasModule name g
@@ -90,7 +91,7 @@ module _ (name : List ℕ) (budgets : Budgets) (old new : Files) (g : Given) (u 
 
   -- ---- the rules
 
-  is_language : IsDialect (unextended d)
+  is_language : IsDialect (unextended_dialect d)
   is_language =
       extended_is_dialect g.read.header.language language.given g.language language.goes
       (record { tries = 0; nodes = 0 }) [] _ 0 (refl, refl)
@@ -101,7 +102,7 @@ module _ (name : List ℕ) (budgets : Budgets) (old new : Files) (g : Given) (u 
   named : AreNames names
   named = stated_named g.read.header.language language.given g.language language.goes
 
-  distinct : AreDistinct names
+  distinct : AreNamesDistinct names
   distinct = all_distinct (shapes_of d.parts) d.forms [] d.rules is_language.rule_set.1
 
   module _ (made : MadeUnit budgets old g u) where
@@ -203,9 +204,9 @@ module _ (name : List ℕ) (budgets : Budgets) (old new : Files) (g : Given) (u 
           let derived = limited.derived budgets old g l u made in
           lists_fit d.rules derived.0 proof (list_again list) derived.3 (same_entries list)
 
-      list_states : StatesList names (texts (lines_from 1 u.derivation)) (list_again list)
+      list_states : StatesList names (line_texts (lines_from 1 u.derivation)) (list_again list)
       list_states =
-          subst (λ (b : List ℕ). StatesList names (texts (lines_from 1 b)) (list_again list))
+          subst (λ (b : List ℕ). StatesList names (line_texts (lines_from 1 b)) (list_again list))
           (sym text_is)
           (text_states names (list_again list) (record { named = named; distinct = distinct })
           fit.0)
@@ -218,11 +219,11 @@ module _ (name : List ℕ) (budgets : Budgets) (old new : Files) (g : Given) (u 
           let same = ap (λ (b : List ℕ). length b) text_is in
           omega (arith, size, nodes, few, few_nodes, same)
 
-      replayed : IsWithin (modes_of d.forms) (bare d.rules) no_hypotheses
+      replayed : IsWithin (modes_of d.forms) (nameless d.rules) no_hypotheses
           (limited.asked budgets old g l u made) (whole (t.signature ∷ []))
           (entries (list_again list))
       replayed =
-          subst (λ (es : List Entry). IsWithin (modes_of d.forms) (bare d.rules) no_hypotheses
+          subst (λ (es : List Entry). IsWithin (modes_of d.forms) (nameless d.rules) no_hypotheses
           (limited.asked budgets old g l u made) (whole (t.signature ∷ [])) es)
           (sym (same_entries list)) (limited.within budgets old g l u made)
 

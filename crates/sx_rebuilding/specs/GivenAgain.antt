@@ -1,22 +1,22 @@
 -- Commands that are given again over the files that a build left.
 use Rattle.std.specs.Prelude.{◌≡◌, ℕ, false, List, [], Result, Ok, Contains}
 use Rattle.sx_outside.specs.Files.{Files, after}
-use Rattle.sx_words.specs.Commands.{AuditWord, builds, compiles, verifies, Spells}
+use Rattle.sx_words.specs.Commands.{AuditWord, builds, compiles, verifies, SpellsCommand}
 use Rattle.sx_steps.specs.declared.step_error.StepError.{StepError}
 use Rattle.sx_steps.specs.Agree.{IsSure}
 use Rattle.sx_steps.specs.Work.{Plan}
 use Rattle.sx_headers.specs.ReadModule.{Module}
 use Rattle.sx_closure.specs.ReadModules.{ReadsModules}
 use Rattle.sx_top.specs.Calls.{Call}
-use Rattle.sx_top.specs.Outcome.{Outcome}
+use Rattle.sx_top.specs.Outcome.{RunOutcome}
 
 -- the call builds a module with these words for auditors, and the files are as it leaves them
 pub record HasBuilt (c : Call) (name : List ℕ) (tries nodes : ℕ) (audits : List AuditWord)
     (old new : Files) : Type 0 where
-  pub spells : Spells c.words (builds false name tries nodes audits)
+  pub spells : SpellsCommand c.words (builds false name tries nodes audits)
   pub plan : Plan
   pub made : ℕ
-  pub comes : Outcome c old (Ok plan) made
+  pub comes : RunOutcome c old (Ok plan) made
   pub leaves : new ≡ after plan.files old
 
 -- one of the modules that are reached from this one by imports
@@ -30,8 +30,8 @@ abbrev pub CompileRepeatsBuild : Type 0
 CompileRepeatsBuild =
     (b c : Call) (name : List ℕ) (tries nodes : ℕ) (old new : Files) →
     HasBuilt b name tries nodes [] old new → (m : Module) → IsReached name old m →
-    Spells c.words (compiles m.header.name tries nodes []) →
-    (result : Result Plan StepError) (made : ℕ) → Outcome c new result made → IsSure result →
+    SpellsCommand c.words (compiles m.header.name tries nodes []) →
+    (result : Result Plan StepError) (made : ℕ) → RunOutcome c new result made → IsSure result →
     (plan : Plan) × (result ≡ Ok plan)
     × ((file : List ℕ) → after plan.files new file ≡ new file)
 
@@ -41,6 +41,6 @@ abbrev pub VerifyFollowsBuild : Type 0
 VerifyFollowsBuild =
     (b c : Call) (name : List ℕ) (tries nodes : ℕ) (audits : List AuditWord) (old new : Files) →
     HasBuilt b name tries nodes audits old new → (m : Module) → IsReached name old m →
-    Spells c.words (verifies false m.header.name) →
-    (result : Result Plan StepError) (made : ℕ) → Outcome c new result made → IsSure result →
+    SpellsCommand c.words (verifies false m.header.name) →
+    (result : Result Plan StepError) (made : ℕ) → RunOutcome c new result made → IsSure result →
     (plan : Plan) × (result ≡ Ok plan)

@@ -3,16 +3,19 @@ use Rattle.std.proofs.Common.{◌≡◌, ℕ, ◌+◌, ◌≤◌, ◌&&◌, Bool
 use Rattle.std.specs.Prelude.{slice_get, nat_eq, max}
 use Rattle.sx_term.specs.Tree.{Tree}
 use Rattle.sx_rules.specs.Instances.{instance}
-use Rattle.sx_rules.specs.Rules.{Judgement, Premise, holds, apart, Rule, Hypotheses, judgement_instance}
+use Rattle.sx_rules.specs.Rules.{Judgement, Premise, holds, apart, Rule, Hypotheses}
+use Rattle.sx_rules.specs.Rules.{judgement_instance}
 use Rattle.sx_rules.specs.Modes.{Modes, inputs_of, outputs_of, Goal}
 use Rattle.sx_rules.specs.Orders.{Entry, of_given, of_rule}
-use Rattle.sx_arena.specs.Matching.{Assignment, unbound, same_all, match_all, filled}
+use Rattle.sx_arena.specs.Matching.{Assignment, nothing_bound, same_all, match_all, filled}
 use Rattle.sx_arena.specs.Limits.{are_apart}
 use Rattle.sx_replay.specs.declared.noted.Noted.{Noted}
 use Rattle.sx_replay.specs.Limits.{first_deep, first_big, earlier, note, nothing_noted}
 use Rattle.sx_replay.specs.Fronts.{Stage, open_one, whole}
 use Rattle.sx_replay.specs.Laws.{BeginningsAreWithin}
-use Rattle.sx_replay.specs.Machine.{Frame, Move, clash, ends, asks, move_when, move_matched, premises_move, hand_on, given_named, rule_named, entry_move, wrong, open_at, ended, read}
+use Rattle.sx_replay.specs.Machine.{Frame, Move, clash, ends, asks, move_when, move_matched}
+use Rattle.sx_replay.specs.Machine.{premises_move, hand_on, given_named, rule_named, entry_move}
+use Rattle.sx_replay.specs.Machine.{wrong, open_at, ended, read}
 use Rattle.sx_replay.proofs.Answered.{IsReadingOf, front_reads, open_within}
 
 -- nothing is noted
@@ -71,9 +74,9 @@ module _ (modes : Modes) (hyps : Hypotheses) where
   rule_quiet : (o : Option Rule) (g : Goal) (fs : List Frame) (n : Noted) → MoveQuiet (rule_named modes hyps o g fs n) → IsQuiet n
   rule_quiet None g fs n h = absurd h
   rule_quiet (Some rule) g fs n h =
-      matched_quiet (match_all (inputs_of modes rule.conclusion) g.terms unbound) (λ env. premises_move modes hyps (hand_on modes hyps fs) fs rule rule.premises env n) n
+      matched_quiet (match_all (inputs_of modes rule.conclusion) g.terms nothing_bound) (λ env. premises_move modes hyps (hand_on modes hyps fs) fs rule rule.premises env n) n
       (λ env. premises_quiet fs (hand_quiet fs) rule rule.premises env n)
-      (when_quiet (nat_eq rule.conclusion.form g.form) (move_matched (match_all (inputs_of modes rule.conclusion) g.terms unbound) (λ env. premises_move modes hyps (hand_on modes hyps fs) fs rule rule.premises env n)) h)
+      (when_quiet (nat_eq rule.conclusion.form g.form) (move_matched (match_all (inputs_of modes rule.conclusion) g.terms nothing_bound) (λ env. premises_move modes hyps (hand_on modes hyps fs) fs rule rule.premises env n)) h)
 
   entry_quiet : (rules : List Rule) (e : Entry) (g : Goal) (fs : List Frame) (n : Noted) → MoveQuiet (entry_move modes hyps rules e g fs n) → IsQuiet n
   entry_quiet rules (of_given i) g fs n h = given_quiet (slice_get hyps.judgements i) g fs n h

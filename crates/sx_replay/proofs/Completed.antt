@@ -4,19 +4,23 @@ use Rattle.std.specs.Prelude.{slice_get, nat_eq, max}
 use Rattle.std.proofs.lemmas.Bool.{eq-eqb}
 use Rattle.sx_term.specs.Tree.{Tree}
 use Rattle.sx_rules.specs.Instances.{instance}
-use Rattle.sx_rules.specs.Rules.{Judgement, Premise, holds, apart, Rule, Hypotheses, judgement_instance}
+use Rattle.sx_rules.specs.Rules.{Judgement, Premise, holds, apart, Rule, Hypotheses}
+use Rattle.sx_rules.specs.Rules.{judgement_instance}
 use Rattle.sx_rules.specs.Modes.{Modes, inputs_of, outputs_of, Goal, goal_of, AllModed}
-use Rattle.sx_rules.specs.Derivations.{Proof, Proofs, by, given, no_more, ◌⊳◌, height_of, most_height}
+use Rattle.sx_rules.specs.Derivations.{Proof, Proofs, by, given, no_more, ◌⊳◌, height_of}
+use Rattle.sx_rules.specs.Derivations.{most_height}
 use Rattle.sx_rules.specs.Orders.{Entry, of_rule, order_of, order_of_all}
 use Rattle.sx_rules.specs.First.{DerivesGoal}
-use Rattle.sx_arena.specs.Matching.{Assignment, unbound, same_all, match_all, filled}
+use Rattle.sx_arena.specs.Matching.{Assignment, nothing_bound, same_all, match_all, filled}
 use Rattle.sx_arena.proofs.Sameness.{and_both, same_all_self}
 use Rattle.sx_arena.proofs.Matchings.{when_true}
 use Rattle.sx_arena.proofs.Filled.{true-apart}
 use Rattle.sx_replay.specs.declared.noted.Noted.{Noted}
 use Rattle.sx_replay.specs.Limits.{note}
-use Rattle.sx_replay.specs.Fronts.{Partial, unbegun, begun, partial_order, partial_height, rule_match, made_in, ArePassed, IsBegun}
-use Rattle.sx_replay.specs.Machine.{Frame, Move, asks, move_when, move_matched, premises_move, hand_on, given_move, given_named, rule_named, open_at, read}
+use Rattle.sx_replay.specs.Fronts.{Partial, unbegun, begun, partial_order, partial_height}
+use Rattle.sx_replay.specs.Fronts.{rule_match, made_in, ArePassed, IsBegun}
+use Rattle.sx_replay.specs.Machine.{Frame, Move, asks, move_when, move_matched, premises_move}
+use Rattle.sx_replay.specs.Machine.{hand_on, given_move, given_named, rule_named, open_at, read}
 use Rattle.sx_replay.proofs.Noting.{note-none, note-append}
 use Rattle.sx_replay.proofs.Passed.{derivation_passes}
 
@@ -78,9 +82,9 @@ module _ (modes : Modes) (rules : List Rule) (hyps : Hypotheses) where
   rule_enters goal r rule env kids before rest last at_r matches passed reads frames n d xs le =
       let e : ℕ = max d (length frames + 1) in
       let ys = order_of_all kids ++ xs in
-      let w = when_true (nat_eq rule.conclusion.form goal.form) (match_all (inputs_of modes rule.conclusion) goal.terms unbound) env matches in
+      let w = when_true (nat_eq rule.conclusion.form goal.form) (match_all (inputs_of modes rule.conclusion) goal.terms nothing_bound) env matches in
       ap (λ (o : Option Rule). read modes rules hyps ys e (rule_named modes hyps o goal frames n)) at_r
-      ∙ ap (λ (b : Bool). read modes rules hyps ys e (move_when b (move_matched (match_all (inputs_of modes rule.conclusion) goal.terms unbound) (λ env. premises_from frames rule rule.premises env n)))) w.0
+      ∙ ap (λ (b : Bool). read modes rules hyps ys e (move_when b (move_matched (match_all (inputs_of modes rule.conclusion) goal.terms nothing_bound) (λ env. premises_from frames rule rule.premises env n)))) w.0
       ∙ ap (λ (o : Option Assignment). read modes rules hyps ys e (move_matched o (λ env. premises_from frames rule rule.premises env n))) w.1
       ∙ passed_read frames rule rule.premises env kids before rest last passed reads n e xs (omega arith)
       ∙ (let q : max e (length frames + 1 + most_height kids) ≡ max d (length frames + (most_height kids + 1)) = omega arith in

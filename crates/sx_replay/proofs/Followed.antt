@@ -18,11 +18,16 @@ use Rattle.sx_replay.specs.declared.reader.Reader.{Reader}
 use Rattle.sx_replay.specs.declared.step.Step.{Step}
 use Rattle.sx_replay.specs.declared.step.Step.TheVariants.{Clash, Done, Asks}
 use Rattle.sx_replay.specs.declared.replay_error.ReplayError.{ReplayError}
-use Rattle.sx_replay.specs.declared.replay_error.ReplayError.TheVariants.{Memory, WrongAt, EndsEarly, LongList, TooDeep, TooBig, DeepList}
+use Rattle.sx_replay.specs.declared.replay_error.ReplayError.TheVariants.{Memory, WrongAt}
+use Rattle.sx_replay.specs.declared.replay_error.ReplayError.TheVariants.{EndsEarly, LongList}
+use Rattle.sx_replay.specs.declared.replay_error.ReplayError.TheVariants.{TooDeep, TooBig, DeepList}
 use Rattle.sx_replay.specs.Limits.{nothing_noted}
-use Rattle.sx_replay.specs.Machine.{Frame, Move, clash, ends, asks, entry_move, open_at, ended, read}
-use Rattle.sx_replay.specs.Reader.{reader_trees, reader_envs, base_trees, stack_on, stack, IsReader, GoesOn, hyps_in, goal_in, IsStep}
-use Rattle.sx_replay.specs.Following.{IsChecked, reading, StandsOpen, StandsWhole, StandsAt, StandsBefore, IsRefused}
+use Rattle.sx_replay.specs.Machine.{Frame, Move, clash, ends, asks, entry_move, open_at, ended}
+use Rattle.sx_replay.specs.Machine.{read}
+use Rattle.sx_replay.specs.Reader.{reader_trees, reader_envs, base_trees, stack_on, stack}
+use Rattle.sx_replay.specs.Reader.{IsReplayReader, ReplayGoesOn, hyps_in, replay_goal, IsReplayStep}
+use Rattle.sx_replay.specs.Following.{IsEntryChecked, reading, StandsOpen, StandsWhole, StandsAt}
+use Rattle.sx_replay.specs.Following.{StandsBefore, IsRefused}
 use Rattle.sx_replay.proofs.Readers.{stack_length, goes_same, goes_then, pairs_same, base_facts}
 
 pub get_any : (xs : List EntryOf) (i : ℕ) (d x : EntryOf) → i < length xs → get_or xs i d ≡ get_or xs i x
@@ -62,42 +67,42 @@ read_more modes rules hyps (x ∷ xs) e d (asks goal frames m) g fs n k h = read
 -- the step of an entry at a goal
 abbrev pub IsStepped : Modes → List Rule → List Pair → Reader → Reader → ℕ → List ℕ → List Judgement → Step → Entry → Type 0
 IsStepped modes rules pairs now new here inputs js step e =
-    GoesOn rules now new × IsStep modes rules [] new ends step (entry_move modes (hyps_in pairs now js) rules e (goal_in now here inputs) (stack modes rules now) now.noted)
+    ReplayGoesOn rules now new × IsReplayStep modes rules [] new ends step (entry_move modes (hyps_in pairs now js) rules e (replay_goal now here inputs) (stack modes rules now) now.noted)
 
 module _ (modes : Modes) (rules : List Rule) (facts : List Fact) (pairs : List Pair) (old : Reader) (form : ℕ) (terms : List ℕ) (list : List EntryOf) where
   -- the first entries are read, and the reader stands at the goal
   pub record Following (now : Reader) (i : ℕ) (here : ℕ) (inputs : List ℕ) : Type 0 where
-    pub grows : GoesOn rules old now
+    pub grows : ReplayGoesOn rules old now
     pub below : AreBelow (length (reader_trees now)) inputs
     pub noted : now.noted ≡ nothing_noted
     pub reads : (js : List Judgement) → AreFacts modes (base_trees old) js facts →
-        (d : ℕ) × (reading modes rules (hyps_in pairs old js) (goal_in old form terms) (take i (entries list)) ≡ open_at (goal_in now here inputs) (stack modes rules now) nothing_noted d) × (d ≤ 3000)
+        (d : ℕ) × (reading modes rules (hyps_in pairs old js) (replay_goal old form terms) (take i (entries list)) ≡ open_at (replay_goal now here inputs) (stack modes rules now) nothing_noted d) × (d ≤ 3000)
 
-  pub following_first : IsReader rules old → AreBelow (length (reader_trees old)) terms → old.noted ≡ nothing_noted → old.waiting.items ≡ [] → Following old 0 form terms
+  pub following_first : IsReplayReader rules old → AreBelow (length (reader_trees old)) terms → old.noted ≡ nothing_noted → old.waiting.items ≡ [] → Following old 0 form terms
   following_first h b n w = record {
     grows = goes_same rules old h;
     below = b;
     noted = n;
-    reads = λ js a. (0, ap (λ (fs : List Frame). open_at (goal_in old form terms) fs nothing_noted 0) (sym (ap (stack_on modes rules (reader_envs old) []) w)), omega arith);
+    reads = λ js a. (0, ap (λ (fs : List Frame). open_at (replay_goal old form terms) fs nothing_noted 0) (sym (ap (stack_on modes rules (reader_envs old) []) w)), omega arith);
   }
 
   pub followed_end : (now : Reader) (i here : ℕ) (inputs : List ℕ) → Following now i here inputs → length list ≤ i → (js : List Judgement) → AreFacts modes (base_trees old) js facts →
-      StandsOpen modes rules (hyps_in pairs old js) (goal_in old form terms) (entries list)
+      StandsOpen modes rules (hyps_in pairs old js) (replay_goal old form terms) (entries list)
   followed_end now i here inputs f l js a =
       let r = f.reads js a in
-      (goal_in now here inputs, stack modes rules now, r.0, ap (reading modes rules (hyps_in pairs old js) (goal_in old form terms)) (sym (take_all list i l)) ∙ r.1, r.2)
+      (replay_goal now here inputs, stack modes rules now, r.0, ap (reading modes rules (hyps_in pairs old js) (replay_goal old form terms)) (sym (take_all list i l)) ∙ r.1, r.2)
 
   module _ (now new : Reader) (i here level : ℕ) (inputs : List ℕ) (x : EntryOf) (step : Step) (hp : ArePairs (length (base_trees old)) pairs) (f : Following now i here inputs) (l : i < length list) (e : x ≡ get_or list i x) (lv : level ≡ length now.waiting.items)
-      (h : (js : List Judgement) → AreFacts modes (base_trees now) js facts → GoesOn rules now new × IsStep modes rules [] new ends step (entry_move modes (hyps_in pairs now js) rules (entry x) (goal_in now here inputs) (stack modes rules now) now.noted)) where
+      (h : (js : List Judgement) → AreFacts modes (base_trees now) js facts → ReplayGoesOn rules now new × IsReplayStep modes rules [] new ends step (entry_move modes (hyps_in pairs now js) rules (entry x) (replay_goal now here inputs) (stack modes rules now) now.noted)) where
     -- the move of the entry, and where reading stands after it
     pub record Entered (js : List Judgement) : Type 0 where
-      pub grows : GoesOn rules now new
+      pub grows : ReplayGoesOn rules now new
       pub move : Move
-      pub is : IsStep modes rules [] new ends step move
+      pub is : IsReplayStep modes rules [] new ends step move
       pub depth : ℕ
-      pub before : reading modes rules (hyps_in pairs old js) (goal_in old form terms) (take i (entries list)) ≡ open_at (goal_in now here inputs) (stack modes rules now) nothing_noted depth
+      pub before : reading modes rules (hyps_in pairs old js) (replay_goal old form terms) (take i (entries list)) ≡ open_at (replay_goal now here inputs) (stack modes rules now) nothing_noted depth
       pub within : depth ≤ 3000
-      pub after : reading modes rules (hyps_in pairs old js) (goal_in old form terms) (take (i + 1) (entries list)) ≡ read modes rules (hyps_in pairs old js) [] (max depth (level + 1)) move
+      pub after : reading modes rules (hyps_in pairs old js) (replay_goal old form terms) (take (i + 1) (entries list)) ≡ read modes rules (hyps_in pairs old js) [] (max depth (level + 1)) move
 
     pub entered : (js : List Judgement) → AreFacts modes (base_trees old) js facts → Entered js
     entered js a =
@@ -106,9 +111,9 @@ module _ (modes : Modes) (rules : List Rule) (facts : List Fact) (pairs : List P
         let q : pairs_of (reader_trees now) pairs ≡ pairs_of (reader_trees old) pairs = pairs_same rules old now f.grows pairs hp in
         let n : length (stack modes rules now) ≡ level = (let z = stack_length modes rules (reader_envs now) [] now.waiting.items in omega arith) in
         let hyps = hyps_in pairs old js in
-        let mv = entry_move modes (hyps_in pairs now js) rules (entry x) (goal_in now here inputs) (stack modes rules now) now.noted in
-        let m : entry_move modes hyps rules (entry x) (goal_in now here inputs) (stack modes rules now) nothing_noted ≡ mv =
-        λ k. entry_move modes (record { judgements = js; pairs = sym q k }) rules (entry x) (goal_in now here inputs) (stack modes rules now) (sym f.noted k) in
+        let mv = entry_move modes (hyps_in pairs now js) rules (entry x) (replay_goal now here inputs) (stack modes rules now) now.noted in
+        let m : entry_move modes hyps rules (entry x) (replay_goal now here inputs) (stack modes rules now) nothing_noted ≡ mv =
+        λ k. entry_move modes (record { judgements = js; pairs = sym q k }) rules (entry x) (replay_goal now here inputs) (stack modes rules now) (sym f.noted k) in
         record {
           grows = s.0;
           move = mv;
@@ -116,49 +121,49 @@ module _ (modes : Modes) (rules : List Rule) (facts : List Fact) (pairs : List P
           depth = r.0;
           before = r.1;
           within = r.2;
-          after = ap (reading modes rules hyps (goal_in old form terms)) (take_more list i x l e)
-              ∙ read_more modes rules hyps (take i (entries list)) (entry x) 0 (asks (goal_in old form terms) [] nothing_noted) (goal_in now here inputs) (stack modes rules now) nothing_noted r.0 r.1
+          after = ap (reading modes rules hyps (replay_goal old form terms)) (take_more list i x l e)
+              ∙ read_more modes rules hyps (take i (entries list)) (entry x) 0 (asks (replay_goal old form terms) [] nothing_noted) (replay_goal now here inputs) (stack modes rules now) nothing_noted r.0 r.1
               ∙ (λ k. read modes rules hyps [] (max r.0 (n k + 1)) (m k));
         }
 
-    stands_before : (js : List Judgement) → Entered js → StandsBefore modes rules (hyps_in pairs old js) (goal_in old form terms) (entries list) (i + 1)
+    stands_before : (js : List Judgement) → Entered js → StandsBefore modes rules (hyps_in pairs old js) (replay_goal old form terms) (entries list) (i + 1)
     stands_before js t =
         let c : i + 1 - 1 ≡ i = omega arith in
         let n = length-map list entry in (
           (omega arith),
           (omega arith),
           (
-            goal_in now here inputs,
+            replay_goal now here inputs,
             stack modes rules now,
             t.depth,
-            ap (λ (k : ℕ). reading modes rules (hyps_in pairs old js) (goal_in old form terms) (take k (entries list))) c ∙ t.before,
+            ap (λ (k : ℕ). reading modes rules (hyps_in pairs old js) (replay_goal old form terms) (take k (entries list))) c ∙ t.before,
             t.within,
           ),
         )
 
-    pub wrong_entry : step ≡ Clash → (number : ℕ) → number ≡ i + 1 → (js : List Judgement) → AreFacts modes (base_trees old) js facts → IsRefused modes rules (hyps_in pairs old js) (goal_in old form terms) (entries list) (WrongAt number)
+    pub wrong_entry : step ≡ Clash → (number : ℕ) → number ≡ i + 1 → (js : List Judgement) → AreFacts modes (base_trees old) js facts → IsRefused modes rules (hyps_in pairs old js) (replay_goal old form terms) (entries list) (WrongAt number)
     wrong_entry s number en js a =
         let t = entered js a in
-        let c : t.move ≡ clash = subst (λ (y : Step). IsStep modes rules [] new ends y t.move) s t.is in
-        subst (λ (k : ℕ). IsRefused modes rules (hyps_in pairs old js) (goal_in old form terms) (entries list) (WrongAt k)) (sym en)
+        let c : t.move ≡ clash = subst (λ (y : Step). IsReplayStep modes rules [] new ends y t.move) s t.is in
+        subst (λ (k : ℕ). IsRefused modes rules (hyps_in pairs old js) (replay_goal old form terms) (entries list) (WrongAt k)) (sym en)
         (stands_before js t, t.after ∙ ap (read modes rules (hyps_in pairs old js) [] (max t.depth (level + 1))) c)
 
     -- where reading stands with outputs or with a goal
     stands_done : (outs : Vec ℕ Global) → step ≡ Done outs → (js : List Judgement) (t : Entered js) →
-        reading modes rules (hyps_in pairs old js) (goal_in old form terms) (take (i + 1) (entries list)) ≡ ended (map (tree_at (reader_trees new)) outs.items) new.noted (max t.depth (level + 1)) []
+        reading modes rules (hyps_in pairs old js) (replay_goal old form terms) (take (i + 1) (entries list)) ≡ ended (map (tree_at (reader_trees new)) outs.items) new.noted (max t.depth (level + 1)) []
     stands_done outs s js t =
-        let c = subst (λ (y : Step). IsStep modes rules [] new ends y t.move) s t.is in
+        let c = subst (λ (y : Step). IsReplayStep modes rules [] new ends y t.move) s t.is in
         t.after ∙ ap (read modes rules (hyps_in pairs old js) [] (max t.depth (level + 1))) c.2
 
     stands_asks : (there : ℕ) (made : Vec ℕ Global) → step ≡ Asks there made → (js : List Judgement) (t : Entered js) →
-        reading modes rules (hyps_in pairs old js) (goal_in old form terms) (take (i + 1) (entries list)) ≡ open_at (goal_in new there made.items) (stack modes rules new) new.noted (max t.depth (level + 1))
+        reading modes rules (hyps_in pairs old js) (replay_goal old form terms) (take (i + 1) (entries list)) ≡ open_at (replay_goal new there made.items) (stack modes rules new) new.noted (max t.depth (level + 1))
     stands_asks there made s js t =
-        let c = subst (λ (y : Step). IsStep modes rules [] new ends y t.move) s t.is in
+        let c = subst (λ (y : Step). IsReplayStep modes rules [] new ends y t.move) s t.is in
         t.after ∙ ap (read modes rules (hyps_in pairs old js) [] (max t.depth (level + 1))) c.1
 
-    refused_at : (number : ℕ) → number ≡ i + 1 → (err : ReplayError) → IsChecked level new.noted number (Err err) → (js : List Judgement) (t : Entered js) →
-        StandsAt modes rules (hyps_in pairs old js) (goal_in old form terms) (take (i + 1) (entries list)) new.noted (max t.depth (level + 1)) →
-        IsRefused modes rules (hyps_in pairs old js) (goal_in old form terms) (entries list) err
+    refused_at : (number : ℕ) → number ≡ i + 1 → (err : ReplayError) → IsEntryChecked level new.noted number (Err err) → (js : List Judgement) (t : Entered js) →
+        StandsAt modes rules (hyps_in pairs old js) (replay_goal old form terms) (take (i + 1) (entries list)) new.noted (max t.depth (level + 1)) →
+        IsRefused modes rules (hyps_in pairs old js) (replay_goal old form terms) (entries list) err
     refused_at number en Memory c js t st = absurd c
     refused_at number en (WrongAt k) c js t st = absurd c
     refused_at number en EndsEarly c js t st = absurd c
@@ -166,7 +171,7 @@ module _ (modes : Modes) (rules : List Rule) (facts : List Fact) (pairs : List P
     refused_at number en (DeepList k) c js t st =
         let ck = c.0 in
         let w = t.within in
-        subst (λ (j : ℕ). IsRefused modes rules (hyps_in pairs old js) (goal_in old form terms) (entries list) (DeepList j)) (sym (c.1 ∙ en))
+        subst (λ (j : ℕ). IsRefused modes rules (hyps_in pairs old js) (replay_goal old form terms) (entries list) (DeepList j)) (sym (c.1 ∙ en))
         (new.noted, max t.depth (level + 1), stands_before js t, st, (omega arith))
     refused_at number en (TooDeep m) c js t st =
         let ck = c.0 in
@@ -177,33 +182,33 @@ module _ (modes : Modes) (rules : List Rule) (facts : List Fact) (pairs : List P
         let w = t.within in
         (i + 1, new.noted, max t.depth (level + 1), stands_before js t, st, (omega arith), c.1, c.2)
 
-    pub done_refused : (outs : Vec ℕ Global) → step ≡ Done outs → (number : ℕ) → number ≡ i + 1 → (err : ReplayError) → IsChecked level new.noted number (Err err) → (js : List Judgement) → AreFacts modes (base_trees old) js facts →
-        IsRefused modes rules (hyps_in pairs old js) (goal_in old form terms) (entries list) err
+    pub done_refused : (outs : Vec ℕ Global) → step ≡ Done outs → (number : ℕ) → number ≡ i + 1 → (err : ReplayError) → IsEntryChecked level new.noted number (Err err) → (js : List Judgement) → AreFacts modes (base_trees old) js facts →
+        IsRefused modes rules (hyps_in pairs old js) (replay_goal old form terms) (entries list) err
     done_refused outs s number en err c js a =
         let t = entered js a in
         refused_at number en err c js t (inr (map (tree_at (reader_trees new)) outs.items, stands_done outs s js t))
 
-    pub asks_refused : (there : ℕ) (made : Vec ℕ Global) → step ≡ Asks there made → (number : ℕ) → number ≡ i + 1 → (err : ReplayError) → IsChecked level new.noted number (Err err) → (js : List Judgement) → AreFacts modes (base_trees old) js facts →
-        IsRefused modes rules (hyps_in pairs old js) (goal_in old form terms) (entries list) err
+    pub asks_refused : (there : ℕ) (made : Vec ℕ Global) → step ≡ Asks there made → (number : ℕ) → number ≡ i + 1 → (err : ReplayError) → IsEntryChecked level new.noted number (Err err) → (js : List Judgement) → AreFacts modes (base_trees old) js facts →
+        IsRefused modes rules (hyps_in pairs old js) (replay_goal old form terms) (entries list) err
     asks_refused there made s number en err c js a =
         let t = entered js a in
-        refused_at number en err c js t (inl (goal_in new there made.items, stack modes rules new, stands_asks there made s js t))
+        refused_at number en err c js t (inl (replay_goal new there made.items, stack modes rules new, stands_asks there made s js t))
 
     pub long_list : (outs : Vec ℕ Global) → step ≡ Done outs → level < 3000 → new.noted ≡ nothing_noted → (number : ℕ) → number ≡ i + 2 → i + 1 < length list → (js : List Judgement) → AreFacts modes (base_trees old) js facts →
-        IsRefused modes rules (hyps_in pairs old js) (goal_in old form terms) (entries list) (LongList number)
+        IsRefused modes rules (hyps_in pairs old js) (replay_goal old form terms) (entries list) (LongList number)
     long_list outs s lt nn number en more js a =
         let t = entered js a in
         let w = t.within in
         let c : i + 2 - 1 ≡ i + 1 = omega arith in
         let n = length-map list entry in
-        subst (λ (j : ℕ). IsRefused modes rules (hyps_in pairs old js) (goal_in old form terms) (entries list) (LongList j)) (sym en) (
+        subst (λ (j : ℕ). IsRefused modes rules (hyps_in pairs old js) (replay_goal old form terms) (entries list) (LongList j)) (sym en) (
           (omega arith),
           (omega arith),
           (
             map (tree_at (reader_trees new)) outs.items,
             (
               max t.depth (level + 1),
-              ap (λ (k : ℕ). reading modes rules (hyps_in pairs old js) (goal_in old form terms) (take k (entries list))) c ∙ stands_done outs s js t
+              ap (λ (k : ℕ). reading modes rules (hyps_in pairs old js) (replay_goal old form terms) (take k (entries list))) c ∙ stands_done outs s js t
                   ∙ ap (λ (y : Noted). ended (map (tree_at (reader_trees new)) outs.items) y (max t.depth (level + 1)) []) nn,
               (omega arith),
             ),
@@ -211,12 +216,12 @@ module _ (modes : Modes) (rules : List Rule) (facts : List Fact) (pairs : List P
         )
 
     pub whole_list : (outs : Vec ℕ Global) → step ≡ Done outs → level < 3000 → new.noted ≡ nothing_noted → length list ≤ i + 1 → (js : List Judgement) → AreFacts modes (base_trees old) js facts →
-        StandsWhole modes rules (hyps_in pairs old js) (goal_in old form terms) (entries list) (map (tree_at (reader_trees new)) outs.items)
+        StandsWhole modes rules (hyps_in pairs old js) (replay_goal old form terms) (entries list) (map (tree_at (reader_trees new)) outs.items)
     whole_list outs s lt nn le js a =
         let t = entered js a in
         let w = t.within in (
           max t.depth (level + 1),
-          ap (reading modes rules (hyps_in pairs old js) (goal_in old form terms)) (sym (take_all list (i + 1) le)) ∙ stands_done outs s js t
+          ap (reading modes rules (hyps_in pairs old js) (replay_goal old form terms)) (sym (take_all list (i + 1) le)) ∙ stands_done outs s js t
               ∙ ap (λ (y : Noted). ended (map (tree_at (reader_trees new)) outs.items) y (max t.depth (level + 1)) []) nn,
           (omega arith),
         )
@@ -224,7 +229,7 @@ module _ (modes : Modes) (rules : List Rule) (facts : List Fact) (pairs : List P
     pub following_more : (there : ℕ) (made : Vec ℕ Global) → step ≡ Asks there made → level < 3000 → new.noted ≡ nothing_noted → (js : List Judgement) → AreFacts modes (base_trees old) js facts → Following new (i + 1) there made.items
     following_more there made s lt nn js0 a0 =
         let t0 = entered js0 a0 in
-        let c = subst (λ (y : Step). IsStep modes rules [] new ends y t0.move) s t0.is in
+        let c = subst (λ (y : Step). IsReplayStep modes rules [] new ends y t0.move) s t0.is in
         record {
           grows = goes_then rules old now new f.grows t0.grows;
           below = c.0;
@@ -232,11 +237,11 @@ module _ (modes : Modes) (rules : List Rule) (facts : List Fact) (pairs : List P
           reads = λ js a.
               let t = entered js a in
               let w = t.within in
-              (max t.depth (level + 1), stands_asks there made s js t ∙ ap (λ (y : Noted). open_at (goal_in new there made.items) (stack modes rules new) y (max t.depth (level + 1))) nn, (omega arith));
+              (max t.depth (level + 1), stands_asks there made s js t ∙ ap (λ (y : Noted). open_at (replay_goal new there made.items) (stack modes rules new) y (max t.depth (level + 1))) nn, (omega arith));
         }
 
     pub done_below : (outs : Vec ℕ Global) → step ≡ Done outs → (js : List Judgement) → AreFacts modes (base_trees old) js facts → AreBelow (length (reader_trees new)) outs.items
     done_below outs s js a =
         let t = entered js a in
-        let c = subst (λ (y : Step). IsStep modes rules [] new ends y t.move) s t.is in
+        let c = subst (λ (y : Step). IsReplayStep modes rules [] new ends y t.move) s t.is in
         c.0

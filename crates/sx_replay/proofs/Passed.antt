@@ -4,20 +4,23 @@ use Rattle.std.specs.Prelude.{slice_get, nat_eq}
 use Rattle.std.proofs.lemmas.Bool.{eq-eqb}
 use Rattle.sx_term.specs.Tree.{Tree}
 use Rattle.sx_rules.specs.Instances.{instance, StandsAmong, bound_by}
-use Rattle.sx_rules.specs.Rules.{Judgement, Premise, holds, apart, Rule, Hypotheses, judgement_instance, judgements_of, AreApart, AllApart}
+use Rattle.sx_rules.specs.Rules.{Judgement, Premise, holds, apart, Rule, Hypotheses}
+use Rattle.sx_rules.specs.Rules.{judgement_instance, judgements_of, AreApart, AllApart}
 use Rattle.sx_rules.specs.Modes.{Modes, inputs_of, outputs_of, Goal, goal_of, AreModed, AllModed}
 use Rattle.sx_rules.specs.Derivations.{Proofs, by, no_more, ◌⊳◌, Derives, DeriveEach}
 use Rattle.sx_rules.specs.First.{DerivesGoal}
 use Rattle.sx_rules.proofs.Instancing.{instance-same, map_instance-same}
 use Rattle.sx_rules.proofs.Moded.{inputs-map, outputs-map, judgement_known, goal_same, moded-at}
-use Rattle.sx_arena.specs.Matching.{Assignment, unbound, match_when, match_all, value_or, filled, IsBound, Extends, Agrees}
+use Rattle.sx_arena.specs.Matching.{Assignment, nothing_bound, match_when, match_all, value_or}
+use Rattle.sx_arena.specs.Matching.{filled, IsBound, ExtendsAssignment, Agrees}
 use Rattle.sx_arena.specs.Limits.{first_values}
 use Rattle.sx_arena.proofs.Sameness.{nat_same}
 use Rattle.sx_arena.proofs.Matchings.{when_true, match_all-matches, match_all_found, stays-bound}
 use Rattle.sx_arena.proofs.Filled.{filled-instance, filled-inputs, filled-outputs, filled-goal, first_values-at, length-first_values}
-use Rattle.sx_replay.specs.Fronts.{asked_of, concluded_of, rule_match, made_in, made_below, ArePassed}
+use Rattle.sx_replay.specs.Fronts.{asked_of, concluded_of, rule_match, made_in, made_below}
+use Rattle.sx_replay.specs.Fronts.{ArePassed}
 
-unbound_agrees : (s : ℕ → Tree) → Agrees unbound s
+unbound_agrees : (s : ℕ → Tree) → Agrees nothing_bound s
 unbound_agrees s v u e = cc
 
 agrees_filled : (env : Assignment) → Agrees env (filled env)
@@ -29,9 +32,9 @@ pub rule_bindings : (modes : Modes) (rule : Rule) (s : ℕ → Tree) → (env : 
 rule_bindings modes rule s =
     let patterns = inputs_of modes rule.conclusion in
     let terms = inputs_of modes (judgement_instance s rule.conclusion) in
-    let m = match_all_found patterns terms unbound s (unbound_agrees s) (sym (inputs-map s (modes rule.conclusion.form) rule.conclusion.places)) in
-    let k = match_all-matches patterns terms unbound m.0 m.1 in
-    (m.0, ap (λ b. match_when b (match_all patterns terms unbound)) (eq-eqb rule.conclusion.form rule.conclusion.form refl) ∙ m.1, m.2, k.every)
+    let m = match_all_found patterns terms nothing_bound s (unbound_agrees s) (sym (inputs-map s (modes rule.conclusion.form) rule.conclusion.places)) in
+    let k = match_all-matches patterns terms nothing_bound m.0 m.1 in
+    (m.0, ap (λ b. match_when b (match_all patterns terms nothing_bound)) (eq-eqb rule.conclusion.form rule.conclusion.form refl) ∙ m.1, m.2, k.every)
 
 -- what a moded rule binds are its variables
 bound_within : (modes : Modes) (rule : Rule) (ps : List Premise) (Bound : ℕ → Type 0) → AreModed modes Bound ps rule → (v : ℕ) → Bound v → v < length rule.sorts
@@ -122,7 +125,7 @@ module _ (modes : Modes) (rules : List Rule) (hyps : Hypotheses) where
         }
 
   -- bindings stay while premises are passed
-  passed_extends : (ps : List Premise) (env : Assignment) (kids : Proofs) (terms : List Tree) (rest : List Premise) (last : Assignment) → ArePassed modes rules hyps ps env kids terms rest last → Extends env last
+  passed_extends : (ps : List Premise) (env : Assignment) (kids : Proofs) (terms : List Tree) (rest : List Premise) (last : Assignment) → ArePassed modes rules hyps ps env kids terms rest last → ExtendsAssignment env last
   passed_extends [] env no_more terms rest last h = λ v u e. ap (λ (g : Assignment). g v) h.2 ∙ e
   passed_extends [] env (p ⊳ kids) terms rest last h = absurd h
   passed_extends (apart t u ∷ ps) env kids terms rest last h = passed_extends ps env kids terms rest last h.1
@@ -133,7 +136,7 @@ module _ (modes : Modes) (rules : List Rule) (hyps : Hypotheses) where
       λ v u e. x v u (k.extends v u e)
 
   -- a bound variable has its value at the end, among the first ones
-  same_value : (n : ℕ) (env last : Assignment) → Extends env last → (v : ℕ) → IsBound env v → v < n → filled env v ≡ bound_by (first_values n (filled last)) v
+  same_value : (n : ℕ) (env last : Assignment) → ExtendsAssignment env last → (v : ℕ) → IsBound env v → v < n → filled env v ≡ bound_by (first_values n (filled last)) v
   same_value n env last x v (u, e) l = ap value_or (e ∙ sym (x v u e)) ∙ sym (first_values-at n (filled last) v l)
 
   record Derived (s : ℕ → Tree) (ps : List Premise) (kids : Proofs) (terms : List Tree) : Type 0 where
@@ -166,7 +169,7 @@ module _ (modes : Modes) (rules : List Rule) (hyps : Hypotheses) where
       let patterns = outputs_of modes j in
       let mm = match_all-matches patterns outs env more found in
       let x = passed_extends ps more kids later [] last h in
-      let xe : Extends env last = λ v u e. x v u (mm.extends v u e) in
+      let xe : ExtendsAssignment env last = λ v u e. x v u (mm.extends v u e) in
       let w = bound_within modes rule ps (λ v. Bound v ⊎ StandsAmong v patterns) m.1 in
       let ins : inputs_of modes (judgement_instance (filled env) j) ≡ inputs_of modes (judgement_instance s j) =
       inputs-map (filled env) (modes j.form) j.places
@@ -202,8 +205,8 @@ module _ (modes : Modes) (rules : List Rule) (hyps : Hypotheses) where
         let s = bound_by values in
         let patterns = inputs_of modes rule.conclusion in
         let m = moded-at modes rules r rule moded at_r in
-        let w = when_true (nat_eq rule.conclusion.form goal.form) (match_all patterns goal.terms unbound) env matches in
-        let mm = match_all-matches patterns goal.terms unbound env w.1 in
+        let w = when_true (nat_eq rule.conclusion.form goal.form) (match_all patterns goal.terms nothing_bound) env matches in
+        let mm = match_all-matches patterns goal.terms nothing_bound env w.1 in
         let x = passed_extends rule.premises env kids before [] last passed in
         let within = bound_within modes rule rule.premises (λ v. StandsAmong v patterns) m in
         let d = passed_derive rule rule.premises env kids before last (λ v. StandsAmong v patterns) mm.every m passed in

@@ -17,7 +17,7 @@ use Rattle.sx_arena.specs.declared.arena.Arena.{Arena}
 use Rattle.sx_arena.specs.declared.pairs.Pair.{Pair}
 use Rattle.sx_arena.specs.Arena.{trees, tree_at, AreBelow}
 use Rattle.sx_arena.specs.Binds.{env_at}
-use Rattle.sx_arena.specs.Pairs.{pairs_of, ArePairs, IsTold}
+use Rattle.sx_arena.specs.Pairs.{pairs_of, ArePairs, IsTruthTold}
 use Rattle.sx_arena.specs.Views.{premise_of}
 use Rattle.sx_arena.proofs.Parted.{pairs_stay}
 use Rattle.sx_arena.proofs.Placed.{maps_drop}
@@ -27,7 +27,9 @@ use Rattle.sx_replay.specs.declared.noted.Noted.{Noted}
 use Rattle.sx_replay.specs.declared.step.Step.TheVariants.{Clash, Done, Asks}
 use Rattle.sx_replay.specs.Limits.{note}
 use Rattle.sx_replay.specs.Machine.{Move, asks, move_when, premises_move}
-use Rattle.sx_replay.specs.Reader.{reader_trees, reader_envs, frame_of, stack_on, stack, WaitsAt, IsReader, Grows, places_made, IsMade, hyps_in, IsPremises}
+use Rattle.sx_replay.specs.Reader.{reader_trees, reader_envs, frame_of, stack_on, stack, WaitsAt}
+use Rattle.sx_replay.specs.Reader.{IsReplayReader, NamesStay, places_made, AreTermsMade, hyps_in}
+use Rattle.sx_replay.specs.Reader.{IsReplayPremises}
 use Rattle.sx_replay.proofs.Readers.{envs_length, stack_stays, env_later, stack_one, frame_is, grows_same, grows_then, grows_terms, grows_waiting}
 
 -- the terms of the premises are no deeper than 1,000
@@ -58,12 +60,12 @@ module _ (modes : Modes) (rules : List Rule) (pairs : List Pair) (old : Reader) 
 
   -- the premises up to the ones that are left hold
   pub record Reached (mid : Reader) (ps rest : List Premise) : Type 0 where
-    pub grows : Grows rules old mid
+    pub grows : NamesStay rules old mid
     pub waiting : mid.waiting.items ≡ old.waiting.items
     pub noted : mid.noted ≡ old.noted
     pub same : (js : List Judgement) (next : List Tree → Noted → Move) → move_of js next ps ≡ move_of js next rest
 
-  pub reached_first : (ps : List Premise) → IsReader rules old → Reached old ps ps
+  pub reached_first : (ps : List Premise) → IsReplayReader rules old → Reached old ps ps
   reached_first ps h = record { grows = grows_same rules old h; waiting = refl; noted = refl; same = λ js next. refl }
 
   pub reached_as : (mid : Reader) (ps rest other : List Premise) → rest ≡ other → Reached mid ps rest → Reached mid ps other
@@ -72,7 +74,7 @@ module _ (modes : Modes) (rules : List Rule) (pairs : List Pair) (old : Reader) 
 module _ (modes : Modes) (rules : List Rule) (pairs : List Pair) (old mid new : Reader) (rule : Rule) (env : ℕ) (ps : List Premise) (hp : ArePairs (length (reader_trees old)) pairs) (le : env ≤ length old.binds.cells.items) where
   -- two terms that are to be apart
   apart_told : (b : Bool) (t u : Tree) (rest : List Premise) → Reached modes rules pairs old rule env mid ps (apart t u ∷ rest) →
-      IsTold mid.arena new.arena b (are_apart (record { judgements = []; pairs = pairs_of (reader_trees mid) pairs }) (instance (filled (env_at (reader_envs mid) env)) t) (instance (filled (env_at (reader_envs mid) env)) u)) →
+      IsTruthTold mid.arena new.arena b (are_apart (record { judgements = []; pairs = pairs_of (reader_trees mid) pairs }) (instance (filled (env_at (reader_envs mid) env)) t) (instance (filled (env_at (reader_envs mid) env)) u)) →
       (js : List Judgement) (next : List Tree → Noted → Move) → move_of modes rules pairs old rule env js next ps ≡ move_when b (move_of modes rules pairs old rule env js next rest)
   apart_told b t u rest a c js next =
       let s = env_later rules old mid a.grows env le in
@@ -82,15 +84,15 @@ module _ (modes : Modes) (rules : List Rule) (pairs : List Pair) (old mid new : 
       a.same js next ∙ ap (λ x. move_when x (move_of modes rules pairs old rule env js next rest)) e
 
   pub apart_fails : (b : Bool) (t u : Tree) (rest : List Premise) → Reached modes rules pairs old rule env mid ps (apart t u ∷ rest) →
-      IsTold mid.arena new.arena b (are_apart (record { judgements = []; pairs = pairs_of (reader_trees mid) pairs }) (instance (filled (env_at (reader_envs mid) env)) t) (instance (filled (env_at (reader_envs mid) env)) u)) →
-      b ≡ false → new.binds ≡ mid.binds → new.waiting.items ≡ mid.waiting.items → new.base ≡ mid.base → IsPremises modes rules pairs old new rule env ps Clash
+      IsTruthTold mid.arena new.arena b (are_apart (record { judgements = []; pairs = pairs_of (reader_trees mid) pairs }) (instance (filled (env_at (reader_envs mid) env)) t) (instance (filled (env_at (reader_envs mid) env)) u)) →
+      b ≡ false → new.binds ≡ mid.binds → new.waiting.items ≡ mid.waiting.items → new.base ≡ mid.base → IsReplayPremises modes rules pairs old new rule env ps Clash
   apart_fails b t u rest a c f x y w = record {
     grows = grows_then rules old mid new a.grows (grows_terms rules mid new a.grows.reader c.arena c.extends x y w);
     is = λ js next. apart_told b t u rest a c js next ∙ ap (λ v. move_when v (move_of modes rules pairs old rule env js next rest)) f;
   }
 
   pub apart_holds : (b : Bool) (t u : Tree) (rest : List Premise) → Reached modes rules pairs old rule env mid ps (apart t u ∷ rest) →
-      IsTold mid.arena new.arena b (are_apart (record { judgements = []; pairs = pairs_of (reader_trees mid) pairs }) (instance (filled (env_at (reader_envs mid) env)) t) (instance (filled (env_at (reader_envs mid) env)) u)) →
+      IsTruthTold mid.arena new.arena b (are_apart (record { judgements = []; pairs = pairs_of (reader_trees mid) pairs }) (instance (filled (env_at (reader_envs mid) env)) t) (instance (filled (env_at (reader_envs mid) env)) u)) →
       b ≡ true → new.binds ≡ mid.binds → new.waiting.items ≡ mid.waiting.items → new.noted ≡ mid.noted → new.base ≡ mid.base → Reached modes rules pairs old rule env new ps rest
   apart_holds b t u rest a c f x y z w = record {
     grows = grows_then rules old mid new a.grows (grows_terms rules mid new a.grows.reader c.arena c.extends x y w);
@@ -100,8 +102,8 @@ module _ (modes : Modes) (rules : List Rule) (pairs : List Pair) (old mid new : 
   }
 
   -- the outputs of the conclusion
-  pub concluded_is : (outs : Vec ℕ Global) → Reached modes rules pairs old rule env mid ps [] → IsMade mid new (places_made modes true (env_at (reader_envs mid) env) rule.conclusion) outs.items →
-      IsPremises modes rules pairs old new rule env ps (Done outs)
+  pub concluded_is : (outs : Vec ℕ Global) → Reached modes rules pairs old rule env mid ps [] → AreTermsMade mid new (places_made modes true (env_at (reader_envs mid) env) rule.conclusion) outs.items →
+      IsReplayPremises modes rules pairs old new rule env ps (Done outs)
   concluded_is outs a m =
       let s = env_later rules old mid a.grows env le in
       let w : new.waiting.items ≡ mid.waiting.items = ap (λ (v : Vec Waiting Global). v.items) m.waiting in
@@ -117,11 +119,11 @@ module _ (modes : Modes) (rules : List Rule) (pairs : List Pair) (old mid new : 
       }
 
   -- the goal of a premise
-  pub asked_is : IsReader rules old → (made : Reader) (j : Judgement) (k number mark held : ℕ) (terms : Vec ℕ Global) → mark ≡ length made.binds.cells.items → held ≡ length (reader_trees made) → Reached modes rules pairs old rule env mid ps (holds j ∷ drop (k + 1) rule.premises) →
+  pub asked_is : IsReplayReader rules old → (made : Reader) (j : Judgement) (k number mark held : ℕ) (terms : Vec ℕ Global) → mark ≡ length made.binds.cells.items → held ≡ length (reader_trees made) → Reached modes rules pairs old rule env mid ps (holds j ∷ drop (k + 1) rule.premises) →
       slice_get rules number ≡ Some rule → slice_get rule.premises k ≡ Some (holds j) →
-      IsMade mid made (places_made modes false (env_at (reader_envs mid) env) j) terms.items →
+      AreTermsMade mid made (places_made modes false (env_at (reader_envs mid) env) j) terms.items →
       new.arena ≡ made.arena → new.binds ≡ made.binds → new.waiting.items ≡ made.waiting.items ++ record { rule = number; premise = k; env = env; mark = mark; terms = held } ∷ [] → new.noted ≡ made.noted → new.base ≡ made.base →
-      IsPremises modes rules pairs old new rule env ps (Asks j.form terms)
+      IsReplayPremises modes rules pairs old new rule env ps (Asks j.form terms)
   asked_is ho made j k number mark held terms me he a found prem m ua ub uw un uz =
       let c : Waiting = record { rule = number; premise = k; env = env; mark = mark; terms = held } in
       let s = env_later rules old mid a.grows env le in

@@ -13,7 +13,7 @@ use Rattle.sx_arena.specs.declared.binds.Bind.{Bind}
 use Rattle.sx_arena.specs.declared.binds.Binds.{Binds}
 use Rattle.sx_arena.specs.declared.fact.Fact.{Fact}
 use Rattle.sx_arena.specs.declared.pairs.Pair.{Pair}
-use Rattle.sx_arena.specs.Grown.{Extends, Fits}
+use Rattle.sx_arena.specs.Grown.{Extends, CellsFit}
 use Rattle.sx_arena.specs.Arena.{trees, IsArena}
 use Rattle.sx_arena.specs.Binds.{envs, env_at, bind_step, BindFits, IsBinds, BindsGrow}
 use Rattle.sx_arena.specs.Facts.{AreFacts}
@@ -25,7 +25,9 @@ use Rattle.sx_arena.proofs.Parted.{pairs_more_terms, pairs_stay}
 use Rattle.sx_replay.specs.declared.reader.Waiting.{Waiting}
 use Rattle.sx_replay.specs.declared.reader.Reader.{Reader}
 use Rattle.sx_replay.specs.Machine.{Frame}
-use Rattle.sx_replay.specs.Reader.{reader_trees, reader_envs, base_trees, patterns_of, no_rule, frame_of, stack_on, stack, WaitsAt, AreLater, AreWaiting, AreTo, AreKept, IsReader, Grows, GoesOn}
+use Rattle.sx_replay.specs.Reader.{reader_trees, reader_envs, base_trees, patterns_of, no_rule}
+use Rattle.sx_replay.specs.Reader.{frame_of, stack_on, stack, WaitsAt, AreLater, AreWaiting, AreTo}
+use Rattle.sx_replay.specs.Reader.{AreKept, IsReplayReader, NamesStay, ReplayGoesOn}
 
 -- the number of chains
 pub envs_length : (r : Reader) → length (reader_envs r) ≡ length r.binds.cells.items
@@ -92,7 +94,7 @@ frame_is modes rules es j c rule env f g x =
     ∙ (λ i. record { rule = rule; rest = drop (c.premise + 1) rule.premises; patterns = p i; env = env })
 
 -- bindings to terms that are there
-pub binds_to : (ts : List Tree) (es : List Assignment) (bs : List Bind) → Fits (bind_step ts) (BindFits ts) es bs → AreTo (length ts) bs
+pub binds_to : (ts : List Tree) (es : List Assignment) (bs : List Bind) → CellsFit (bind_step ts) (BindFits ts) es bs → AreTo (length ts) bs
 binds_to ts es [] h = tt
 binds_to ts es (b ∷ bs) h = (h.0.term, binds_to ts (es ++ bind_step ts es b ∷ []) bs h.1)
 
@@ -132,10 +134,10 @@ pub kept_front : (base : ℕ) (bs : List Bind) (cs : List Waiting) (c : Waiting)
 kept_front base bs [] c h = (tt, h.0)
 kept_front base bs (x ∷ cs) c h = let r = kept_front base bs cs c h.1 in ((h.0, r.0), r.1)
 
-pub grows_same : (rules : List Rule) (r : Reader) → IsReader rules r → Grows rules r r
+pub grows_same : (rules : List Rule) (r : Reader) → IsReplayReader rules r → NamesStay rules r r
 grows_same rules r h = record { reader = h; base = refl; trees = extends-same (reader_trees r); envs = extends-same (reader_envs r) }
 
-pub grows_then : (rules : List Rule) (a b c : Reader) → Grows rules a b → Grows rules b c → Grows rules a c
+pub grows_then : (rules : List Rule) (a b c : Reader) → NamesStay rules a b → NamesStay rules b c → NamesStay rules a c
 grows_then rules a b c p q = record {
   reader = q.reader;
   base = q.base ∙ p.base;
@@ -147,13 +149,13 @@ grows_then rules a b c p q = record {
 pub base_extends : (r : Reader) → Extends (base_trees r) (reader_trees r)
 base_extends r = (drop r.base (reader_trees r), sym (take-append-drop r.base (reader_trees r)))
 
-pub goes_same : (rules : List Rule) (r : Reader) → IsReader rules r → GoesOn rules r r
+pub goes_same : (rules : List Rule) (r : Reader) → IsReplayReader rules r → ReplayGoesOn rules r r
 goes_same rules r h = record { reader = h; base = refl; trees = refl }
 
-pub goes_then : (rules : List Rule) (a b c : Reader) → GoesOn rules a b → GoesOn rules b c → GoesOn rules a c
+pub goes_then : (rules : List Rule) (a b c : Reader) → ReplayGoesOn rules a b → ReplayGoesOn rules b c → ReplayGoesOn rules a c
 goes_then rules a b c p q = record { reader = q.reader; base = q.base ∙ p.base; trees = q.trees ∙ p.trees }
 
-pub goes_grown : (rules : List Rule) (a b : Reader) → IsReader rules a → Grows rules a b → GoesOn rules a b
+pub goes_grown : (rules : List Rule) (a b : Reader) → IsReplayReader rules a → NamesStay rules a b → ReplayGoesOn rules a b
 goes_grown rules a b h g =
     let more = g.trees.0 in
     record {
@@ -163,11 +165,11 @@ goes_grown rules a b h g =
     }
 
 -- so pairs of its terms stay
-pub base_pairs : (rules : List Rule) (a b : Reader) → GoesOn rules a b → (ps : List Pair) → ArePairs (length (base_trees a)) ps → ArePairs (length (base_trees b)) ps
+pub base_pairs : (rules : List Rule) (a b : Reader) → ReplayGoesOn rules a b → (ps : List Pair) → ArePairs (length (base_trees a)) ps → ArePairs (length (base_trees b)) ps
 base_pairs rules a b g ps h = subst (λ (ts : List Tree). ArePairs (length ts) ps) (sym g.trees) h
 
 -- and its hypotheses
-pub base_facts : (modes : Modes) (rules : List Rule) (a b : Reader) → GoesOn rules a b → (js : List Judgement) (fs : List Fact) → AreFacts modes (base_trees a) js fs → AreFacts modes (base_trees b) js fs
+pub base_facts : (modes : Modes) (rules : List Rule) (a b : Reader) → ReplayGoesOn rules a b → (js : List Judgement) (fs : List Fact) → AreFacts modes (base_trees a) js fs → AreFacts modes (base_trees b) js fs
 base_facts modes rules a b g js fs h = subst (λ (ts : List Tree). AreFacts modes ts js fs) (sym g.trees) h
 
 pub reader_facts : (modes : Modes) (r : Reader) (js : List Judgement) (fs : List Fact) → AreFacts modes (base_trees r) js fs → AreFacts modes (reader_trees r) js fs
@@ -176,14 +178,14 @@ reader_facts modes r js fs h = facts_stay modes (base_trees r) (reader_trees r) 
 pub reader_pairs : (r : Reader) (ps : List Pair) → ArePairs (length (base_trees r)) ps → ArePairs (length (reader_trees r)) ps
 reader_pairs r ps h = pairs_more_terms (length (base_trees r)) (length (reader_trees r)) (extends-length (base_trees r) (reader_trees r) (base_extends r)) ps h
 
-pub pairs_same : (rules : List Rule) (a b : Reader) → GoesOn rules a b → (ps : List Pair) → ArePairs (length (base_trees a)) ps → pairs_of (reader_trees b) ps ≡ pairs_of (reader_trees a) ps
+pub pairs_same : (rules : List Rule) (a b : Reader) → ReplayGoesOn rules a b → (ps : List Pair) → ArePairs (length (base_trees a)) ps → pairs_of (reader_trees b) ps ≡ pairs_of (reader_trees a) ps
 pairs_same rules a b g ps h =
     pairs_stay (base_trees b) (reader_trees b) (base_extends b) ps (base_pairs rules a b g ps h)
     ∙ ap (λ (ts : List Tree). pairs_of ts ps) g.trees
     ∙ sym (pairs_stay (base_trees a) (reader_trees a) (base_extends a) ps h)
 
 -- bindings that were there
-pub env_later : (rules : List Rule) (s t : Reader) → Grows rules s t → (env : ℕ) → env ≤ length s.binds.cells.items → (env ≤ length t.binds.cells.items) × (env_at (reader_envs t) env ≡ env_at (reader_envs s) env)
+pub env_later : (rules : List Rule) (s t : Reader) → NamesStay rules s t → (env : ℕ) → env ≤ length s.binds.cells.items → (env ≤ length t.binds.cells.items) × (env_at (reader_envs t) env ≡ env_at (reader_envs s) env)
 env_later rules s t g env l =
     let a = envs_length s in
     let b = envs_length t in
@@ -191,7 +193,7 @@ env_later rules s t g env l =
     ((omega arith), env_stays (reader_envs s) (reader_envs t) g.envs env (omega arith))
 
 -- rules that waited, with more terms and bindings
-pub stack_later : (modes : Modes) (rules : List Rule) (s t : Reader) → IsReader rules s → Extends (reader_envs s) (reader_envs t) → t.waiting.items ≡ s.waiting.items → stack modes rules t ≡ stack modes rules s
+pub stack_later : (modes : Modes) (rules : List Rule) (s t : Reader) → IsReplayReader rules s → Extends (reader_envs s) (reader_envs t) → t.waiting.items ≡ s.waiting.items → stack modes rules t ≡ stack modes rules s
 stack_later modes rules s t h x e =
     let a = envs_length s in
     ap (stack_on modes rules (reader_envs t) []) e ∙ stack_stays modes rules (reader_envs s) (reader_envs t) (length s.binds.cells.items) x (omega arith) [] s.waiting.items h.waiting
@@ -203,7 +205,7 @@ kept_as s t b w z h =
     (subst (λ (cs : List Waiting). AreKept s.base s.binds.cells.items cs) (sym w) h))
 
 -- more terms
-pub grows_terms : (rules : List Rule) (s t : Reader) → IsReader rules s → IsArena t.arena → Extends (reader_trees s) (reader_trees t) → t.binds ≡ s.binds → t.waiting.items ≡ s.waiting.items → t.base ≡ s.base → Grows rules s t
+pub grows_terms : (rules : List Rule) (s t : Reader) → IsReplayReader rules s → IsArena t.arena → Extends (reader_trees s) (reader_trees t) → t.binds ≡ s.binds → t.waiting.items ≡ s.waiting.items → t.base ≡ s.base → NamesStay rules s t
 grows_terms rules s t h a x b w z =
     let st = envs_stay (reader_trees s) (reader_trees t) x s.binds h.binds in
     let n : length t.binds.cells.items ≡ length s.binds.cells.items = ap (λ (y : Binds). length y.cells.items) b in
@@ -221,7 +223,7 @@ grows_terms rules s t h a x b w z =
     }
 
 -- more bindings
-pub grows_binds : (rules : List Rule) (s t : Reader) → IsReader rules s → BindsGrow (trees s.arena) s.binds t.binds → t.arena ≡ s.arena → t.waiting.items ≡ s.waiting.items → t.base ≡ s.base → Grows rules s t
+pub grows_binds : (rules : List Rule) (s t : Reader) → IsReplayReader rules s → BindsGrow (trees s.arena) s.binds t.binds → t.arena ≡ s.arena → t.waiting.items ≡ s.waiting.items → t.base ≡ s.base → NamesStay rules s t
 grows_binds rules s t h g a w z =
     let m = envs_length s in
     let n = grown-length (bind_step (reader_trees s)) t.binds.cells.items in
@@ -242,8 +244,8 @@ grows_binds rules s t h g a w z =
     }
 
 -- one rule more that waits
-pub grows_waiting : (rules : List Rule) (s t : Reader) (c : Waiting) → IsReader rules s → WaitsAt rules (length s.binds.cells.items) c → length s.binds.cells.items ≤ c.mark → c.terms ≡ length (reader_trees s) → t.arena ≡ s.arena → t.binds ≡ s.binds →
-    t.waiting.items ≡ s.waiting.items ++ c ∷ [] → t.base ≡ s.base → Grows rules s t
+pub grows_waiting : (rules : List Rule) (s t : Reader) (c : Waiting) → IsReplayReader rules s → WaitsAt rules (length s.binds.cells.items) c → length s.binds.cells.items ≤ c.mark → c.terms ≡ length (reader_trees s) → t.arena ≡ s.arena → t.binds ≡ s.binds →
+    t.waiting.items ≡ s.waiting.items ++ c ∷ [] → t.base ≡ s.base → NamesStay rules s t
 grows_waiting rules s t c h w l d a b e z =
     let n : length t.binds.cells.items ≡ length s.binds.cells.items = ap (λ (y : Binds). length y.cells.items) b in
     record {

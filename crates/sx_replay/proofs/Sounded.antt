@@ -4,20 +4,25 @@ use Rattle.std.specs.Prelude.{slice_get, nat_eq, max}
 use Rattle.std.proofs.lemmas.List.{append-nil}
 use Rattle.sx_term.specs.Tree.{Tree}
 use Rattle.sx_rules.specs.Instances.{instance}
-use Rattle.sx_rules.specs.Rules.{Judgement, Premise, holds, apart, Rule, Hypotheses, judgement_instance}
+use Rattle.sx_rules.specs.Rules.{Judgement, Premise, holds, apart, Rule, Hypotheses}
+use Rattle.sx_rules.specs.Rules.{judgement_instance}
 use Rattle.sx_rules.specs.Modes.{Modes, inputs_of, outputs_of, Goal, goal_of, AllModed}
-use Rattle.sx_rules.specs.Derivations.{Proof, Proofs, by, given, no_more, ◌⊳◌, height_of, most_height}
+use Rattle.sx_rules.specs.Derivations.{Proof, Proofs, by, given, no_more, ◌⊳◌, height_of}
+use Rattle.sx_rules.specs.Derivations.{most_height}
 use Rattle.sx_rules.specs.Orders.{Entry, of_given, of_rule, order_of, order_of_all}
 use Rattle.sx_rules.specs.First.{DerivesGoal}
 use Rattle.sx_rules.proofs.Moded.{goal_same}
-use Rattle.sx_arena.specs.Matching.{Assignment, unbound, same_all, match_all, match_when, filled}
+use Rattle.sx_arena.specs.Matching.{Assignment, nothing_bound, same_all, match_all, match_when}
+use Rattle.sx_arena.specs.Matching.{filled}
 use Rattle.sx_arena.specs.Limits.{are_apart}
 use Rattle.sx_arena.proofs.Sameness.{and_left, and_right, nat_same, same_all_true}
 use Rattle.sx_arena.proofs.Filled.{apart-true}
 use Rattle.sx_replay.specs.declared.noted.Noted.{Noted}
 use Rattle.sx_replay.specs.Limits.{note, nothing_noted}
-use Rattle.sx_replay.specs.Fronts.{Partial, begun, partial_order, partial_height, rule_match, Stage, open_one, whole, made_in, ArePassed, IsBegun, IsFront}
-use Rattle.sx_replay.specs.Machine.{Frame, Move, clash, ends, asks, move_when, move_matched, premises_move, hand_on, given_named, rule_named, entry_move}
+use Rattle.sx_replay.specs.Fronts.{Partial, begun, partial_order, partial_height, rule_match, Stage}
+use Rattle.sx_replay.specs.Fronts.{open_one, whole, made_in, ArePassed, IsBegun, IsFront}
+use Rattle.sx_replay.specs.Machine.{Frame, Move, clash, ends, asks, move_when, move_matched}
+use Rattle.sx_replay.specs.Machine.{premises_move, hand_on, given_named, rule_named, entry_move}
 use Rattle.sx_replay.proofs.Noting.{note-append}
 use Rattle.sx_replay.proofs.Passed.{passes_derive}
 
@@ -230,9 +235,9 @@ module _ (modes : Modes) (rules : List Rule) (hyps : Hypotheses) where
       rule_sound : (r : ℕ) (frames : List Frame) (goal : Goal) (list : List Entry) (terms : List Tree) (d : ℕ) → IsStack frames goal list terms d → (o : Option Rule) → slice_get rules r ≡ o →
           IsSound (rule_named modes hyps o goal frames (note nothing_noted terms)) (list ++ (of_rule r ∷ [])) (max d (length frames + 1))
       rule_sound r frames goal list terms d stack None e = tt
-      rule_sound r frames goal list terms d stack (Some rule) e = go (nat_eq rule.conclusion.form goal.form) (match_all (inputs_of modes rule.conclusion) goal.terms unbound) refl refl
+      rule_sound r frames goal list terms d stack (Some rule) e = go (nat_eq rule.conclusion.form goal.form) (match_all (inputs_of modes rule.conclusion) goal.terms nothing_bound) refl refl
         where
-          go : (b : Bool) (o : Option Assignment) → nat_eq rule.conclusion.form goal.form ≡ b → match_all (inputs_of modes rule.conclusion) goal.terms unbound ≡ o →
+          go : (b : Bool) (o : Option Assignment) → nat_eq rule.conclusion.form goal.form ≡ b → match_all (inputs_of modes rule.conclusion) goal.terms nothing_bound ≡ o →
               IsSound (move_when b (move_matched o (λ env. premises_move modes hyps (hand_on modes hyps frames) frames rule rule.premises env (note nothing_noted terms)))) (list ++ (of_rule r ∷ [])) (max d (length frames + 1))
           go false o t m = tt
           go true None t m = tt
@@ -242,7 +247,7 @@ module _ (modes : Modes) (rules : List Rule) (hyps : Hypotheses) where
                 r = r;
                 at_r = e;
                 first = env;
-                matches = ap (λ (x : Bool). match_when x (match_all (inputs_of modes rule.conclusion) goal.terms unbound)) t ∙ m;
+                matches = ap (λ (x : Bool). match_when x (match_all (inputs_of modes rule.conclusion) goal.terms nothing_bound)) t ∙ m;
                 kids = no_more;
                 made = [];
                 leads = λ more later rest last h. h;

@@ -9,7 +9,7 @@ use Rattle.sx_rules.specs.Modes.{Modes, inputs_of, outputs_of}
 use Rattle.sx_rules.specs.Orders.{Entry, of_given, of_rule}
 use Rattle.sx_rules.specs.declared.rule.Rule.{Rule as RuleOf}
 use Rattle.sx_rules.specs.Views.{named}
-use Rattle.sx_arena.specs.Matching.{same_all, Assignment, unbound, match_all}
+use Rattle.sx_arena.specs.Matching.{same_all, Assignment, nothing_bound, match_all}
 use Rattle.sx_arena.specs.declared.binds.Binds.{Binds}
 use Rattle.sx_arena.specs.declared.fact.Fact.{Fact}
 use Rattle.sx_arena.specs.declared.pairs.Pair.{Pair}
@@ -24,8 +24,11 @@ use Rattle.sx_arena.proofs.Sameness.{same_all_true, same_all_self}
 use Rattle.sx_replay.specs.declared.reader.Reader.{Reader}
 use Rattle.sx_replay.specs.declared.step.Step.{Step}
 use Rattle.sx_replay.specs.declared.step.Step.TheVariants.{Clash, Done}
-use Rattle.sx_replay.specs.Machine.{Move, ends, move_when, move_matched, premises_move, hand_on, given_move, given_named, rule_move, rule_named, entry_move}
-use Rattle.sx_replay.specs.Reader.{reader_trees, reader_envs, stack, IsReader, Grows, GoesOn, hyps_in, goal_in, IsStep, IsPremises, IsMoved}
+use Rattle.sx_replay.specs.Machine.{Move, ends, move_when, move_matched, premises_move, hand_on}
+use Rattle.sx_replay.specs.Machine.{given_move, given_named, rule_move, rule_named, entry_move}
+use Rattle.sx_replay.specs.Reader.{reader_trees, reader_envs, stack, IsReplayReader, NamesStay}
+use Rattle.sx_replay.specs.Reader.{ReplayGoesOn, hyps_in, replay_goal, IsReplayStep}
+use Rattle.sx_replay.specs.Reader.{IsReplayPremises, IsMoved}
 use Rattle.sx_replay.proofs.Readers.{stack_later, grows_then, grows_binds, goes_same, goes_then, goes_grown}
 use Rattle.sx_replay.proofs.Handed.{step_other}
 
@@ -39,9 +42,9 @@ number_false m n d = go (nat_eq m n) refl
 number_true : (m n : ℕ) → m ≡ n → nat_eq m n ≡ true
 number_true m n e = (Decides-eqb m n).1 e
 
-module _ (modes : Modes) (rules : List Rule) (pairs : List Pair) (s : Reader) (rule : Rule) (form : ℕ) (terms : List ℕ) (h : IsReader rules s) where
+module _ (modes : Modes) (rules : List Rule) (pairs : List Pair) (s : Reader) (rule : Rule) (form : ℕ) (terms : List ℕ) (h : IsReplayReader rules s) where
   abbrev pub tried_as : Hypotheses → Move
-  tried_as hyps = rule_move modes hyps rule (goal_in s form terms) (stack modes rules s) s.noted
+  tried_as hyps = rule_move modes hyps rule (replay_goal s form terms) (stack modes rules s) s.noted
 
   abbrev pub matched_as : List Judgement → Option Assignment → Move
   matched_as js m = move_matched m (λ env. premises_move modes (hyps_in pairs s js) (hand_on modes (hyps_in pairs s js) (stack modes rules s)) (stack modes rules s) rule rule.premises env s.noted)
@@ -49,34 +52,34 @@ module _ (modes : Modes) (rules : List Rule) (pairs : List Pair) (s : Reader) (r
   pub rule_other : (rule.conclusion.form ≡ form → ⊥) → IsMoved modes rules pairs s s tried_as Clash
   rule_other d = record {
     grows = goes_same rules s h;
-    is = λ js. ap (λ b. move_when b (matched_as js (match_all (inputs_of modes rule.conclusion) (map (tree_at (reader_trees s)) terms) unbound))) (number_false rule.conclusion.form form d);
+    is = λ js. ap (λ b. move_when b (matched_as js (match_all (inputs_of modes rule.conclusion) (map (tree_at (reader_trees s)) terms) nothing_bound))) (number_false rule.conclusion.form form d);
   }
 
   module _ (same_form : rule.conclusion.form ≡ form) (b : Binds) (g : BindsGrow (trees s.arena) s.binds b) where
     abbrev pub bound_to : Reader
     bound_to = record { arena = s.arena; binds = b; waiting = s.waiting; noted = s.noted; base = s.base }
 
-    pub bound_later : Grows rules s bound_to
+    pub bound_later : NamesStay rules s bound_to
     bound_later = grows_binds rules s bound_to h g refl refl refl
 
-    tried_is : (js : List Judgement) (m : Option Assignment) → match_all (inputs_of modes rule.conclusion) (map (tree_at (reader_trees s)) terms) unbound ≡ m → tried_as (hyps_in pairs s js) ≡ matched_as js m
+    tried_is : (js : List Judgement) (m : Option Assignment) → match_all (inputs_of modes rule.conclusion) (map (tree_at (reader_trees s)) terms) nothing_bound ≡ m → tried_as (hyps_in pairs s js) ≡ matched_as js m
     tried_is js m e =
-        ap (λ b. move_when b (matched_as js (match_all (inputs_of modes rule.conclusion) (map (tree_at (reader_trees s)) terms) unbound))) (number_true rule.conclusion.form form same_form)
+        ap (λ b. move_when b (matched_as js (match_all (inputs_of modes rule.conclusion) (map (tree_at (reader_trees s)) terms) nothing_bound))) (number_true rule.conclusion.form form same_form)
         ∙ ap (matched_as js) e
 
-    pub rule_none : match_all (inputs_of modes rule.conclusion) (map (tree_at (reader_trees s)) terms) unbound ≡ None → IsMoved modes rules pairs s bound_to tried_as Clash
+    pub rule_none : match_all (inputs_of modes rule.conclusion) (map (tree_at (reader_trees s)) terms) nothing_bound ≡ None → IsMoved modes rules pairs s bound_to tried_as Clash
     rule_none m = record { grows = goes_grown rules s bound_to h bound_later; is = λ js. tried_is js None m }
 
-    module _ (hp : ArePairs (length (reader_trees s)) pairs) (v : Reader) (env : ℕ) (m : match_all (inputs_of modes rule.conclusion) (map (tree_at (reader_trees s)) terms) unbound ≡ Some (env_at (reader_envs bound_to) env)) (step : Step)
-        (p : IsPremises modes rules pairs bound_to v rule env rule.premises step) where
-      pub grown : Grows rules s v
+    module _ (hp : ArePairs (length (reader_trees s)) pairs) (v : Reader) (env : ℕ) (m : match_all (inputs_of modes rule.conclusion) (map (tree_at (reader_trees s)) terms) nothing_bound ≡ Some (env_at (reader_envs bound_to) env)) (step : Step)
+        (p : IsReplayPremises modes rules pairs bound_to v rule env rule.premises step) where
+      pub grown : NamesStay rules s v
       grown = grows_then rules s bound_to v bound_later p.grows
 
-      step_is : (js : List Judgement) → IsStep modes rules s.waiting.items v (hand_on modes (hyps_in pairs s js) (stack modes rules s)) step (tried_as (hyps_in pairs s js))
+      step_is : (js : List Judgement) → IsReplayStep modes rules s.waiting.items v (hand_on modes (hyps_in pairs s js) (stack modes rules s)) step (tried_as (hyps_in pairs s js))
       step_is js =
           let st = stack_later modes rules s bound_to h bound_later.envs refl in
           let next = hand_on modes (hyps_in pairs s js) (stack modes rules s) in
-          subst (λ (r : Move). IsStep modes rules s.waiting.items v next step r)
+          subst (λ (r : Move). IsReplayStep modes rules s.waiting.items v next step r)
           ((λ i. premises_move modes (hyps_in pairs s js) next (st i) rule rule.premises (env_at (reader_envs bound_to) env) s.noted)
           ∙ sym (tried_is js (Some (env_at (reader_envs bound_to) env)) m))
           (p.is js next)
@@ -96,8 +99,8 @@ module _ (modes : Modes) (rules : List Rule) (pairs : List Pair) (s : Reader) (r
           let st = stack_later modes rules s v h grown.envs k.1 in
           (k.0, λ js. (told js).2 ∙ (λ i. hand_on modes (record { judgements = js; pairs = sym ep i }) (sym st i) (map (tree_at (reader_trees v)) outs.items) v.noted))
         where
-          told : (js : List Judgement) → IsStep modes rules s.waiting.items v (hand_on modes (hyps_in pairs s js) (stack modes rules s)) (Done outs) (tried_as (hyps_in pairs s js))
-          told js = subst (λ (x : Step). IsStep modes rules s.waiting.items v (hand_on modes (hyps_in pairs s js) (stack modes rules s)) x (tried_as (hyps_in pairs s js))) e (step_is js)
+          told : (js : List Judgement) → IsReplayStep modes rules s.waiting.items v (hand_on modes (hyps_in pairs s js) (stack modes rules s)) (Done outs) (tried_as (hyps_in pairs s js))
+          told js = subst (λ (x : Step). IsReplayStep modes rules s.waiting.items v (hand_on modes (hyps_in pairs s js) (stack modes rules s)) x (tried_as (hyps_in pairs s js))) e (step_is js)
 
       pub rule_handed : (outs : Vec ℕ Global) → step ≡ Done outs → (w : Reader) (last : Step) →
           IsMoved modes rules pairs v w (λ hyps. hand_on modes hyps (stack modes rules v) (map (tree_at (reader_trees v)) outs.items) v.noted) last → IsMoved modes rules pairs s w tried_as last
@@ -105,7 +108,7 @@ module _ (modes : Modes) (rules : List Rule) (pairs : List Pair) (s : Reader) (r
           let d = rule_done outs e in
           record {
             grows = goes_then rules s v w (goes_grown rules s v h grown) k.grows;
-            is = λ js. subst (λ (r : Move). IsStep modes rules [] w ends last r) (sym (d.1 js)) (k.is js);
+            is = λ js. subst (λ (r : Move). IsReplayStep modes rules [] w ends last r) (sym (d.1 js)) (k.is js);
           }
 
 -- numbers are the same just where the terms are
@@ -137,10 +140,10 @@ second_false : (x y : Bool) → y ≡ false → (x && y) ≡ false
 second_false true y e = e
 second_false false y e = refl
 
-module _ (modes : Modes) (rules : List Rule) (pairs : List Pair) (s : Reader) (j : Judgement) (fact : Fact) (form : ℕ) (terms : List ℕ) (h : IsReader rules s) (f : IsFact modes (reader_trees s) j fact)
+module _ (modes : Modes) (rules : List Rule) (pairs : List Pair) (s : Reader) (j : Judgement) (fact : Fact) (form : ℕ) (terms : List ℕ) (h : IsReplayReader rules s) (f : IsFact modes (reader_trees s) j fact)
     (b : AreBelow (length (reader_trees s)) terms) where
   abbrev pub given_as : Hypotheses → Move
-  given_as hyps = given_move modes hyps j (goal_in s form terms) (stack modes rules s) s.noted
+  given_as hyps = given_move modes hyps j (replay_goal s form terms) (stack modes rules s) s.noted
 
   given_when : (x : Bool) → (nat_eq j.form form && same_all (inputs_of modes j) (map (tree_at (reader_trees s)) terms)) ≡ x → (hyps : Hypotheses) →
       given_as hyps ≡ move_when x (hand_on modes hyps (stack modes rules s) (outputs_of modes j) s.noted)
@@ -169,7 +172,7 @@ module _ (modes : Modes) (rules : List Rule) (pairs : List Pair) (s : Reader) (j
       let m : map (tree_at (reader_trees s)) outs ≡ outputs_of modes j = ap (map (tree_at (reader_trees s))) o ∙ f.outputs in
       record {
         grows = k.grows;
-        is = λ js. subst (λ (r : Move). IsStep modes rules [] w ends step r)
+        is = λ js. subst (λ (r : Move). IsReplayStep modes rules [] w ends step r)
             ((λ i. hand_on modes (hyps_in pairs s js) (stack modes rules s) (m i) s.noted) ∙ sym (given_when true z (hyps_in pairs s js))) (k.is js);
       }
 
@@ -197,28 +200,28 @@ no_rule_at (x ∷ xs) (suc i) e = no_rule_at xs i e
 
 module _ (modes : Modes) (rules : List Rule) (pairs : List Pair) (old new : Reader) (form : ℕ) (terms : List ℕ) (js : List Judgement) (facts : List Fact) (a : AreFacts modes (reader_trees old) js facts) where
   abbrev pub entry_of_old : Entry → Move
-  entry_of_old e = entry_move modes (hyps_in pairs old js) rules e (goal_in old form terms) (stack modes rules old) old.noted
+  entry_of_old e = entry_move modes (hyps_in pairs old js) rules e (replay_goal old form terms) (stack modes rules old) old.noted
 
   abbrev pub IsEntered : Reader → Step → Entry → Type 0
-  IsEntered r step e = GoesOn rules old r × IsStep modes rules [] r ends step (entry_of_old e)
+  IsEntered r step e = ReplayGoesOn rules old r × IsReplayStep modes rules [] r ends step (entry_of_old e)
 
   pub given_entered : (i : ℕ) (fact : Fact) (step : Step) → i < length facts →
-      ((j : Judgement) → IsFact modes (reader_trees old) j (get_or facts i fact) → IsMoved modes rules pairs old new (λ hyps. given_move modes hyps j (goal_in old form terms) (stack modes rules old) old.noted) step) → IsEntered new step (of_given i)
+      ((j : Judgement) → IsFact modes (reader_trees old) j (get_or facts i fact) → IsMoved modes rules pairs old new (λ hyps. given_move modes hyps j (replay_goal old form terms) (stack modes rules old) old.noted) step) → IsEntered new step (of_given i)
   given_entered i fact step l h =
       let f = fact_at modes (reader_trees old) js facts a i fact l in
       let m = h f.0 f.2 in
-      (m.grows, subst (λ (o : Option Judgement). IsStep modes rules [] new ends step (given_named modes (hyps_in pairs old js) o (goal_in old form terms) (stack modes rules old) old.noted)) (sym f.1) (m.is js))
+      (m.grows, subst (λ (o : Option Judgement). IsReplayStep modes rules [] new ends step (given_named modes (hyps_in pairs old js) o (replay_goal old form terms) (stack modes rules old) old.noted)) (sym f.1) (m.is js))
 
-  pub no_given_entered : IsReader rules old → (i : ℕ) → length facts ≤ i → IsEntered old Clash (of_given i)
+  pub no_given_entered : IsReplayReader rules old → (i : ℕ) → length facts ≤ i → IsEntered old Clash (of_given i)
   no_given_entered h i l =
       let n = no_fact_at modes (reader_trees old) js facts a i l in
-      (goes_same rules old h, ap (λ (o : Option Judgement). given_named modes (hyps_in pairs old js) o (goal_in old form terms) (stack modes rules old) old.noted) n)
+      (goes_same rules old h, ap (λ (o : Option Judgement). given_named modes (hyps_in pairs old js) o (replay_goal old form terms) (stack modes rules old) old.noted) n)
 
   pub rule_entered : (r : ℕ) (rule : Rule) (step : Step) → slice_get rules r ≡ Some rule →
-      IsMoved modes rules pairs old new (λ hyps. rule_move modes hyps rule (goal_in old form terms) (stack modes rules old) old.noted) step → IsEntered new step (of_rule r)
+      IsMoved modes rules pairs old new (λ hyps. rule_move modes hyps rule (replay_goal old form terms) (stack modes rules old) old.noted) step → IsEntered new step (of_rule r)
   rule_entered r rule step found m =
-      (m.grows, subst (λ (o : Option Rule). IsStep modes rules [] new ends step (rule_named modes (hyps_in pairs old js) o (goal_in old form terms) (stack modes rules old) old.noted)) (sym found) (m.is js))
+      (m.grows, subst (λ (o : Option Rule). IsReplayStep modes rules [] new ends step (rule_named modes (hyps_in pairs old js) o (replay_goal old form terms) (stack modes rules old) old.noted)) (sym found) (m.is js))
 
-  pub no_rule_entered : IsReader rules old → (r : ℕ) → slice_get rules r ≡ None → IsEntered old Clash (of_rule r)
+  pub no_rule_entered : IsReplayReader rules old → (r : ℕ) → slice_get rules r ≡ None → IsEntered old Clash (of_rule r)
   no_rule_entered h r n =
-      (goes_same rules old h, ap (λ (o : Option Rule). rule_named modes (hyps_in pairs old js) o (goal_in old form terms) (stack modes rules old) old.noted) n)
+      (goes_same rules old h, ap (λ (o : Option Rule). rule_named modes (hyps_in pairs old js) o (replay_goal old form terms) (stack modes rules old) old.noted) n)

@@ -20,16 +20,16 @@ use Rattle.sx_rules.specs.Limits.{most_levels}
 
 -- what is found of an entry at a goal for which that many rules wait, and of the terms up to the
 -- next entry
-abbrev pub IsChecked : ℕ → Noted → ℕ → Result (Unit {0}) ReplayError → Type 0
-IsChecked level n number (Ok x) = (level < most_levels) × (n ≡ nothing_noted)
-IsChecked level n number (Err (DeepList k)) = (most_levels ≤ level) × (k ≡ number)
-IsChecked level n number (Err (TooDeep d)) = (level < most_levels) × (n.deep ≡ Some d)
-IsChecked level n number (Err (TooBig b)) =
+abbrev pub IsEntryChecked : ℕ → Noted → ℕ → Result (Unit {0}) ReplayError → Type 0
+IsEntryChecked level n number (Ok x) = (level < most_levels) × (n ≡ nothing_noted)
+IsEntryChecked level n number (Err (DeepList k)) = (most_levels ≤ level) × (k ≡ number)
+IsEntryChecked level n number (Err (TooDeep d)) = (level < most_levels) × (n.deep ≡ Some d)
+IsEntryChecked level n number (Err (TooBig b)) =
     (level < most_levels) × (n.deep ≡ None) × (n.big ≡ Some b)
-IsChecked level n number (Err Memory) = ⊥
-IsChecked level n number (Err (WrongAt k)) = ⊥
-IsChecked level n number (Err EndsEarly) = ⊥
-IsChecked level n number (Err (LongList k)) = ⊥
+IsEntryChecked level n number (Err Memory) = ⊥
+IsEntryChecked level n number (Err (WrongAt k)) = ⊥
+IsEntryChecked level n number (Err EndsEarly) = ⊥
+IsEntryChecked level n number (Err (LongList k)) = ⊥
 
 module _ (modes : Modes) (rules : List Rule) (hyps : Hypotheses) (goal : Goal) where
   -- where reading the list from the first goal on stands

@@ -10,7 +10,7 @@ use Rattle.sx_rules.specs.Derivations.{Proof, Proofs, by, given, no_more, ◌⊳
 use Rattle.sx_rules.specs.Derivations.{most_height}
 use Rattle.sx_rules.specs.Orders.{Entry, of_rule, order_of, order_of_all}
 use Rattle.sx_rules.specs.First.{DerivesGoal}
-use Rattle.sx_arena.specs.Matching.{Assignment, unbound, match_when, match_all, filled}
+use Rattle.sx_arena.specs.Matching.{Assignment, nothing_bound, match_when, match_all, filled}
 
 -- a derivation that is being built: without an entry, or by a rule, with the kids that are whole
 -- and the kid in work
@@ -41,7 +41,7 @@ concluded_of modes (Some rule) s = outputs_of modes (judgement_instance s rule.c
 -- the bindings under which the inputs of a rule's conclusion are the goal's
 abbrev pub rule_match : Modes → Rule → Goal → Option Assignment
 rule_match modes rule goal = match_when (nat_eq rule.conclusion.form goal.form)
-    (match_all (inputs_of modes rule.conclusion) goal.terms unbound)
+    (match_all (inputs_of modes rule.conclusion) goal.terms nothing_bound)
 
 -- how far a derivation is: with goals left, or whole, with its outputs
 pub data Stage : Type 0 where

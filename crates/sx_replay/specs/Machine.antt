@@ -7,7 +7,7 @@ use Rattle.sx_rules.specs.Rules.{Judgement, Premise, holds, apart, Rule, Hypothe
 use Rattle.sx_rules.specs.Rules.{judgement_instance}
 use Rattle.sx_rules.specs.Modes.{Modes, inputs_of, outputs_of, Goal, goal_of}
 use Rattle.sx_rules.specs.Orders.{Entry, of_given, of_rule}
-use Rattle.sx_arena.specs.Matching.{Assignment, unbound, same_all, match_all, filled}
+use Rattle.sx_arena.specs.Matching.{Assignment, nothing_bound, same_all, match_all, filled}
 use Rattle.sx_arena.specs.Limits.{are_apart}
 use Rattle.sx_replay.specs.declared.noted.Noted.{Noted}
 use Rattle.sx_replay.specs.Limits.{note}
@@ -63,7 +63,7 @@ module _ (modes : Modes) (hyps : Hypotheses) where
   abbrev pub rule_move : Rule → Goal → List Frame → Noted → Move
   rule_move rule goal frames n =
       move_when (nat_eq rule.conclusion.form goal.form)
-      (move_matched (match_all (inputs_of modes rule.conclusion) goal.terms unbound)
+      (move_matched (match_all (inputs_of modes rule.conclusion) goal.terms nothing_bound)
       (λ env. premises_move (hand_on frames) frames rule rule.premises env n))
 
   abbrev pub given_named : Option Judgement → Goal → List Frame → Noted → Move

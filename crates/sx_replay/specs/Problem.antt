@@ -8,12 +8,13 @@ use Rattle.sx_arena.specs.Facts.{AreFacts}
 use Rattle.sx_arena.specs.Pairs.{pairs_of, ArePairs}
 use Rattle.sx_replay.specs.declared.replaying.Problem.{Problem}
 use Rattle.sx_replay.specs.Limits.{nothing_noted}
-use Rattle.sx_replay.specs.Reader.{reader_trees, base_trees, IsReader}
+use Rattle.sx_replay.specs.Reader.{reader_trees, base_trees, IsReplayReader}
 
 -- the problem has the hypotheses and the terms of the goal by their numbers, and nothing is read
-pub record IsProblem (modes : Modes) (rules : List Rule) (hyps : Hypotheses) (terms : List Tree)
+pub record IsReplayProblem (modes : Modes) (rules : List Rule) (hyps : Hypotheses)
+    (terms : List Tree)
     (p : Problem) : Type 0 where
-  pub reader : IsReader rules p.reader
+  pub reader : IsReplayReader rules p.reader
   pub none_waits : p.reader.waiting.items ≡ []
   pub noted : p.reader.noted ≡ nothing_noted
   pub facts : AreFacts modes (base_trees p.reader) hyps.judgements p.facts.items

@@ -90,7 +90,7 @@ abbrev pub AreKept : ℕ → List Bind → List Waiting → Type 0
 AreKept base bs [] = Unit {0}
 AreKept base bs (c ∷ cs) = ((base ≤ c.terms) × AreTo c.terms (take c.mark bs)) × AreKept base bs cs
 
-pub record IsReader (rules : List Rule) (r : Reader) : Type 0 where
+pub record IsReplayReader (rules : List Rule) (r : Reader) : Type 0 where
   pub arena : IsArena r.arena
   pub binds : IsBinds (trees r.arena) r.binds
   pub waiting : AreWaiting rules (length r.binds.cells.items) r.waiting.items
@@ -98,15 +98,15 @@ pub record IsReader (rules : List Rule) (r : Reader) : Type 0 where
   pub kept : AreKept r.base r.binds.cells.items r.waiting.items
 
 -- what was named before stands for the same
-pub record Grows (rules : List Rule) (old new : Reader) : Type 0 where
-  pub reader : IsReader rules new
+pub record NamesStay (rules : List Rule) (old new : Reader) : Type 0 where
+  pub reader : IsReplayReader rules new
   pub base : new.base ≡ old.base
   pub trees : Extends (reader_trees old) (reader_trees new)
   pub envs : Extends (reader_envs old) (reader_envs new)
 
 -- the terms of the problem stay, and all that with which rules wait
-pub record GoesOn (rules : List Rule) (old new : Reader) : Type 0 where
-  pub reader : IsReader rules new
+pub record ReplayGoesOn (rules : List Rule) (old new : Reader) : Type 0 where
+  pub reader : IsReplayReader rules new
   pub base : new.base ≡ old.base
   pub trees : base_trees new ≡ base_trees old
 
@@ -116,7 +116,7 @@ places_made modes outputs env j = selected outputs (modes j.form)
     (map (instance (filled env)) j.places)
 
 -- the terms are made and noted, and nothing else changes
-pub record IsMade (old new : Reader) (ts : List Tree) (is : List ℕ) : Type 0 where
+pub record AreTermsMade (old new : Reader) (ts : List Tree) (is : List ℕ) : Type 0 where
   pub held : AreHeld old.arena new.arena is ts
   pub binds : new.binds ≡ old.binds
   pub waiting : new.waiting ≡ old.waiting
@@ -128,36 +128,39 @@ abbrev pub hyps_in : List Pair → Reader → List Judgement → Hypotheses
 hyps_in pairs r js = record { judgements = js; pairs = pairs_of (reader_trees r) pairs }
 
 -- a goal by its numbers
-abbrev pub goal_in : Reader → ℕ → List ℕ → Goal
-goal_in r form terms = record { form = form; terms = map (tree_at (reader_trees r)) terms }
+abbrev pub replay_goal : Reader → ℕ → List ℕ → Goal
+replay_goal r form terms = record { form = form; terms = map (tree_at (reader_trees r)) terms }
 
 -- the step stands for the move, where next says what becomes of outputs; with outputs the rules
 -- that wait are those before
-abbrev pub IsStep : Modes → List Rule → List Waiting → Reader → (List Tree → Noted → Move) → Step →
+abbrev pub IsReplayStep : Modes → List Rule → List Waiting → Reader → (List Tree → Noted → Move) →
+    Step →
     Move → Type 0
-IsStep modes rules cs r next Clash m = m ≡ clash
-IsStep modes rules cs r next (Done outs) m =
+IsReplayStep modes rules cs r next Clash m = m ≡ clash
+IsReplayStep modes rules cs r next (Done outs) m =
     AreBelow (length (reader_trees r)) outs.items × (r.waiting.items ≡ cs) ×
     (m ≡ next (map (tree_at (reader_trees r)) outs.items) r.noted)
-IsStep modes rules cs r next (Asks form terms) m =
+IsReplayStep modes rules cs r next (Asks form terms) m =
     AreBelow (length (reader_trees r)) terms.items ×
-    (m ≡ asks (goal_in r form terms.items) (stack modes rules r) r.noted)
+    (m ≡ asks (replay_goal r form terms.items) (stack modes rules r) r.noted)
 
 -- what comes of the premises
-pub record IsPremises (modes : Modes) (rules : List Rule) (pairs : List Pair) (old new : Reader)
+pub record IsReplayPremises (modes : Modes) (rules : List Rule) (pairs : List Pair)
+    (old new : Reader)
     (rule : Rule) (env : ℕ) (ps : List Premise) (step : Step) : Type 0 where
-  pub grows : Grows rules old new
+  pub grows : NamesStay rules old new
   pub is : (js : List Judgement) (next : List Tree → Noted → Move) →
-      IsStep modes rules old.waiting.items new next step
+      IsReplayStep modes rules old.waiting.items new next step
       (premises_move modes (hyps_in pairs old js) next (stack modes rules old) rule ps
       (env_at (reader_envs old) env) old.noted)
 
 -- what comes of the outputs at a rule that waits for them
-pub record IsResumed (modes : Modes) (rules : List Rule) (pairs : List Pair) (old new : Reader)
+pub record IsReplayResumed (modes : Modes) (rules : List Rule) (pairs : List Pair)
+    (old new : Reader)
     (c : Waiting) (outs : List ℕ) (step : Step) : Type 0 where
-  pub grows : Grows rules old new
+  pub grows : NamesStay rules old new
   pub is : (js : List Judgement) →
-      IsStep modes rules old.waiting.items new
+      IsReplayStep modes rules old.waiting.items new
       (hand_on modes (hyps_in pairs old js) (stack modes rules old)) step
       (hand_on modes (hyps_in pairs old js) (frame_of modes rules (reader_envs old) c ∷
       stack modes rules old) (map (tree_at (reader_trees old)) outs) old.noted)
@@ -165,5 +168,6 @@ pub record IsResumed (modes : Modes) (rules : List Rule) (pairs : List Pair) (ol
 -- what comes of a candidate, or of outputs handed on, is the machine's move
 pub record IsMoved (modes : Modes) (rules : List Rule) (pairs : List Pair) (old new : Reader)
     (move : Hypotheses → Move) (step : Step) : Type 0 where
-  pub grows : GoesOn rules old new
-  pub is : (js : List Judgement) → IsStep modes rules [] new ends step (move (hyps_in pairs old js))
+  pub grows : ReplayGoesOn rules old new
+  pub is : (js : List Judgement) → IsReplayStep modes rules [] new ends step (move
+      (hyps_in pairs old js))

@@ -7,11 +7,11 @@ ghost use Rattle.sx_rules.specs.EntryView.{entry as entry_of};
 ghost use Rattle.sx_arena.specs.Arena.{AreBelow};
 ghost use Rattle.sx_arena.specs.Facts.{IsFact, AreFacts};
 ghost use Rattle.sx_arena.specs.Pairs.{ArePairs};
-ghost use Rattle.sx_arena.specs.Views.{rules_of, modes_of, rule_of};
+ghost use Rattle.sx_arena.specs.Views.{rules_of, set_modes, rule_of};
 ghost use Rattle.std.specs.Prelude.{List, []};
 ghost use Rattle.sx_replay.specs.Machine.{rule_move, given_move, entry_move, ends};
-ghost use Rattle.sx_replay.specs.Reader.{IsReader, IsMoved, reader_trees, base_trees, stack};
-ghost use Rattle.sx_replay.specs.Reader.{goal_in, hyps_in, IsStep, GoesOn};
+ghost use Rattle.sx_replay.specs.Reader.{IsReplayReader, IsMoved, reader_trees, base_trees, stack};
+ghost use Rattle.sx_replay.specs.Reader.{replay_goal, hyps_in, IsReplayStep, ReplayGoesOn};
 
 use crate::given::Given;
 use crate::handing::hand_on;
@@ -33,14 +33,14 @@ fn try_rule(
 ) -> Result<Step, NoMemory>
     requires found { slice_get (rules_of given.now.rules.now) number ≡ Some (rule_of rule.now) }
     requires shallow { RulesAreShallow (rules_of given.now.rules.now) }
-    requires reader { IsReader (rules_of given.now.rules.now) reader.old }
+    requires reader { IsReplayReader (rules_of given.now.rules.now) reader.old }
     requires pairs { ArePairs (length (base_trees reader.old)) given.now.pairs.now }
     requires terms { AreBelow (length (reader_trees reader.old)) terms.now }
-    ensures { IfOk result (λ step. IsMoved (modes_of given.now.rules.now)
+    ensures { IfOk result (λ step. IsMoved (set_modes given.now.rules.now)
         (rules_of given.now.rules.now) given.now.pairs.now reader.old reader.new
-        (λ hyps. rule_move (modes_of given.now.rules.now) hyps (rule_of rule.now)
-        (goal_in reader.old form terms.now)
-        (stack (modes_of given.now.rules.now) (rules_of given.now.rules.now) reader.old)
+        (λ hyps. rule_move (set_modes given.now.rules.now) hyps (rule_of rule.now)
+        (replay_goal reader.old form terms.now)
+        (stack (set_modes given.now.rules.now) (rules_of given.now.rules.now) reader.old)
         reader.old.noted) step) }
 {
     if rule.conclusion.form != form {
@@ -66,18 +66,18 @@ fn try_given(
     terms: &[usize],
 ) -> Result<Step, NoMemory>
     requires shallow { RulesAreShallow (rules_of given.now.rules.now) }
-    requires reader { IsReader (rules_of given.now.rules.now) reader.old }
+    requires reader { IsReplayReader (rules_of given.now.rules.now) reader.old }
     requires pairs { ArePairs (length (base_trees reader.old)) given.now.pairs.now }
     requires terms { AreBelow (length (reader_trees reader.old)) terms.now }
-    requires fact { (j : Judgement) × IsFact (modes_of given.now.rules.now)
+    requires fact { (j : Judgement) × IsFact (set_modes given.now.rules.now)
         (reader_trees reader.old) j fact.now }
     ensures { IfOk result (λ step. (j : Judgement) →
-        IsFact (modes_of given.now.rules.now) (reader_trees reader.old) j fact.now →
-        IsMoved (modes_of given.now.rules.now) (rules_of given.now.rules.now) given.now.pairs.now
+        IsFact (set_modes given.now.rules.now) (reader_trees reader.old) j fact.now →
+        IsMoved (set_modes given.now.rules.now) (rules_of given.now.rules.now) given.now.pairs.now
         reader.old reader.new
-        (λ hyps. given_move (modes_of given.now.rules.now) hyps j (goal_in reader.old form
+        (λ hyps. given_move (set_modes given.now.rules.now) hyps j (replay_goal reader.old form
         terms.now)
-        (stack (modes_of given.now.rules.now) (rules_of given.now.rules.now) reader.old)
+        (stack (set_modes given.now.rules.now) (rules_of given.now.rules.now) reader.old)
         reader.old.noted) step) }
 {
     if fact.form != form {
@@ -99,20 +99,21 @@ pub(crate) fn try_entry(
     terms: &[usize],
 ) -> Result<Step, NoMemory>
     requires shallow { RulesAreShallow (rules_of given.now.rules.now) }
-    requires reader { IsReader (rules_of given.now.rules.now) reader.old }
+    requires reader { IsReplayReader (rules_of given.now.rules.now) reader.old }
     requires pairs { ArePairs (length (base_trees reader.old)) given.now.pairs.now }
     requires terms { AreBelow (length (reader_trees reader.old)) terms.now }
     requires facts { (js : List Judgement) ×
-        AreFacts (modes_of given.now.rules.now) (base_trees reader.old) js given.now.facts.now }
+        AreFacts (set_modes given.now.rules.now) (base_trees reader.old) js given.now.facts.now }
     ensures { IfOk result (λ step. (js : List Judgement) →
-        AreFacts (modes_of given.now.rules.now) (base_trees reader.old) js given.now.facts.now →
-        GoesOn (rules_of given.now.rules.now) reader.old reader.new
-        × IsStep (modes_of given.now.rules.now) (rules_of given.now.rules.now) [] reader.new ends
+        AreFacts (set_modes given.now.rules.now) (base_trees reader.old) js given.now.facts.now →
+        ReplayGoesOn (rules_of given.now.rules.now) reader.old reader.new
+        × IsReplayStep (set_modes given.now.rules.now) (rules_of given.now.rules.now) [] reader.new
+        ends
         step
-        (entry_move (modes_of given.now.rules.now) (hyps_in given.now.pairs.now reader.old js)
+        (entry_move (set_modes given.now.rules.now) (hyps_in given.now.pairs.now reader.old js)
         (rules_of given.now.rules.now)
-        (entry_of entry) (goal_in reader.old form terms.now)
-        (stack (modes_of given.now.rules.now) (rules_of given.now.rules.now) reader.old)
+        (entry_of entry) (replay_goal reader.old form terms.now)
+        (stack (set_modes given.now.rules.now) (rules_of given.now.rules.now) reader.old)
         reader.old.noted)) }
 {
     match entry {

@@ -8,10 +8,11 @@ ghost use Rattle.sx_rules.specs.EntryView.{entries};
 ghost use Rattle.sx_arena.specs.Arena.{AreBelow, IsArena};
 ghost use Rattle.sx_arena.specs.Facts.{AreFacts};
 ghost use Rattle.sx_arena.specs.Pairs.{ArePairs};
-ghost use Rattle.sx_arena.specs.Views.{rules_of, modes_of};
+ghost use Rattle.sx_arena.specs.Views.{rules_of, set_modes};
 ghost use Rattle.sx_replay.specs.Limits.{nothing_noted};
-ghost use Rattle.sx_replay.specs.Following.{IsChecked, IsFollowed};
-ghost use Rattle.sx_replay.specs.Reader.{IsReader, reader_trees, base_trees, goal_in, hyps_in};
+ghost use Rattle.sx_replay.specs.Following.{IsEntryChecked, IsFollowed};
+ghost use Rattle.sx_replay.specs.Reader.{IsReplayReader, reader_trees, base_trees, replay_goal};
+ghost use Rattle.sx_replay.specs.Reader.{hyps_in};
 
 use crate::entry::try_entry;
 use crate::given::Given;
@@ -36,7 +37,7 @@ const MOST_LEVELS: usize = sx_rules::MOST_LEVELS as usize;
 /// Whether the entry with this number may stand at a goal for which `level` rules wait, and no term
 /// up to the next entry passes a limit.
 fn checked(level: usize, noted: Noted, number: u32) -> Result<(), ReplayError>
-    ensures { IsChecked level noted number result }
+    ensures { IsEntryChecked level noted number result }
 {
     if level >= MOST_LEVELS {
         return Err(ReplayError::DeepList(number));
@@ -60,20 +61,20 @@ pub(crate) fn follow(
 ) -> Result<Vec<usize>, ReplayError>
     requires shallow { RulesAreShallow (rules_of given.now.rules.now) }
     requires short { length list.now < 2 ^ 32 }
-    requires reader { IsReader (rules_of given.now.rules.now) reader.old }
+    requires reader { IsReplayReader (rules_of given.now.rules.now) reader.old }
     requires none { reader.old.waiting.items ≡ [] }
     requires noted { reader.old.noted ≡ nothing_noted }
     requires pairs { ArePairs (length (base_trees reader.old)) given.now.pairs.now }
     requires terms { AreBelow (length (reader_trees reader.old)) terms.items }
     requires facts { (js : List Judgement) ×
-        AreFacts (modes_of given.now.rules.now) (base_trees reader.old) js given.now.facts.now }
+        AreFacts (set_modes given.now.rules.now) (base_trees reader.old) js given.now.facts.now }
     ensures arena { IfOk result (λ outs. IsArena reader.new.arena) }
     ensures within { IfOk result (λ outs. AreBelow (length (reader_trees reader.new)) outs.items) }
     ensures followed { (js : List Judgement) →
-        AreFacts (modes_of given.now.rules.now) (base_trees reader.old) js given.now.facts.now →
-        IsFollowed (modes_of given.now.rules.now) (rules_of given.now.rules.now) (hyps_in
+        AreFacts (set_modes given.now.rules.now) (base_trees reader.old) js given.now.facts.now →
+        IsFollowed (set_modes given.now.rules.now) (rules_of given.now.rules.now) (hyps_in
         given.now.pairs.now reader.old js)
-        (goal_in reader.old form terms.items) (entries list.now) reader.new result }
+        (replay_goal reader.old form terms.items) (entries list.now) reader.new result }
 {
     let mut form = form;
     let mut terms = terms;

@@ -4,9 +4,10 @@ ghost use Rattle.std.specs.Prelude.{◌≡◌, ℕ, ◌≤◌, IfOk, length, map
 ghost use Rattle.sx_rules.specs.Deep.{RulesAreShallow};
 ghost use Rattle.sx_arena.specs.Arena.{tree_at, AreBelow};
 ghost use Rattle.sx_arena.specs.Pairs.{ArePairs};
-ghost use Rattle.sx_arena.specs.Views.{rules_of, modes_of};
+ghost use Rattle.sx_arena.specs.Views.{rules_of, set_modes};
 ghost use Rattle.sx_replay.specs.Machine.{hand_on as handed};
-ghost use Rattle.sx_replay.specs.Reader.{IsReader, WaitsAt, IsResumed, IsMoved, reader_trees};
+ghost use Rattle.sx_replay.specs.Reader.{IsReplayReader, WaitsAt, IsReplayResumed, IsMoved};
+ghost use Rattle.sx_replay.specs.Reader.{reader_trees};
 ghost use Rattle.sx_replay.specs.Reader.{base_trees, stack};
 
 use crate::given::Given;
@@ -25,12 +26,12 @@ fn resume(
     outputs: &[usize],
 ) -> Result<Step, NoMemory>
     requires shallow { RulesAreShallow (rules_of given.now.rules.now) }
-    requires reader { IsReader (rules_of given.now.rules.now) reader.old }
+    requires reader { IsReplayReader (rules_of given.now.rules.now) reader.old }
     requires pairs { ArePairs (length (reader_trees reader.old)) given.now.pairs.now }
     requires waits { WaitsAt (rules_of given.now.rules.now) (length reader.old.binds.cells.items)
         waiting }
     requires outputs { AreBelow (length (reader_trees reader.old)) outputs.now }
-    ensures { IfOk result (λ step. IsResumed (modes_of given.now.rules.now)
+    ensures { IfOk result (λ step. IsReplayResumed (set_modes given.now.rules.now)
         (rules_of given.now.rules.now) given.now.pairs.now reader.old reader.new waiting outputs.now
         step) }
 {
@@ -62,13 +63,13 @@ pub(crate) fn hand_on(
     outputs: Vec<usize>,
 ) -> Result<Step, NoMemory>
     requires shallow { RulesAreShallow (rules_of given.now.rules.now) }
-    requires reader { IsReader (rules_of given.now.rules.now) reader.old }
+    requires reader { IsReplayReader (rules_of given.now.rules.now) reader.old }
     requires pairs { ArePairs (length (base_trees reader.old)) given.now.pairs.now }
     requires outputs { AreBelow (length (reader_trees reader.old)) outputs.items }
-    ensures { IfOk result (λ step. IsMoved (modes_of given.now.rules.now)
+    ensures { IfOk result (λ step. IsMoved (set_modes given.now.rules.now)
         (rules_of given.now.rules.now) given.now.pairs.now reader.old reader.new
-        (λ hyps. handed (modes_of given.now.rules.now) hyps
-        (stack (modes_of given.now.rules.now) (rules_of given.now.rules.now) reader.old)
+        (λ hyps. handed (set_modes given.now.rules.now) hyps
+        (stack (set_modes given.now.rules.now) (rules_of given.now.rules.now) reader.old)
         (map (tree_at (reader_trees reader.old)) outputs.items) reader.old.noted) step) }
 {
     let mut outputs = outputs;

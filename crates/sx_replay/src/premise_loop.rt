@@ -3,8 +3,8 @@
 ghost use Rattle.std.specs.Prelude.{◌≡◌, ℕ, ◌≤◌, Some, IfOk, length, map, drop, slice_get};
 ghost use Rattle.sx_rules.specs.Deep.{RuleIsShallow};
 ghost use Rattle.sx_arena.specs.Pairs.{ArePairs};
-ghost use Rattle.sx_arena.specs.Views.{rule_of, rules_of, modes_of, premise_of};
-ghost use Rattle.sx_replay.specs.Reader.{IsReader, IsPremises, reader_trees};
+ghost use Rattle.sx_arena.specs.Views.{rule_of, rules_of, set_modes, premise_of};
+ghost use Rattle.sx_replay.specs.Reader.{IsReplayReader, IsReplayPremises, reader_trees};
 
 use crate::given::Given;
 use crate::reader::{Reader, Waiting, make};
@@ -24,10 +24,10 @@ pub(crate) fn premises(
 ) -> Result<Step, NoMemory>
     requires found { slice_get (rules_of given.now.rules.now) number ≡ Some (rule_of rule.now) }
     requires shallow { RuleIsShallow (rule_of rule.now) }
-    requires reader { IsReader (rules_of given.now.rules.now) reader.old }
+    requires reader { IsReplayReader (rules_of given.now.rules.now) reader.old }
     requires pairs { ArePairs (length (reader_trees reader.old)) given.now.pairs.now }
     requires env { env ≤ length reader.old.binds.cells.items }
-    ensures { IfOk result (λ step. IsPremises (modes_of given.now.rules.now)
+    ensures { IfOk result (λ step. IsReplayPremises (set_modes given.now.rules.now)
         (rules_of given.now.rules.now) given.now.pairs.now reader.old reader.new (rule_of rule.now)
         env
         (drop from (map premise_of rule.now.premises.items)) step) }

@@ -4,10 +4,10 @@ ghost use Rattle.std.specs.Prelude.{◌≡◌, ◌≤◌, List, [], IfOk, length
 ghost use Rattle.sx_term.specs.Term.{tree};
 ghost use Rattle.sx_rules.specs.Deep.{AreShallow};
 ghost use Rattle.sx_rules.specs.Rules.{Rule};
-ghost use Rattle.sx_arena.specs.Views.{judgement_of, modes_of};
+ghost use Rattle.sx_arena.specs.Views.{judgement_of, set_modes};
 ghost use Rattle.sx_arena.specs.Arena.{IsArena, trees};
 ghost use Rattle.sx_arena.specs.Binds.{IsBinds, env_at};
-ghost use Rattle.sx_replay.specs.Reader.{IsReader, IsMade, reader_envs, places_made};
+ghost use Rattle.sx_replay.specs.Reader.{IsReplayReader, AreTermsMade, reader_envs, places_made};
 ghost use Rattle.sx_replay.specs.Limits.{nothing_noted};
 
 use crate::noted::{Noted, noted_after};
@@ -41,7 +41,7 @@ pub struct Reader {
 impl Reader {
     /// Nothing yet.
     pub fn new(alloc: Global) -> Reader
-        ensures reader { (rules : List Rule) → IsReader rules result }
+        ensures reader { (rules : List Rule) → IsReplayReader rules result }
         ensures none { result.waiting.items ≡ [] }
         ensures noted { result.noted ≡ nothing_noted }
     {
@@ -78,8 +78,8 @@ pub fn make(
     requires arena { IsArena reader.old.arena }
     requires binds { IsBinds (trees reader.old.arena) reader.old.binds }
     requires env { env ≤ length reader.old.binds.cells.items }
-    ensures { IfOk result (λ r. IsMade reader.old reader.new
-        (places_made (modes_of rules.now) outputs (env_at (reader_envs reader.old) env)
+    ensures { IfOk result (λ r. AreTermsMade reader.old reader.new
+        (places_made (set_modes rules.now) outputs (env_at (reader_envs reader.old) env)
         (judgement_of judgement.now)) r.items) }
 {
     let side = Side::new(rules, judgement, outputs);

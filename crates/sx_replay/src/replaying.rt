@@ -6,8 +6,8 @@ ghost use Rattle.sx_rules.specs.Derivations.{ShallowJudgements};
 ghost use Rattle.sx_rules.specs.EntryView.{entries};
 ghost use Rattle.sx_rules.specs.Views.{goal as goal_of, hypotheses};
 ghost use Rattle.sx_arena.specs.Entered.{ArePairsShallow};
-ghost use Rattle.sx_arena.specs.Views.{rules_of, modes_of};
-ghost use Rattle.sx_replay.specs.Problem.{IsProblem};
+ghost use Rattle.sx_arena.specs.Views.{rules_of, set_modes};
+ghost use Rattle.sx_replay.specs.Problem.{IsReplayProblem};
 ghost use Rattle.sx_replay.specs.Replay.{IsReplayed};
 
 use crate::follow::follow;
@@ -38,7 +38,7 @@ fn enter_problem(
     requires holds { ShallowJudgements (hypotheses given.now).judgements }
     requires apart { ArePairsShallow (hypotheses given.now).pairs }
     requires goal { AreShallow (goal_of goal.now).terms }
-    ensures { IfOk result (λ p. IsProblem (modes_of rules.now) (rules_of rules.now)
+    ensures { IfOk result (λ p. IsReplayProblem (set_modes rules.now) (rules_of rules.now)
         (hypotheses given.now) (goal_of goal.now).terms p) }
 {
     let mut reader = Reader::new(alloc);
@@ -97,7 +97,7 @@ pub fn replay(
     requires holds { ShallowJudgements (hypotheses given.now).judgements }
     requires apart { ArePairsShallow (hypotheses given.now).pairs }
     requires goal { AreShallow (goal_of goal.now).terms }
-    ensures { IsReplayed (modes_of rules.now) (rules_of rules.now) (hypotheses given.now)
+    ensures { IsReplayed (set_modes rules.now) (rules_of rules.now) (hypotheses given.now)
         (goal_of goal.now) (entries list.now) result }
 {
     rules.facts();

@@ -6,10 +6,13 @@ use Rattle.sx_rules.specs.Rules.{Rule}
 use Rattle.sx_rules.specs.Views.{FormData}
 use Rattle.sx_plain.specs.Plain.{Table}
 use Rattle.sx_rewrite.specs.declared.flat.Flat.{Flat}
-use Rattle.sx_rewrite.specs.Accepted.{ExtRule, Checked, checked, rule_in, Accepted, extended_rules, IsAccepted}
+use Rattle.sx_rewrite.specs.Accepted.{ExtRule, Checked, checked, rule_in, Accepted, extended_rules}
+use Rattle.sx_rewrite.specs.Accepted.{IsAccepted}
 use Rattle.sx_rewrite.specs.Sound.{AreSoundBy}
-use Rattle.sx_rewrite.specs.Extensions.{Extension, with_table, extended, Fits, without_extensions, HasGrownSoundly}
-use Rattle.sx_rewrite.specs.Stored.{checked_with, checked_of, accepted_from, signature_of, IsHeld}
+use Rattle.sx_rewrite.specs.Extensions.{Extension, with_table, extended, FitsRules}
+use Rattle.sx_rewrite.specs.Extensions.{without_extensions, HasGrownSoundly}
+use Rattle.sx_rewrite.specs.Stored.{checked_with, checked_of, accepted_from, signature_of}
+use Rattle.sx_rewrite.specs.Stored.{IsSetHeld}
 use Rattle.sx_rewrite.proofs.Growing.{all-rules, accepted_sets_grow, growth_goes_on}
 
 drop-both : (n : ℕ) (xs ys : List Rule) → n ≤ length xs → drop n (xs ++ ys) ≡ drop n xs ++ ys
@@ -66,11 +69,11 @@ module _ (base old new : List Rule) (table : Table) (flats : List Flat) (first :
       let b = ap length appended ∙ flats-both flats more in
       omega (arith, a, b, e, many)
 
-  module _ (base_shapes shapes all new_shapes : List Shape) (forms own new_forms : List FormData) (held : IsHeld base_shapes shapes forms own old before)
+  module _ (base_shapes shapes all new_shapes : List Shape) (forms own new_forms : List FormData) (held : IsSetHeld base_shapes shapes forms own old before)
       (shapes_are : new_shapes ≡ all) (forms_are : new_forms ≡ own) (lengths : length rules ≡ length more)
-      (fits : Fits (signature_of forms) base_shapes shapes all table ext_table exts)
+      (fits : FitsRules (signature_of forms) base_shapes shapes all table ext_table exts)
       (sound : AreSoundBy (signature_of forms).subjects (length base_shapes) (with_table before ext_table) exts (checked_of rules more)) where
-    pub added-held : IsHeld base_shapes new_shapes forms new_forms new (accepted_from base new ext_table all_flats)
+    pub added-held : IsSetHeld base_shapes new_shapes forms new_forms new (accepted_from base new ext_table all_flats)
     added-held =
         let sig = signature_of forms in
         let ok = accepted_sets_grow sig base_shapes shapes all before extension held.accepted fits sound in

@@ -6,7 +6,8 @@ use Rattle.sx_term.specs.Tree.{Tree, depth_of, size_of}
 use Rattle.sx_plain.specs.declared.measure.Measure.{Measure}
 use Rattle.sx_rewrite.specs.declared.rewrite_error.RewriteError.{RewriteError}
 use Rattle.sx_rewrite.specs.Rewriting.{Refusal, too_deep, too_big, first_over}
-use Rattle.sx_rewrite.specs.Puts.{IsMeasureOf, AreMeasuresOf, IsSmall, AreMadeOf, IsLimited, Tells}
+use Rattle.sx_rewrite.specs.Puts.{IsMeasureOf, AreMeasuresOf, IsSmallTerm, AreMadeOf, IsLimited}
+use Rattle.sx_rewrite.specs.Puts.{Tells}
 use Rattle.sx_rewrite.proofs.Puts.{over-none, limited-small, limited-tells}
 
 -- the term whose measure stands at a place
@@ -49,10 +50,10 @@ module _ (ms : List Measure) (i : ℕ) (so : (ts : List Tree) → AreMeasuresOf 
   measures-end l ts h = so ts h ∙ ap first_over (past ts ms i h l)
 
 -- where no term passes a limit, each is made
-pub small-here : (t : Tree) (ts : List Tree) → first_over (t ∷ ts) ≡ None → IsSmall t × (first_over ts ≡ None)
+pub small-here : (t : Tree) (ts : List Tree) → first_over (t ∷ ts) ≡ None → IsSmallTerm t × (first_over ts ≡ None)
 small-here t ts e = go (nat_lt 1000 (depth_of t)) (nat_lt 1000000 (size_of t)) refl refl e
   where
-    go : (x y : Bool) → nat_lt 1000 (depth_of t) ≡ x → nat_lt 1000000 (size_of t) ≡ y → (if x then Some (too_deep (depth_of t)) else if y then Some (too_big (min (size_of t) (2 ^ 64 - 1))) else first_over ts) ≡ None → IsSmall t × (first_over ts ≡ None)
+    go : (x y : Bool) → nat_lt 1000 (depth_of t) ≡ x → nat_lt 1000000 (size_of t) ≡ y → (if x then Some (too_deep (depth_of t)) else if y then Some (too_big (min (size_of t) (2 ^ 64 - 1))) else first_over ts) ≡ None → IsSmallTerm t × (first_over ts ≡ None)
     go true y p q f = cc
     go false true p q f = cc
     go false false p q f = ((ltb-false 1000 (depth_of t) p, ltb-false 1000000 (size_of t) q), f)

@@ -13,7 +13,7 @@ use Rattle.sx_rewrite.specs.declared.flat.Flat.{Flat}
 use Rattle.sx_rewrite.specs.Accepted.{Accepted, extended_rules, AllDisciplined, IsAccepted}
 use Rattle.sx_rewrite.specs.Extensions.{without_extensions, HasGrownSoundly}
 use Rattle.sx_rewrite.specs.Kinds.{HaveSortsFor}
-use Rattle.sx_rewrite.specs.Stored.{checked_of, accepted_from, signature_of, IsHeld}
+use Rattle.sx_rewrite.specs.Stored.{checked_of, accepted_from, signature_of, IsSetHeld}
 use Rattle.sx_rewrite.proofs.RuleSets.{good_rules_are_disciplined}
 use Rattle.sx_rewrite.proofs.KindLaws.{forms-fit, forms-typed}
 use Rattle.sx_rewrite.proofs.Growing.{same-rules, base_rules_are_accepted}
@@ -37,7 +37,7 @@ begins-sound subjects n base rules table flats t f = ∣ ([], sym (begins-as bas
 
 pub begins-held : (ss ts : List Shape) (fs gs : List FormData) (os rs : List RuleOf) (table : Table) (flats : List Flat) → ts ≡ ss → gs ≡ fs → map named rs ≡ map named os →
     table ≡ (λ (label : ℕ). None) → flats ≡ [] → IsRuleSet ss fs (map named os) → PlainHaveNoTyped ss → HaveSortsFor fs →
-    IsHeld ss ts fs gs (map rule rs) (accepted_from (map rule os) (map rule rs) table flats)
+    IsSetHeld ss ts fs gs (map rule rs) (accepted_from (map rule os) (map rule rs) table flats)
 begins-held ss ts fs gs os rs table flats shapes_are forms_are rules_are t f good no_typed kinds =
     let sig = signature_of fs in
     let of_all = good_rules_are_disciplined ss fs [] (map named os) good.1 in

@@ -7,7 +7,8 @@ use Rattle.sx_term.specs.Sorts.{Shape, HasSort, KidsHaveSorts}
 use Rattle.sx_rules.specs.Instances.{bound_by}
 use Rattle.sx_rules.specs.Rules.{Judgement, Hypotheses}
 use Rattle.sx_rules.specs.Modes.{goal_of}
-use Rattle.sx_rules.specs.Sorts.{IsUntypedSort, JudgementIsSorted, JudgementsAreSorted, GoalIsSorted, RulesAreSorted, ProofIsSorted}
+use Rattle.sx_rules.specs.Sorts.{IsUntypedSort, JudgementIsSorted, JudgementsAreSorted}
+use Rattle.sx_rules.specs.Sorts.{GoalIsSorted, RulesAreSorted, ProofIsSorted}
 use Rattle.sx_rules.specs.Derivations.{Proof, Derives}
 use Rattle.sx_rules.proofs.Sorted.{instance-sorted, inputs-sorted, derivations_are_sorted}
 use Rattle.sx_plain.specs.Plain.{Body, Table, image_node, image, images}
@@ -15,10 +16,14 @@ use Rattle.sx_plain.specs.Tables.{IsCovered, AreCovered, Begins, IsBodyFor, Desu
 use Rattle.sx_plain.proofs.Tables.{begins-at, kids-bound}
 use Rattle.sx_rewrite.specs.declared.lowered.Lowered.{Lowered}
 use Rattle.sx_rewrite.specs.declared.rewrite_error.RewriteError.{RewriteError}
-use Rattle.sx_rewrite.specs.Accepted.{ExtRule, Checked, Accepted, extended_rules, AllDisciplined, Signature, IsAccepted}
-use Rattle.sx_rewrite.specs.Extensions.{BodyFits, BodiesFit, with_table, GoesOn, ComesAfter}
+use Rattle.sx_rewrite.specs.Accepted.{ExtRule, Checked, Accepted, extended_rules, AllDisciplined}
+use Rattle.sx_rewrite.specs.Accepted.{Signature, IsAccepted}
+use Rattle.sx_rewrite.specs.Extensions.{BodyFits, BodiesFit, with_table, ShapesGoOn, ComesAfter}
 use Rattle.sx_rewrite.specs.Accepting.{AreStored}
-use Rattle.sx_rewrite.specs.CheckLaws.{LongerTablesAreAccepted, FlatPremisesAreBase, FlatGoalsStay, ChecksHaveFitTerms, FoundChecksCanBeRewritten, ChecksAreRewrittenAlike, ChecksAreSound, StoredExtensionsAreSound}
+use Rattle.sx_rewrite.specs.CheckLaws.{LongerTablesAreAccepted, FlatPremisesAreBase, FlatGoalsStay}
+use Rattle.sx_rewrite.specs.CheckLaws.{ChecksHaveFitTerms, FoundChecksCanBeRewritten}
+use Rattle.sx_rewrite.specs.CheckLaws.{ChecksAreRewrittenAlike, ChecksAreSound}
+use Rattle.sx_rewrite.specs.CheckLaws.{StoredExtensionsAreSound}
 use Rattle.sx_rewrite.specs.Lowers.{HypothesesBelow}
 use Rattle.sx_rewrite.specs.PlainRules.{plain_of}
 use Rattle.sx_rewrite.specs.RewrittenView.{IsRewriting}
@@ -141,7 +146,7 @@ checks_are_sound sig base shapes all a table ext x c stored =
     stored_is_sound sig base all (with_table a table) (first sig base shapes all a table ext x) (length shapes) ext x.sorted x.disciplined x.body c stored
 
 -- the rules of an extension that fits come after the set
-module _ (sig : Signature) (base shapes all : List Shape) (a : Accepted) (table : Table) (ok : IsAccepted sig base shapes a) (g : GoesOn base shapes all a.table table) where
+module _ (sig : Signature) (base shapes all : List Shape) (a : Accepted) (table : Table) (ok : IsAccepted sig base shapes a) (g : ShapesGoOn base shapes all a.table table) where
   each-sound : (es : List ExtRule) (cs : List Checked) → RulesAreSorted all sig.forms (map (λ e. e.rule) es) → AllDisciplined sig.subjects (map (λ e. e.rule) es) →
       BodiesFit sig all (length shapes) table es → AreStored sig (length base) (with_table a table) es cs → AreSoundBy sig.subjects (length base) (with_table a table) es cs
   each-sound [] [] h d f s = tt

@@ -120,13 +120,13 @@ module _ (base shapes : List Shape) (table : Table) (begins : Begins base shapes
   own-image : (t : Tree) (sort : Sort) → HasSort shapes vars t sort → IsUntypedSort sort → HasSort shapes vars (image table t) sort
   own-image t sort h u = image-keeps base shapes table begins no_typed d vars t sort h
 
-  placed-own : (sig : Signature) (fits : FormsFit sig.modes sig.subjects sig.forms) (body : Option Tree) → Placed shapes shapes table vars own-image sig fits body
-  placed-own sig fits None = tt
-  placed-own sig fits (Some t) = λ sort h. image-keeps base shapes table begins no_typed d vars t sort h
+  placed_at-own : (sig : Signature) (fits : FormsFit sig.modes sig.subjects sig.forms) (body : Option Tree) → Placed shapes shapes table vars own-image sig fits body
+  placed_at-own sig fits None = tt
+  placed_at-own sig fits (Some t) = λ sort h. image-keeps base shapes table begins no_typed d vars t sort h
 
-  placed-base : (sig : Signature) (fits : FormsFit sig.modes sig.subjects sig.forms) (body : Option Tree) → HasBaseSyntax (length base) table body → Placed shapes base table vars plain-image sig fits body
-  placed-base sig fits None c = tt
-  placed-base sig fits (Some t) c = λ sort h. image-sorted base shapes table vars begins d t sort h c
+  placed_at-base : (sig : Signature) (fits : FormsFit sig.modes sig.subjects sig.forms) (body : Option Tree) → HasBaseSyntax (length base) table body → Placed shapes base table vars plain-image sig fits body
+  placed_at-base sig fits None c = tt
+  placed_at-base sig fits (Some t) c = λ sort h. image-sorted base shapes table vars begins d t sort h c
 
 pub flat_forms_are_sorted : FlatFormsAreSorted
 flat_forms_are_sorted sig base shapes table begins no_typed fits d n ext h disciplined b =
@@ -134,6 +134,6 @@ flat_forms_are_sorted sig base shapes table begins no_typed fits d n ext h disci
     let to_base = plain-image base shapes table begins no_typed d vars in
     let to_own = own-image base shapes table begins no_typed d vars in (
       premises-sorted shapes base table vars to_base sig fits ext.rule.conclusion [] ext.rule.premises h.1 disciplined.bare,
-      conclusion-sorted shapes shapes table vars to_own sig fits n ext.rule ext.body (placed-own base shapes table begins no_typed d vars sig fits ext.body) refl h.0 b,
-      (λ c. conclusion-sorted shapes base table vars to_base sig fits n ext.rule ext.body (placed-base base shapes table begins no_typed d vars sig fits ext.body c) refl h.0 b),
+      conclusion-sorted shapes shapes table vars to_own sig fits n ext.rule ext.body (placed_at-own base shapes table begins no_typed d vars sig fits ext.body) refl h.0 b,
+      (λ c. conclusion-sorted shapes base table vars to_base sig fits n ext.rule ext.body (placed_at-base base shapes table begins no_typed d vars sig fits ext.body c) refl h.0 b),
     )

@@ -6,19 +6,20 @@ use Rattle.std.specs.declared.alloc.Global.{Global}
 use Rattle.sx_term.specs.declared.term.Term.{Term}
 use Rattle.sx_term.specs.Term.{tree}
 use Rattle.sx_rules.specs.declared.proof.Proof.{Proof as ProofOf, By, Given}
-use Rattle.sx_rules.specs.Derivations.{Proof, Proofs, by, given, no_more, ◌⊳◌, proof_at, put_for, graft, grafts, height_of, most_height}
+use Rattle.sx_rules.specs.Derivations.{Proof, Proofs, by, given, no_more, ◌⊳◌, proof_at, put_for}
+use Rattle.sx_rules.specs.Derivations.{graft, grafts, height_of, most_height}
 use Rattle.sx_rules.specs.ProofView.{proof, row_of, boxed}
 use Rattle.sx_rules.proofs.ProofRows.{proof-at_by}
-use Rattle.sx_rewrite.specs.Givens.{givens_of, givens_of_all, AreNumbered}
+use Rattle.sx_rewrite.specs.Givens.{givens_of, givens_of_all, CountUpFrom}
 
 -- numbers that count up, in two parts
-numbered-front : (n : ℕ) (xs ys : List ℕ) → AreNumbered n (xs ++ ys) → AreNumbered n xs
+numbered-front : (n : ℕ) (xs ys : List ℕ) → CountUpFrom n (xs ++ ys) → CountUpFrom n xs
 numbered-front n [] ys h = tt
 numbered-front n (x ∷ xs) ys (e, h) = (e, numbered-front (suc n) xs ys h)
 
-numbered-back : (n : ℕ) (xs ys : List ℕ) → AreNumbered n (xs ++ ys) → AreNumbered (n + length xs) ys
-numbered-back n [] ys h = let e : n ≡ n + 0 = omega arith in subst (λ (m : ℕ). AreNumbered m ys) e h
-numbered-back n (x ∷ xs) ys (e, h) = let s : suc n + length xs ≡ n + length (x ∷ xs) = omega arith in subst (λ (m : ℕ). AreNumbered m ys) s (numbered-back (suc n) xs ys h)
+numbered-back : (n : ℕ) (xs ys : List ℕ) → CountUpFrom n (xs ++ ys) → CountUpFrom (n + length xs) ys
+numbered-back n [] ys h = let e : n ≡ n + 0 = omega arith in subst (λ (m : ℕ). CountUpFrom m ys) e h
+numbered-back n (x ∷ xs) ys (e, h) = let s : suc n + length xs ≡ n + length (x ∷ xs) = omega arith in subst (λ (m : ℕ). CountUpFrom m ys) s (numbered-back (suc n) xs ys h)
 
 length-both : (xs ys : List ℕ) → length (xs ++ ys) ≡ length xs + length ys
 length-both [] ys = omega arith
@@ -29,11 +30,11 @@ abbrev AgreeFrom : ℕ → Proofs → Proofs → Type 0
 AgreeFrom n ps qs = (i : ℕ) → n ≤ i → proof_at ps i ≡ proof_at qs i
 
 mutual
-  graft-alike : (ps qs : Proofs) (n : ℕ) (p : Proof) → AreNumbered n (givens_of p) → AgreeFrom n ps qs → graft ps p ≡ graft qs p
+  graft-alike : (ps qs : Proofs) (n : ℕ) (p : Proof) → CountUpFrom n (givens_of p) → AgreeFrom n ps qs → graft ps p ≡ graft qs p
   graft-alike ps qs n (by r binds kids) h a = ap (by r binds) (grafts-alike ps qs n kids h a)
   graft-alike ps qs n (given i) h a = ap (λ o. put_for o i) (a i (let e = h.0 in omega arith))
 
-  grafts-alike : (ps qs : Proofs) (n : ℕ) (kids : Proofs) → AreNumbered n (givens_of_all kids) → AgreeFrom n ps qs → grafts ps kids ≡ grafts qs kids
+  grafts-alike : (ps qs : Proofs) (n : ℕ) (kids : Proofs) → CountUpFrom n (givens_of_all kids) → AgreeFrom n ps qs → grafts ps kids ≡ grafts qs kids
   grafts-alike ps qs n no_more h a = refl
   grafts-alike ps qs n (p ⊳ kids) h a =
       let e = graft-alike ps qs n p (numbered-front n (givens_of p) (givens_of_all kids) h) a in
@@ -65,7 +66,7 @@ grafts-row ks (p ∷ ps) = ap (λ (x : Proofs). graft ks p ⊳ x) (grafts-row ks
 
 -- the parts up to a place have given way, and those from it on are to
 pub record PutSoFar (first : ℕ) (old : List (Box ProofOf Global)) (parts : List (Box ProofOf Global)) (i after : ℕ) (now : List (Box ProofOf Global)) (made : List (Box ProofOf Global)) : Type 0 where
-  pub numbered : AreNumbered after (givens_of_all (boxed (drop i parts)))
+  pub numbered : CountUpFrom after (givens_of_all (boxed (drop i parts)))
   pub room : after + length (givens_of_all (boxed (drop i parts))) ≡ first + length (givens_of_all (boxed parts))
   pub rest : drop after now ≡ drop after old
   pub made_are : views (take i made) ++ map (graft (boxed old)) (views (drop i parts)) ≡ map (graft (boxed old)) (views parts)
@@ -74,7 +75,7 @@ pub record PutSoFar (first : ℕ) (old : List (Box ProofOf Global)) (parts : Lis
   pub kept : length now ≡ length old
 
 -- at the first part
-pub put-none : (first : ℕ) (old parts : List (Box ProofOf Global)) → AreNumbered first (givens_of_all (boxed parts)) → PutSoFar first old parts 0 first old parts
+pub put-none : (first : ℕ) (old parts : List (Box ProofOf Global)) → CountUpFrom first (givens_of_all (boxed parts)) → PutSoFar first old parts 0 first old parts
 put-none first old parts h = record { numbered = h; room = refl; rest = refl; made_are = refl; later = refl; many = refl; kept = refl }
 
 -- the element at a place begins what is left from there
@@ -102,8 +103,8 @@ module _ (first : ℕ) (old parts : List (Box ProofOf Global)) (i after : ℕ) (
   boxed-here : boxed (drop i parts) ≡ proof p ⊳ boxed (drop (i + 1) parts)
   boxed-here = ap boxed here ∙ ap (λ (x : ProofOf). proof x ⊳ boxed (drop (i + 1) parts)) (sym is)
 
-  numbered-here : AreNumbered after (givens_of (proof p) ++ givens_of_all (boxed (drop (i + 1) parts)))
-  numbered-here = subst (λ (x : Proofs). AreNumbered after (givens_of_all x)) boxed-here so.numbered
+  numbered-here : CountUpFrom after (givens_of (proof p) ++ givens_of_all (boxed (drop (i + 1) parts)))
+  numbered-here = subst (λ (x : Proofs). CountUpFrom after (givens_of_all x)) boxed-here so.numbered
 
   room-here : after + (length (givens_of (proof p)) + length (givens_of_all (boxed (drop (i + 1) parts)))) ≡ first + length (givens_of_all (boxed parts))
   room-here =
@@ -117,7 +118,7 @@ module _ (first : ℕ) (old parts : List (Box ProofOf Global)) (i after : ℕ) (
       let a = most-from i parts in
       let b = ap most_height boxed-here in omega arith
 
-  pub put-numbered : AreNumbered after (givens_of (proof p))
+  pub put-numbered : CountUpFrom after (givens_of (proof p))
   put-numbered = numbered-front after (givens_of (proof p)) (givens_of_all (boxed (drop (i + 1) parts))) numbered-here
 
   pub put-room : first + length (givens_of_all (boxed parts)) ≤ length old → after + length (givens_of (proof p)) ≤ length now
@@ -129,7 +130,7 @@ module _ (first : ℕ) (old parts : List (Box ProofOf Global)) (i after : ℕ) (
   pub put-step : (more : ℕ) (new : List (Box ProofOf Global)) (a b : Box ProofOf Global) → proof b.value ≡ graft (boxed now) (proof p) → more ≡ after + length (givens_of (proof p)) →
       drop more new ≡ drop more now → length new ≡ length now → PutSoFar first old parts (i + 1) more new (set (set made i a) i b)
   put-step more new a b e m r l = record {
-    numbered = subst (λ (n : ℕ). AreNumbered n (givens_of_all (boxed (drop (i + 1) parts)))) (sym m) (numbered-back after (givens_of (proof p)) (givens_of_all (boxed (drop (i + 1) parts))) numbered-here);
+    numbered = subst (λ (n : ℕ). CountUpFrom n (givens_of_all (boxed (drop (i + 1) parts)))) (sym m) (numbered-back after (givens_of (proof p)) (givens_of_all (boxed (drop (i + 1) parts))) numbered-here);
     room = let x = room-here in omega arith;
     rest = r ∙ subst (λ (n : ℕ). drop n now ≡ drop n old) (sym m) (drop-later after (length (givens_of (proof p))) now old so.rest);
     made_are =
@@ -215,8 +216,8 @@ module _ (p : ProofOf) (rule : ℕ) (binds : Vec Term Global) (kids : Vec (Box P
   pub node-less : most_height (boxed parts) < height_of (proof p)
   node-less = let a = ap height_of node-is in omega arith
 
-  pub node-numbered : (n : ℕ) → AreNumbered n (givens_of (proof p)) → AreNumbered n (givens_of_all (boxed parts))
-  node-numbered n h = subst (λ (x : Proof). AreNumbered n (givens_of x)) node-is h
+  pub node-numbered : (n : ℕ) → CountUpFrom n (givens_of (proof p)) → CountUpFrom n (givens_of_all (boxed parts))
+  node-numbered n h = subst (λ (x : Proof). CountUpFrom n (givens_of x)) node-is h
 
   pub node-many : length (givens_of (proof p)) ≡ length (givens_of_all (boxed parts))
   node-many = ap (λ (x : Proof). length (givens_of x)) node-is
@@ -225,11 +226,11 @@ module _ (p : ProofOf) (rule : ℕ) (binds : Vec Term Global) (kids : Vec (Box P
   node-grafted ks new e = proof-at_by (By rule binds new) rule binds new refl ∙ ap (by rule (map tree binds.items)) e ∙ sym (ap (graft ks) node-is)
 
 -- a given gives way to the kid at its place
-pub given-grafted : (p : ProofOf) (i n : ℕ) (ks : List (Box ProofOf Global)) (k : Box ProofOf Global) (q : ProofOf) → p ≡ Given i → AreNumbered n (givens_of (proof p)) →
+pub given-grafted : (p : ProofOf) (i n : ℕ) (ks : List (Box ProofOf Global)) (k : Box ProofOf Global) (q : ProofOf) → p ≡ Given i → CountUpFrom n (givens_of (proof p)) →
     n + length (givens_of (proof p)) ≤ length ks → k ≡ get_or ks n k → q ≡ k.value → proof q ≡ graft (boxed ks) (proof p)
 given-grafted p i n ks k q is h m at same =
     let e : proof p ≡ given i = ap proof is in
     let one = ap (λ (x : Proof). length (givens_of x)) e in
     let l : n < length ks = omega arith in
-    let f : AreNumbered n (i ∷ []) = subst (λ (x : Proof). AreNumbered n (givens_of x)) e h in
+    let f : CountUpFrom n (i ∷ []) = subst (λ (x : Proof). CountUpFrom n (givens_of x)) e h in
     ap proof same ∙ put-given ks i n k f.0 l at ∙ sym (ap (graft (boxed ks)) e)

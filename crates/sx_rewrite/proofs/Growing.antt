@@ -13,9 +13,11 @@ use Rattle.sx_plain.specs.Plain.{Table, image}
 use Rattle.sx_plain.specs.Tables.{Begins}
 use Rattle.sx_plain.proofs.Tables.{sorted-below, images_stay}
 use Rattle.sx_rewrite.specs.Flat.{flat_places, flat_judgement, flat_pairs, flat_hypotheses}
-use Rattle.sx_rewrite.specs.Accepted.{ExtRule, Checked, flat_conclusion, Known, basic, checked, rule_in, Accepted, extended_rules, AllCertified, AllDisciplined, Signature, IsAccepted}
+use Rattle.sx_rewrite.specs.Accepted.{ExtRule, Checked, flat_conclusion, Known, basic, checked}
+use Rattle.sx_rewrite.specs.Accepted.{rule_in, Accepted, extended_rules, AllCertified}
+use Rattle.sx_rewrite.specs.Accepted.{AllDisciplined, Signature, IsAccepted}
 use Rattle.sx_rewrite.specs.Sound.{AreSoundBy}
-use Rattle.sx_rewrite.specs.Extensions.{with_table, extended, BodiesFit, GoesOn}
+use Rattle.sx_rewrite.specs.Extensions.{with_table, extended, BodiesFit, ShapesGoOn}
 use Rattle.sx_rewrite.specs.AcceptLaws.{BaseRulesAreAccepted, AcceptedSetsGrow, GrowthGoesOn}
 use Rattle.sx_rewrite.proofs.LoweredSorted.{more-sorted, list-more-sorted}
 use Rattle.sx_rewrite.proofs.Sound.{sound_rules_are_sorted}
@@ -181,7 +183,7 @@ module _ (sig : Signature) (base shapes : List Shape) (a : Accepted) (ok : IsAcc
   sound-certified (e ∷ es) (c ∷ cs) h d f s = (s.0.certified, sound_rules_are_sorted sig base shapes a ok n e h.0 d.0 f.0 c s.0, sound-certified es cs h.1 d.1 f.1 s.1)
 
 -- the set with a longer table is accepted by more shapes
-pub longer : (sig : Signature) (base shapes all : List Shape) (a : Accepted) (table : Table) → IsAccepted sig base shapes a → GoesOn base shapes all a.table table → IsAccepted sig base all (with_table a table)
+pub longer : (sig : Signature) (base shapes all : List Shape) (a : Accepted) (table : Table) → IsAccepted sig base shapes a → ShapesGoOn base shapes all a.table table → IsAccepted sig base all (with_table a table)
 longer sig base shapes all a table ok x = record {
   begins = (ok.begins.0 ++ x.begins.0, x.begins.1 ∙ ap (λ (ss : List Shape). ss ++ x.begins.0) ok.begins.1 ∙ append-shapes base ok.begins.0 x.begins.0);
   no_typed = x.no_typed;

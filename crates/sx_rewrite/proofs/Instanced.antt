@@ -19,7 +19,7 @@ use Rattle.sx_plain.proofs.Measured.{sat}
 use Rattle.sx_rewrite.specs.declared.put_terms.PutTerms.{PutTerms}
 use Rattle.sx_rewrite.specs.declared.rewrite_error.RewriteError.{RewriteError}
 use Rattle.sx_rewrite.specs.Rewriting.{Refusal, first_over}
-use Rattle.sx_rewrite.specs.Puts.{IsMeasureOf, AreMeasuresOf, IsSmall, IsLimited, Tells}
+use Rattle.sx_rewrite.specs.Puts.{IsMeasureOf, AreMeasuresOf, IsSmallTerm, IsLimited, Tells}
 use Rattle.sx_rewrite.specs.Put.{ArePut}
 use Rattle.sx_rewrite.proofs.Puts.{put-depth, put-size, put-made, over-none, limited-small, limited-tells}
 
@@ -112,11 +112,11 @@ module _ (s : ℕ → Tree) (ts : List Term) (i : ℕ) (k : Term) (within : i < 
   here-tells m e over l is =
       subst (λ (o : Option Refusal). Tells o e) (sym (over ∙ ap first_over here)) (limited-tells (instance s (tree k)) (map (instance s) (drop (i + 1) (map tree ts))) m e l is)
 
-  pub here-passes : first_over (map (instance s) (map tree ts)) ≡ first_over (map (instance s) (drop i (map tree ts))) → IsSmall (instance s (tree k)) →
+  pub here-passes : first_over (map (instance s) (map tree ts)) ≡ first_over (map (instance s) (drop i (map tree ts))) → IsSmallTerm (instance s (tree k)) →
       first_over (map (instance s) (map tree ts)) ≡ first_over (map (instance s) (drop (i + 1) (map tree ts)))
   here-passes over small = over ∙ ap first_over here ∙ over-none (instance s (tree k)) (map (instance s) (drop (i + 1) (map tree ts))) small
 
-  so-far-step : (made : List Tree) (ms : List Measure) (m : Measure) → SoFar s (map tree ts) i made ms → IsSmall (instance s (tree k)) → IsMeasureOf (instance s (tree k)) m →
+  so-far-step : (made : List Tree) (ms : List Measure) (m : Measure) → SoFar s (map tree ts) i made ms → IsSmallTerm (instance s (tree k)) → IsMeasureOf (instance s (tree k)) m →
       SoFar s (map tree ts) (i + 1) (made ++ instance s (tree k) ∷ []) (ms ++ m ∷ [])
   so-far-step made ms m so small is =
       let e : map (instance s) (take (i + 1) (map tree ts)) ≡ map (instance s) (take i (map tree ts)) ++ instance s (tree k) ∷ [] =
@@ -137,7 +137,7 @@ module _ (puts : PutTerms) (ts : List Term) (i : ℕ) (made : List Term) (ms : L
     instances-tell e l more p = here-tells (bound_by more) ts i k within at m e (so.goes more p).over l (measure-is more puts.measures.items (tree k) m p.0 is)
 
     module _ (small : (m.depth ≤ 1000) × (m.size ≤ 1000000)) (new : Term) (new-is : tree new ≡ instance (bound_by (map tree puts.terms.items)) (tree k)) where
-      passes : (more : List Tree) → ArePut more puts → IsSmall (instance (bound_by more) (tree k))
+      passes : (more : List Tree) → ArePut more puts → IsSmallTerm (instance (bound_by more) (tree k))
       passes more p = limited-small (instance (bound_by more) (tree k)) m small (measure-is more puts.measures.items (tree k) m p.0 is)
 
       is-made : (more : List Tree) → ArePut more puts → tree new ≡ instance (bound_by more) (tree k)

@@ -12,12 +12,12 @@ use Rattle.sx_rewrite.specs.Extensions.{extended}
 use Rattle.sx_rewrite.specs.Stored.{accepted_from}
 use Rattle.sx_rewrite.specs.AcceptedView.{accepted}
 use Rattle.sx_rewrite.specs.ExtensionView.{named_rules, extension_with}
-use Rattle.sx_rewrite.specs.Adds.{IsJoined, IsAdded}
+use Rattle.sx_rewrite.specs.Adds.{IsSetJoined, IsExtensionAdded}
 
-pub added-by : (old : Accepted) (grown : Grown) (ext : ExtensionData) (all : List Shape) (flats : List Flat) (r : Result Accepted Accepted) → IsJoined old grown ext.plain flats r →
+pub added-by : (old : Accepted) (grown : Grown) (ext : ExtensionData) (all : List Shape) (flats : List Flat) (r : Result Accepted Accepted) → IsSetJoined old grown ext.plain flats r →
     shapes_in grown.rules ≡ all → rules_in grown.rules ≡ rules_in old.rules ++ named_rules ext →
     accepted_from (bare_rules_in old.base) (bare_rules_in grown.rules) (table_of ext.plain) (old.flats.items ++ flats) ≡ extended (accepted old) (extension_with ext flats) →
-    IsAdded old all ext flats r
+    IsExtensionAdded old all ext flats r
 added-by old grown ext all flats (Ok new) (base_is, rules_are, plain_is, flats_are) s n e = (
   base_is,
   ap shapes_in rules_are ∙ s,

@@ -4,20 +4,25 @@ use Rattle.std.specs.Prelude.{slice_get, option_map}
 use Rattle.sx_term.specs.Tree.{Tree}
 use Rattle.sx_term.specs.Sorts.{Shape}
 use Rattle.sx_rules.specs.Rules.{Rule, Hypotheses, judgements_of}
-use Rattle.sx_rules.specs.Derivations.{Proof, Proofs, by, given, no_more, ◌⊳◌, proof_at, Derives, ShallowJudgements, height_of, most_height, HaveShallowBinds, graft}
+use Rattle.sx_rules.specs.Derivations.{Proof, Proofs, by, given, no_more, ◌⊳◌, proof_at, Derives}
+use Rattle.sx_rules.specs.Derivations.{ShallowJudgements, height_of, most_height, HaveShallowBinds}
+use Rattle.sx_rules.specs.Derivations.{graft}
 use Rattle.sx_rewrite.specs.declared.rewrite_error.RewriteError.{RewriteError}
-use Rattle.sx_rewrite.specs.Accepted.{Known, basic, checked, rule_in, Accepted, known_of, extended_rules, Signature, IsAccepted}
+use Rattle.sx_rewrite.specs.Accepted.{Known, basic, checked, rule_in, Accepted, known_of}
+use Rattle.sx_rewrite.specs.Accepted.{extended_rules, Signature, IsAccepted}
 use Rattle.sx_rewrite.specs.Stored.{stored_in, certificate_at}
-use Rattle.sx_rewrite.specs.Givens.{givens_of, givens_of_all, AllBelow}
+use Rattle.sx_rewrite.specs.Givens.{givens_of, givens_of_all, NumbersBelow}
 use Rattle.sx_rewrite.specs.Lowers.{HypothesesBelow}
-use Rattle.sx_rewrite.specs.Used.{IsUsed, IsUsedAmong, grafted_height, height_at, lowered_heights_of}
-use Rattle.sx_rewrite.specs.LoweredSizes.{number_of, FitKids}
+use Rattle.sx_rewrite.specs.Used.{IsUsed, IsUsedAmong, grafted_height, height_at}
+use Rattle.sx_rewrite.specs.Used.{lowered_heights_of}
+use Rattle.sx_rewrite.specs.LoweredSizes.{proof_count, FitKids}
 use Rattle.sx_rewrite.specs.Needed.{needed}
 use Rattle.sx_rewrite.specs.Puts.{Tells}
 use Rattle.sx_rewrite.specs.PutImages.{images_for}
 use Rattle.sx_rewrite.specs.PutSubjects.{AreReady, ArePutBelow, IsNodeOf}
 use Rattle.sx_rewrite.specs.Rewriting.{first_over}
-use Rattle.sx_rewrite.specs.Lowering.{CanLower, IsLoweredTo, AreLoweredTo, IsRefused, AreRefused, own_terms, own_proof, CanGraft}
+use Rattle.sx_rewrite.specs.Lowering.{CanLower, IsLoweredTo, AreLoweredTo, IsLoweringRefused}
+use Rattle.sx_rewrite.specs.Lowering.{AreRefused, own_terms, own_proof, CanGraft}
 use Rattle.sx_rewrite.proofs.Known.{known-at, rule-at, accepted-disciplined}
 use Rattle.sx_rewrite.proofs.Measured.{used-test}
 use Rattle.sx_rewrite.proofs.Tallied.{derived-fit}
@@ -26,16 +31,16 @@ use Rattle.sx_rewrite.proofs.LoweredNode.{kids-refuse, binds-many, node-lowers, 
 use Rattle.sx_rewrite.proofs.LoweredNode as node
 use Rattle.sx_rewrite.proofs.Summed.{certificates_use_premises}
 
-all-both : (n : ℕ) (xs ys : List ℕ) → AllBelow n xs → AllBelow n ys → AllBelow n (xs ++ ys)
+all-both : (n : ℕ) (xs ys : List ℕ) → NumbersBelow n xs → NumbersBelow n ys → NumbersBelow n (xs ++ ys)
 all-both n [] ys h k = k
 all-both n (x ∷ xs) ys h k = (h.0, all-both n xs ys h.1 k)
 
 mutual
-  givens-below : (n : ℕ) (p : Proof) → ((i : ℕ) → IsUsed i p → i < n) → AllBelow n (givens_of p)
+  givens-below : (n : ℕ) (p : Proof) → ((i : ℕ) → IsUsed i p → i < n) → NumbersBelow n (givens_of p)
   givens-below n (by r binds kids) f = all_givens-below n kids f
   givens-below n (given i) f = (f i refl, tt)
 
-  all_givens-below : (n : ℕ) (ps : Proofs) → ((i : ℕ) → IsUsedAmong i ps → i < n) → AllBelow n (givens_of_all ps)
+  all_givens-below : (n : ℕ) (ps : Proofs) → ((i : ℕ) → IsUsedAmong i ps → i < n) → NumbersBelow n (givens_of_all ps)
   all_givens-below n no_more f = tt
   all_givens-below n (p ⊳ ps) f = all-both n (givens_of p) (givens_of_all ps) (givens-below n p (λ i u. f i (inl u))) (all_givens-below n ps (λ i u. f i (inr u)))
 
@@ -71,10 +76,10 @@ module _ (sig : Signature) (base shapes : List Shape) (a : Accepted) (ok : IsAcc
   pub by-can : (i : ℕ) (p : Proof) → needed cert i ≡ true → proof_at kids i ≡ Some p → CanLower a hyps p
   by-can i p n e = kid-can sig base shapes a ok hyps below near r binds kids can known at_r i p (ap (λ (o : Option Proof). needed o i) cert-is ∙ n) e
 
-  pub by-refuse : (e : RewriteError) → AreRefused a sig.subjects hyps (needed cert) kids e → IsRefused a sig.subjects hyps (by r binds kids) e
+  pub by-refuse : (e : RewriteError) → AreRefused a sig.subjects hyps (needed cert) kids e → IsLoweringRefused a sig.subjects hyps (by r binds kids) e
   by-refuse e f = kids-refuse sig base shapes a ok hyps below near r binds kids can known at_r e (subst (λ (o : Option Proof). AreRefused a sig.subjects hyps (needed o) kids e) (sym cert-is) f)
 
-  kids-fit : number_of kids ≡ length (judgements_of (rule_in known).premises)
+  kids-fit : proof_count kids ≡ length (judgements_of (rule_in known).premises)
   kids-fit = subst (λ (o : Option Known). FitKids o kids) at_r (derived-fit a hyps can.judgement (by r binds kids) can.derives).0
 
   module _ (news : Proofs) (is : AreLoweredTo a sig.subjects hyps (needed cert) kids news) where
@@ -90,7 +95,7 @@ module _ (sig : Signature) (base shapes : List Shape) (a : Accepted) (ok : IsAcc
     pub by-binds : HaveShallowBinds news
     by-binds = kids-binds sig base shapes a ok hyps below near r binds kids can known at_r news is-known
 
-    pub by-node : IsNodeOf (extended_rules a) sig.subjects r (length binds) (number_of news)
+    pub by-node : IsNodeOf (extended_rules a) sig.subjects r (length binds) (proof_count news)
     by-node = record {
       rule = rule_in known;
       at = rule-at (known_of a) r known at_r;
@@ -102,7 +107,7 @@ module _ (sig : Signature) (base shapes : List Shape) (a : Accepted) (ok : IsAcc
     pub by-graft : CanGraft cert news
     by-graft p e = go known at_r (cert-is ∙ e) refl
       where
-        go : (y : Known) → slice_get (known_of a) r ≡ Some y → cert_of y ≡ Some p → y ≡ known → AllBelow (number_of news) (givens_of p) × (height_of (graft news p) ≤ 3000)
+        go : (y : Known) → slice_get (known_of a) r ≡ Some y → cert_of y ≡ Some p → y ≡ known → NumbersBelow (proof_count news) (givens_of p) × (height_of (graft news p) ≤ 3000)
         go (basic x) at f same = let z : None ≡ Some p = f in cc
         go (checked c) at f same =
             let z : Some c.proof ≡ Some p = f in
@@ -113,12 +118,12 @@ module _ (sig : Signature) (base shapes : List Shape) (a : Accepted) (ok : IsAcc
             let m = is.many in
             let k = kids-fit in
             let w = ap (λ (v : Known). length (judgements_of (rule_in v).premises)) same in
-            subst (λ (v : Proof). AllBelow (number_of news) (givens_of v) × (height_of (graft news v) ≤ 3000)) q (
-              givens-below (number_of news) c.proof (λ i u. let l = certificates_use_premises sig base shapes a ok r c at i u in omega (arith, l, m, k, w)),
+            subst (λ (v : Proof). NumbersBelow (proof_count news) (givens_of v) × (height_of (graft news v) ≤ 3000)) q (
+              givens-below (proof_count news) c.proof (λ i u. let l = certificates_use_premises sig base shapes a ok r c at i u in omega (arith, l, m, k, w)),
               whole-low sig base shapes a ok hyps below near r binds kids can known at_r news is-known c.proof uses high,
             )
 
-    module _ (n : ℕ) (many : n ≡ number_of news) (more : List Tree) (x : Rule) (at_x : slice_get (extended_rules a) r ≡ Some x)
+    module _ (n : ℕ) (many : n ≡ proof_count news) (more : List Tree) (x : Rule) (at_x : slice_get (extended_rules a) r ≡ Some x)
         (put : ArePutBelow sig.subjects a.base hyps (needed cert) (judgements_of x.premises) news n (images_for a.table x.sorts binds) more) where
       put-known : ArePutBelow sig.subjects a.base hyps (need_of known) (judgements_of (rule_in known).premises) news n (images_for a.table (rule_in known).sorts binds) more
       put-known =
@@ -135,7 +140,7 @@ module _ (sig : Signature) (base shapes : List Shape) (a : Accepted) (ok : IsAcc
           node-lowers sig base shapes a ok hyps below near r binds kids can known at_r news is-known n many more put-known q
           (h.1 ∙ ap (λ (o : Option Proof). own_proof o r more news) (sym cert-is) ∙ own_proof-is known r more news) (ap first_over (sym terms-here) ∙ h.0)
 
-      pub by-refuses : (e : RewriteError) → Tells (first_over (own_terms a.base cert r more)) e → IsRefused a sig.subjects hyps (by r binds kids) e
+      pub by-refuses : (e : RewriteError) → Tells (first_over (own_terms a.base cert r more)) e → IsLoweringRefused a sig.subjects hyps (by r binds kids) e
       by-refuses e h =
           node-refuses sig base shapes a ok hyps below near r binds kids can known at_r news is-known n many more put-known e
           (subst (λ (us : List Tree). Tells (first_over us) e) terms-here h)

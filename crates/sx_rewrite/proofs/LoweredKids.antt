@@ -5,17 +5,21 @@ use Rattle.sx_term.specs.Tree.{Tree}
 use Rattle.sx_term.specs.Sorts.{Shape}
 use Rattle.sx_rules.specs.Instances.{bound_by}
 use Rattle.sx_rules.specs.Rules.{Judgement, Rule, Hypotheses, judgement_instance, judgements_of}
-use Rattle.sx_rules.specs.Derivations.{Proof, Proofs, by, given, no_more, ◌⊳◌, proof_at, put_for, Derives, DeriveEach, height_of, most_height, HasShallowBinds, HaveShallowBinds, ShallowJudgements, graft, grafts}
+use Rattle.sx_rules.specs.Derivations.{Proof, Proofs, by, given, no_more, ◌⊳◌, proof_at, put_for}
+use Rattle.sx_rules.specs.Derivations.{Derives, DeriveEach, height_of, most_height, HasShallowBinds}
+use Rattle.sx_rules.specs.Derivations.{HaveShallowBinds, ShallowJudgements, graft, grafts}
 use Rattle.sx_plain.specs.Plain.{Table}
 use Rattle.sx_plain.specs.Measures.{greatest}
-use Rattle.sx_rewrite.specs.Accepted.{Known, basic, checked, Accepted, known_of, extended_rules, Signature, IsAccepted}
+use Rattle.sx_rewrite.specs.Accepted.{Known, basic, checked, Accepted, known_of, extended_rules}
+use Rattle.sx_rewrite.specs.Accepted.{Signature, IsAccepted}
 use Rattle.sx_rewrite.specs.Stored.{stored_in}
 use Rattle.sx_rewrite.specs.Lowers.{Lowers, LowersEach, HypothesesBelow}
-use Rattle.sx_rewrite.specs.Used.{IsUsed, IsUsedAmong, grafted_height, grafted_height_of, height_at, lowered_height, lowered_heights_of}
+use Rattle.sx_rewrite.specs.Used.{IsUsed, IsUsedAmong, grafted_height, grafted_height_of, height_at}
+use Rattle.sx_rewrite.specs.Used.{lowered_height, lowered_heights_of}
 use Rattle.sx_rewrite.specs.Measured.{Measures}
-use Rattle.sx_rewrite.specs.LoweredSizes.{number_of}
+use Rattle.sx_rewrite.specs.LoweredSizes.{proof_count}
 use Rattle.sx_rewrite.specs.Needed.{needed}
-use Rattle.sx_rewrite.specs.PutSubjects.{IsReady, AreReady}
+use Rattle.sx_rewrite.specs.PutSubjects.{IsProofReady, AreReady}
 use Rattle.sx_rewrite.specs.Lowering.{BindsFit, AllBindsFit, CanLower, IsLoweredTo, AreLoweredTo}
 use Rattle.sx_rewrite.proofs.Lowerings.{lowered_are_derivations}
 use Rattle.sx_rewrite.proofs.LoweredAlways.{lowering_exists, all_lowered}
@@ -72,13 +76,13 @@ kid-low (basic rule) hs i n l = let h = within-greatest hs i l in omega (arith, 
 kid-low (checked c) hs i n l = within-grafted hs i c.proof (test-used i c.proof n)
 
 -- as many proofs
-pub at-both : (ps qs : Proofs) (i : ℕ) (q : Proof) → number_of qs ≡ number_of ps → proof_at qs i ≡ Some q → (p : Proof) × (proof_at ps i ≡ Some p)
+pub at-both : (ps qs : Proofs) (i : ℕ) (q : Proof) → proof_count qs ≡ proof_count ps → proof_at qs i ≡ Some q → (p : Proof) × (proof_at ps i ≡ Some p)
 at-both ps no_more i q n e = cc
 at-both no_more (y ⊳ qs) i q n e = absurd (omega (arith, n))
 at-both (x ⊳ ps) (y ⊳ qs) zero q n e = (x, refl)
 at-both (x ⊳ ps) (y ⊳ qs) (suc i) q n e = at-both ps qs i q (omega (arith, n)) e
 
-pub none-both : (ps qs : Proofs) (i : ℕ) → number_of qs ≡ number_of ps → proof_at ps i ≡ None → proof_at qs i ≡ None
+pub none-both : (ps qs : Proofs) (i : ℕ) → proof_count qs ≡ proof_count ps → proof_at ps i ≡ None → proof_at qs i ≡ None
 none-both ps no_more i n e = refl
 none-both no_more (y ⊳ qs) i n e = absurd (omega (arith, n))
 none-both (x ⊳ ps) (y ⊳ qs) zero n e = cc
@@ -128,7 +132,7 @@ lowered-at a sig hyps (x ⊳ ps) (o ⊳ os) (k ∷ ls) (suc i) p l e =
     let r = lowered-at a sig hyps ps os ls i p l.1 e in
     record { other = r.other; judgement = r.judgement; at = r.at; at_judgement = r.at_judgement; lowers = r.lowers }
 
-pub lowered-many : (a : Accepted) (sig : Signature) (hyps : Hypotheses) (ps os : Proofs) (ls : List Judgement) → LowersEach a sig.subjects hyps ps os ls → number_of os ≡ number_of ps
+pub lowered-many : (a : Accepted) (sig : Signature) (hyps : Hypotheses) (ps os : Proofs) (ls : List Judgement) → LowersEach a sig.subjects hyps ps os ls → proof_count os ≡ proof_count ps
 lowered-many a sig hyps no_more no_more [] l = refl
 lowered-many a sig hyps no_more no_more (k ∷ ls) l = absurd l
 lowered-many a sig hyps no_more (o ⊳ os) ls l = absurd l
@@ -138,10 +142,10 @@ lowered-many a sig hyps (x ⊳ ps) (o ⊳ os) (k ∷ ls) l = let h = lowered-man
 
 module _ (sig : Signature) (base shapes : List Shape) (a : Accepted) (ok : IsAccepted sig base shapes a) (hyps : Hypotheses) (below : HypothesesBelow (length base) hyps) (near : ShallowJudgements hyps.judgements) where
   -- what a derivation is lowered to is ready
-  pub lowered-ready : (p q : Proof) → CanLower a hyps p → IsLoweredTo a sig.subjects hyps p q → IsReady a.base hyps q
+  pub lowered-ready : (p q : Proof) → CanLower a hyps p → IsLoweredTo a sig.subjects hyps p q → IsProofReady a.base hyps q
   lowered-ready p q can is = go (lowering_exists sig base shapes a ok hyps p can.judgement can.derives) (terms_are_measured sig base shapes a ok hyps p can.judgement can.derives)
     where
-      go : (o : Proof) × (k : Judgement) × Lowers a sig.subjects hyps p o k → (ts : List Tree) × Measures a sig.subjects hyps p ts → IsReady a.base hyps q
+      go : (o : Proof) × (k : Judgement) × Lowers a sig.subjects hyps p o k → (ts : List Tree) × Measures a sig.subjects hyps p ts → IsProofReady a.base hyps q
       go (o, k, l) (ts, m) =
           let same = sym (is.lowered o k l) in
           let d = (lowered_are_derivations sig base shapes a ok hyps below p o can.judgement k can.derives l).0 in

@@ -12,21 +12,27 @@ use Rattle.sx_rules.specs.Modes.{Modes}
 use Rattle.sx_rules.specs.Sorts.{IsUntypedSort}
 use Rattle.sx_rules.specs.Discipline.{subjects_of, IsSubjectIn}
 use Rattle.sx_rules.specs.Typed.{IsUntypedVariable}
-use Rattle.sx_rules.specs.Derivations.{Proof, Proofs, by, given, no_more, ◌⊳◌, proof_at, Derives, ShallowJudgements, proof_instance, graft}
+use Rattle.sx_rules.specs.Derivations.{Proof, Proofs, by, given, no_more, ◌⊳◌, proof_at, Derives}
+use Rattle.sx_rules.specs.Derivations.{ShallowJudgements, proof_instance, graft}
 use Rattle.sx_rules.proofs.Instancing.{map_instance-same}
 use Rattle.sx_rules.proofs.Disciplined.{untyped_clash}
 use Rattle.sx_plain.specs.Plain.{Table, image}
 use Rattle.sx_rewrite.specs.declared.rewrite_error.RewriteError.{RewriteError}
-use Rattle.sx_rewrite.specs.Accepted.{Checked, Known, basic, checked, rule_in, Accepted, known_of, extended_rules, Signature, IsAccepted}
-use Rattle.sx_rewrite.specs.Lowers.{SubjectsAreLowered, AreLoweredBinds, LowersTo, Lowers, LowersEach, HypothesesBelow}
-use Rattle.sx_rewrite.specs.Used.{IsUsed, StandsInProof, StandsInProofs, LowersWhereUsed, SubjectsWhereUsed, AreUsedBinds}
-use Rattle.sx_rewrite.specs.LoweredSizes.{number_of}
-use Rattle.sx_rewrite.specs.Measured.{is_used, node_terms, certificate_terms, certificate_terms_of, used_terms, all_terms, terms_at, Measures, MeasuresEach}
+use Rattle.sx_rewrite.specs.Accepted.{Checked, Known, basic, checked, rule_in, Accepted, known_of}
+use Rattle.sx_rewrite.specs.Accepted.{extended_rules, Signature, IsAccepted}
+use Rattle.sx_rewrite.specs.Lowers.{SubjectsAreLowered, AreLoweredBinds, LowersTo, Lowers}
+use Rattle.sx_rewrite.specs.Lowers.{LowersEach, HypothesesBelow}
+use Rattle.sx_rewrite.specs.Used.{IsUsed, StandsInProof, StandsInProofs, LowersWhereUsed}
+use Rattle.sx_rewrite.specs.Used.{SubjectsWhereUsed, AreUsedBinds}
+use Rattle.sx_rewrite.specs.LoweredSizes.{proof_count}
+use Rattle.sx_rewrite.specs.Measured.{is_used, node_terms, certificate_terms, certificate_terms_of}
+use Rattle.sx_rewrite.specs.Measured.{used_terms, all_terms, terms_at, Measures, MeasuresEach}
 use Rattle.sx_rewrite.specs.Rewriting.{Refusal, first_over}
 use Rattle.sx_rewrite.specs.Puts.{Tells}
 use Rattle.sx_rewrite.specs.PutImages.{image_for, images_for}
 use Rattle.sx_rewrite.specs.PutSubjects.{ArePutBelow}
-use Rattle.sx_rewrite.specs.Lowering.{CanLower, IsLoweredTo, AreLoweredTo, needed_terms, IsRefused, AreRefused}
+use Rattle.sx_rewrite.specs.Lowering.{CanLower, IsLoweredTo, AreLoweredTo, needed_terms}
+use Rattle.sx_rewrite.specs.Lowering.{IsLoweringRefused, AreRefused}
 use Rattle.sx_rewrite.proofs.Known.{rule-at, accepted-sorted, accepted-disciplined, accepted-typed}
 use Rattle.sx_rewrite.proofs.Lowerings.{lowered_are_derivations}
 use Rattle.sx_rewrite.proofs.LoweredOnce.{same_binds}
@@ -76,7 +82,7 @@ back-at a subjects hyps (p ⊳ ps) (o ⊳ os) (k ∷ ls) (suc i) l h e =
     let r = back-at a subjects hyps ps os ls i l h.1 e in
     record { from = r.from; to = r.to; at_from = r.at_from; at_to = r.at_to; lowers = r.lowers }
 
-within-number : (ps : Proofs) (i : ℕ) (p : Proof) → proof_at ps i ≡ Some p → i < number_of ps
+within-number : (ps : Proofs) (i : ℕ) (p : Proof) → proof_at ps i ≡ Some p → i < proof_count ps
 within-number no_more i p e = cc
 within-number (x ⊳ ps) zero p e = omega arith
 within-number (x ⊳ ps) (suc i) p e = let h = within-number ps i p e in omega (arith, h)
@@ -173,7 +179,7 @@ terms-split a (basic rule) r more tss = ap (λ (us : List Tree). us ++ node_term
 terms-split a (checked c) r more tss = ap (λ (us : List Tree). us ++ certificate_terms a.base (bound_by more) c.proof) (used-needed c.proof 0 tss)
 
 -- where no kid's term passes a limit, none of all does
-needed-none : (a : Accepted) (subjects : Modes) (hyps : Hypotheses) (need : ℕ → Bool) (n : ℕ) (ps qs : Proofs) (tss : List (List Tree)) → number_of qs ≡ number_of ps →
+needed-none : (a : Accepted) (subjects : Modes) (hyps : Hypotheses) (need : ℕ → Bool) (n : ℕ) (ps qs : Proofs) (tss : List (List Tree)) → proof_count qs ≡ proof_count ps →
     ((i : ℕ) (p q : Proof) → need (n + i) ≡ true → proof_at ps i ≡ Some p → proof_at qs i ≡ Some q → IsLoweredTo a subjects hyps p q) → MeasuresEach a subjects hyps ps tss →
     first_over (needed_terms need n tss) ≡ None
 needed-none a subjects hyps need n no_more qs [] m f h = refl
@@ -191,7 +197,7 @@ needed-none a subjects hyps need n (p ⊳ ps) (q ⊳ qs) (ts ∷ tss) m f h =
 module _ (sig : Signature) (base shapes : List Shape) (a : Accepted) (ok : IsAccepted sig base shapes a) (hyps : Hypotheses) (below : HypothesesBelow (length base) hyps) (near : ShallowJudgements hyps.judgements)
     (r : ℕ) (binds : List Tree) (kids : Proofs) (can : CanLower a hyps (by r binds kids)) (known : Known) (at_r : slice_get (known_of a) r ≡ Some known) where
   -- a kid is refused
-  pub kids-refuse : (e : RewriteError) → AreRefused a sig.subjects hyps (need_of known) kids e → IsRefused a sig.subjects hyps (by r binds kids) e
+  pub kids-refuse : (e : RewriteError) → AreRefused a sig.subjects hyps (need_of known) kids e → IsLoweringRefused a sig.subjects hyps (by r binds kids) e
   kids-refuse e f ts (known', qs, ks, more, tss, at_r', each, b, m, same) =
       let same_some : Some known' ≡ Some known = sym at_r' ∙ at_r in
       let same_rule : known' ≡ known = cc in
@@ -210,7 +216,7 @@ module _ (sig : Signature) (base shapes : List Shape) (a : Accepted) (ok : IsAcc
           let same : found ≡ rule_in known = cc in
           many ∙ ap (λ (x : Rule). length x.sorts) same
 
-  module _ (news : Proofs) (is : AreLoweredTo a sig.subjects hyps (need_of known) kids news) (n : ℕ) (many : n ≡ number_of news) (more : List Tree)
+  module _ (news : Proofs) (is : AreLoweredTo a sig.subjects hyps (need_of known) kids news) (n : ℕ) (many : n ≡ proof_count news) (more : List Tree)
       (put : ArePutBelow sig.subjects a.base hyps (need_of known) (judgements_of rule.premises) news n (images_for a.table rule.sorts binds) more) where
     more-many : length more ≡ length rule.sorts
     more-many = put.many ∙ images-many a.table rule.sorts binds binds-many
@@ -330,5 +336,5 @@ module _ (sig : Signature) (base shapes : List Shape) (a : Accepted) (ok : IsAcc
     pub node-lowers : (q : Proof) → q ≡ own_proof known r more news → first_over (own_terms a known r more) ≡ None → IsLoweredTo a sig.subjects hyps (by r binds kids) q
     node-lowers q e none = record { lowered = λ o k l. e ∙ node-proof o k l; small = λ ts m. node-terms ts m ∙ none }
 
-    pub node-refuses : (e : RewriteError) → Tells (first_over (own_terms a known r more)) e → IsRefused a sig.subjects hyps (by r binds kids) e
+    pub node-refuses : (e : RewriteError) → Tells (first_over (own_terms a known r more)) e → IsLoweringRefused a sig.subjects hyps (by r binds kids) e
     node-refuses e h ts m = subst (λ (o : Option Refusal). Tells o e) (sym (node-terms ts m)) h

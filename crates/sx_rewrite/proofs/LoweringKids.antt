@@ -9,11 +9,12 @@ use Rattle.sx_rules.specs.Derivations.{Proof, Proofs, given, no_more, ◌⊳◌,
 use Rattle.sx_rules.specs.ProofView.{proof, boxed}
 use Rattle.sx_rewrite.specs.declared.rewrite_error.RewriteError.{RewriteError}
 use Rattle.sx_rewrite.specs.Accepted.{Accepted}
-use Rattle.sx_rewrite.specs.LoweredSizes.{number_of}
+use Rattle.sx_rewrite.specs.LoweredSizes.{proof_count}
 use Rattle.sx_rewrite.specs.Measured.{Measures, MeasuresEach}
 use Rattle.sx_rewrite.specs.Rewriting.{Refusal, first_over}
 use Rattle.sx_rewrite.specs.Puts.{Tells}
-use Rattle.sx_rewrite.specs.Lowering.{IsLoweredTo, AreLoweredTo, AreRefused, needed_terms, IsKidLowered, IsKidRefused}
+use Rattle.sx_rewrite.specs.Lowering.{IsLoweredTo, AreLoweredTo, AreRefused, needed_terms}
+use Rattle.sx_rewrite.specs.Lowering.{IsKidLowered, IsKidRefused}
 use Rattle.sx_rewrite.proofs.Puts.{over-left, over-right}
 use Rattle.sx_rewrite.proofs.Tallied.{number-boxed}
 use Rattle.sx_rewrite.proofs.PutEach.{boxed-at}
@@ -31,7 +32,7 @@ pushed-at (x ∷ made) new (suc n) q e = go (pushed-at made new n q e)
     go (inr h) = inr (ap (λ (m : ℕ). suc m) h.0, h.1)
 
 module _ (a : Accepted) (subjects : Modes) (hyps : Hypotheses) where
-  refused-at : (need : ℕ → Bool) (e : RewriteError) (n : ℕ) (ps qs : Proofs) (i : ℕ) (p : Proof) (tss : List (List Tree)) → number_of qs ≡ i →
+  refused-at : (need : ℕ → Bool) (e : RewriteError) (n : ℕ) (ps qs : Proofs) (i : ℕ) (p : Proof) (tss : List (List Tree)) → proof_count qs ≡ i →
       ((m : ℕ) (x y : Proof) → need (n + m) ≡ true → proof_at ps m ≡ Some x → proof_at qs m ≡ Some y → IsLoweredTo a subjects hyps x y) →
       proof_at ps i ≡ Some p → IsKidRefused a subjects hyps (need (n + i)) p e → MeasuresEach a subjects hyps ps tss → Tells (first_over (needed_terms need n tss)) e
   refused-at need e n no_more qs i p tss m f g k h = cc

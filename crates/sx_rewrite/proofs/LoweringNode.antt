@@ -18,8 +18,9 @@ use Rattle.sx_rewrite.specs.declared.rewrite_error.RewriteError.{RewriteError}
 use Rattle.sx_rewrite.specs.declared.source.Source.{Source}
 use Rattle.sx_rewrite.specs.Accepted.{Accepted, extended_rules}
 use Rattle.sx_rewrite.specs.AcceptedView.{accepted, signature}
-use Rattle.sx_rewrite.specs.Lowering.{CanLower, IsLoweredTo, AreLoweredTo, IsRefused, AreRefused, own_terms, own_proof, CanGraft}
-use Rattle.sx_rewrite.specs.LoweredSizes.{number_of}
+use Rattle.sx_rewrite.specs.Lowering.{CanLower, IsLoweredTo, AreLoweredTo, IsLoweringRefused}
+use Rattle.sx_rewrite.specs.Lowering.{AreRefused, own_terms, own_proof, CanGraft}
+use Rattle.sx_rewrite.specs.LoweredSizes.{proof_count}
 use Rattle.sx_rewrite.specs.Needed.{needed}
 use Rattle.sx_rewrite.specs.Put.{ArePut}
 use Rattle.sx_rewrite.specs.Puts.{Answers}
@@ -56,9 +57,9 @@ module _ (s : Source) (source : IsSource s) (p : ProofOf) (r : ℕ) (bs : Vec Te
         by-can (signature s.set.now) (shapes_in s.set.now.base) (shapes_in s.set.now.rules) set source.accepted_with hyps source.below source.near r (map tree bs.items) (boxed ks.items) can-node cert (source.proofs_are r) i q n
         (subst (λ (xs : List (Box ProofOf Global)). proof_at (boxed xs) i ≡ Some q) row e)
 
-    pub here-refuse : (e : RewriteError) → AreRefused set (subjects_in (forms_in s.set.now.base)) hyps (needed cert) (boxed kids) e → IsRefused set (subjects_in (forms_in s.set.now.base)) hyps (proof p) e
+    pub here-refuse : (e : RewriteError) → AreRefused set (subjects_in (forms_in s.set.now.base)) hyps (needed cert) (boxed kids) e → IsLoweringRefused set (subjects_in (forms_in s.set.now.base)) hyps (proof p) e
     here-refuse e h =
-        subst (λ (q : Proof). IsRefused set (subjects_in (forms_in s.set.now.base)) hyps q e) (sym view)
+        subst (λ (q : Proof). IsLoweringRefused set (subjects_in (forms_in s.set.now.base)) hyps q e) (sym view)
         (by-refuse (signature s.set.now) (shapes_in s.set.now.base) (shapes_in s.set.now.rules) set source.accepted_with hyps source.below source.near r (map tree bs.items) (boxed ks.items) can-node cert (source.proofs_are r) e
         (subst (λ (xs : List (Box ProofOf Global)). AreRefused set (subjects_in (forms_in s.set.now.base)) hyps (needed cert) (boxed xs) e) row h))
 
@@ -89,7 +90,7 @@ module _ (s : Source) (source : IsSource s) (p : ProofOf) (r : ℕ) (bs : Vec Te
             map-many [] = refl
             map-many (x ∷ xs) = let h = map-many xs in omega (arith, h)
 
-        many-lowered : length lowered ≡ number_of (boxed news)
+        many-lowered : length lowered ≡ proof_count (boxed news)
         many-lowered = ap (λ (xs : List (Box ProofOf Global)). length xs) like ∙ sym (number-boxed news)
 
         pub here-node : IsNodeOf (bare_rules_in s.rules.now) (subjects_in (forms_in s.set.now.base)) r (length terms) (length lowered)
@@ -114,7 +115,7 @@ module _ (s : Source) (source : IsSource s) (p : ProofOf) (r : ℕ) (bs : Vec Te
 
         pub here-lowers : (puts : PutTerms) → IsPutHere puts → (result : Result (Box ProofOf Global) RewriteError) →
             ((more : List Tree) → ArePut more puts → Answers (first_over (own_terms (bare_rules_in s.set.now.base) cert r more)) (λ x. proof x.value ≡ own_proof cert r more (boxed news)) result) →
-            MatchResult result (λ x. IsLoweredTo set (subjects_in (forms_in s.set.now.base)) hyps (proof p) (proof x.value)) (IsRefused set (subjects_in (forms_in s.set.now.base)) hyps (proof p))
+            MatchResult result (λ x. IsLoweredTo set (subjects_in (forms_in s.set.now.base)) hyps (proof p) (proof x.value)) (IsLoweringRefused set (subjects_in (forms_in s.set.now.base)) hyps (proof p))
         here-lowers puts f result g = go result (g w.0 w.1)
           where
             x : IsNodeOf (bare_rules_in s.rules.now) (subjects_in (forms_in s.set.now.base)) r (length terms) (length lowered)
@@ -137,12 +138,12 @@ module _ (s : Source) (source : IsSource s) (p : ProofOf) (r : ℕ) (bs : Vec Te
                 (images_for (table_of s.set.now.plain) x.rule.sorts (map tree terms)) w.0) like w.2)
 
             go : (y : Result (Box ProofOf Global) RewriteError) → Answers (first_over (own_terms (bare_rules_in s.set.now.base) cert r w.0)) (λ z. proof z.value ≡ own_proof cert r w.0 (boxed news)) y →
-                MatchResult y (λ z. IsLoweredTo set (subjects_in (forms_in s.set.now.base)) hyps (proof p) (proof z.value)) (IsRefused set (subjects_in (forms_in s.set.now.base)) hyps (proof p))
+                MatchResult y (λ z. IsLoweredTo set (subjects_in (forms_in s.set.now.base)) hyps (proof p) (proof z.value)) (IsLoweringRefused set (subjects_in (forms_in s.set.now.base)) hyps (proof p))
             go (Ok y) h =
                 subst (λ (q : Proof). IsLoweredTo set (subjects_in (forms_in s.set.now.base)) hyps q (proof y.value)) (sym view)
                 (by-lowers (signature s.set.now) (shapes_in s.set.now.base) (shapes_in s.set.now.rules) set source.accepted_with hyps source.below source.near r (map tree bs.items) (boxed ks.items) can-node cert (source.proofs_are r) (boxed news) done-node
                 (length lowered) many-lowered w.0 x.rule at_rule put (proof y.value) h)
             go (Err e) h =
-                subst (λ (q : Proof). IsRefused set (subjects_in (forms_in s.set.now.base)) hyps q e) (sym view)
+                subst (λ (q : Proof). IsLoweringRefused set (subjects_in (forms_in s.set.now.base)) hyps q e) (sym view)
                 (by-refuses (signature s.set.now) (shapes_in s.set.now.base) (shapes_in s.set.now.rules) set source.accepted_with hyps source.below source.near r (map tree bs.items) (boxed ks.items) can-node cert (source.proofs_are r) (boxed news) done-node
                 (length lowered) many-lowered w.0 x.rule at_rule put e h)

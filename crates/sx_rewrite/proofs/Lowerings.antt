@@ -5,23 +5,28 @@ use Rattle.sx_term.specs.Tree.{Tree}
 use Rattle.sx_term.specs.declared.sort.Sort.{Sort}
 use Rattle.sx_term.specs.Sorts.{Shape, HaveSorts}
 use Rattle.sx_rules.specs.Instances.{instance, Stands, StandsAmong, bound_by}
-use Rattle.sx_rules.specs.Rules.{Judgement, Premise, holds, apart, Rule, Hypotheses, judgement_instance, judgements_of, IsPair, AreApart, AllApart}
+use Rattle.sx_rules.specs.Rules.{Judgement, Premise, holds, apart, Rule, Hypotheses}
+use Rattle.sx_rules.specs.Rules.{judgement_instance, judgements_of, IsPair, AreApart, AllApart}
 use Rattle.sx_rules.specs.Modes.{Modes, inputs, outputs, inputs_of, outputs_of}
 use Rattle.sx_rules.specs.Sorts.{FormSorts, JudgementIsSorted, PremisesAreSorted}
 use Rattle.sx_rules.specs.Typed.{IsUntypedVariable, TypedInSubjects}
-use Rattle.sx_rules.specs.Derivations.{Proof, Proofs, by, given, no_more, ◌⊳◌, Derives, DeriveEach, proof_instance, hypotheses_instance, pair_instance}
+use Rattle.sx_rules.specs.Derivations.{Proof, Proofs, by, given, no_more, ◌⊳◌, Derives, DeriveEach}
+use Rattle.sx_rules.specs.Derivations.{proof_instance, hypotheses_instance, pair_instance}
 use Rattle.sx_rules.specs.DerivationLaws.{PairsApart}
 use Rattle.sx_rules.proofs.Instancing.{instance-same, map_instance-same}
 use Rattle.sx_rules.proofs.Moded.{inputs-map, outputs-map, judgement_known}
 use Rattle.sx_rules.proofs.Derived.{substitution_keeps_derivations, grafts_are_derivations}
 use Rattle.sx_plain.specs.Plain.{Table, image}
-use Rattle.sx_plain.specs.Tables.{IsTable}
+use Rattle.sx_plain.specs.Tables.{IsPlainTable}
 use Rattle.sx_plain.proofs.Images.{image-instance}
 use Rattle.sx_rewrite.proofs.Images.{map_image-instance, lexemes-image, stands-map_image}
 use Rattle.sx_plain.proofs.Tables.{stands-image, base-stays, sorted-below}
 use Rattle.sx_rewrite.specs.Flat.{flat_places, flat_judgement, flat_pairs, flat_hypotheses}
-use Rattle.sx_rewrite.specs.Accepted.{flat_conclusion, Known, basic, checked, rule_in, Accepted, known_of, extended_rules, Signature, IsAccepted}
-use Rattle.sx_rewrite.specs.Lowers.{SubjectsAreLowered, AreLoweredBinds, LowersTo, Lowers, LowersEach, IsImageOf, AreBelow, JudgementsBelow, PairsBelow, HypothesesBelow}
+use Rattle.sx_rewrite.specs.Accepted.{flat_conclusion, Known, basic, checked, rule_in, Accepted}
+use Rattle.sx_rewrite.specs.Accepted.{known_of, extended_rules, Signature, IsAccepted}
+use Rattle.sx_rewrite.specs.Lowers.{SubjectsAreLowered, AreLoweredBinds, LowersTo, Lowers}
+use Rattle.sx_rewrite.specs.Lowers.{LowersEach, IsImageOf, TreeLabelsBelow, JudgementsBelow}
+use Rattle.sx_rewrite.specs.Lowers.{PairsBelow, HypothesesBelow}
 use Rattle.sx_rewrite.specs.Laws.{LoweredAreDerivations}
 use Rattle.sx_rewrite.proofs.Known.{basic-at, certified-at, sorted-at, rule-at, accepted-typed}
 
@@ -40,14 +45,14 @@ outputs-flat table (true ∷ bs) (t ∷ ts) = ap (λ (us : List Tree). t ∷ us)
 outputs-flat table (false ∷ bs) (t ∷ ts) = outputs-flat table bs ts
 
 -- terms that are base stay
-module _ (base : ℕ) (table : Table) (is : IsTable base table) where
-  pub map-stays : (ts : List Tree) → AreBelow base ts → map (image table) ts ≡ ts
+module _ (base : ℕ) (table : Table) (is : IsPlainTable base table) where
+  pub map-stays : (ts : List Tree) → TreeLabelsBelow base ts → map (image table) ts ≡ ts
   map-stays [] h = refl
   map-stays (t ∷ ts) h =
       let a = base-stays base table is t h.0 in
       let b = map-stays ts h.1 in cc
 
-  pub flat-stays : (bs : List Bool) (ts : List Tree) → AreBelow base ts → flat_places table None bs ts ≡ ts
+  pub flat-stays : (bs : List Bool) (ts : List Tree) → TreeLabelsBelow base ts → flat_places table None bs ts ≡ ts
   flat-stays [] ts h = map-stays ts h
   flat-stays (b ∷ bs) [] h = refl
   flat-stays (true ∷ bs) (t ∷ ts) h = ap (λ (us : List Tree). t ∷ us) (flat-stays bs ts h.1)
@@ -66,24 +71,24 @@ module _ (base : ℕ) (table : Table) (is : IsTable base table) where
   apart-image hyps t u b (inr (inl h)) = inr (inl (pair-image hyps.pairs u t b h))
   apart-image hyps t u b (inr (inr h)) = inr (inr (lexemes-image table t u h))
 
-pub inputs-below : (n : ℕ) (bs : List Bool) (ts : List Tree) → AreBelow n ts → AreBelow n (inputs bs ts)
+pub inputs-below : (n : ℕ) (bs : List Bool) (ts : List Tree) → TreeLabelsBelow n ts → TreeLabelsBelow n (inputs bs ts)
 inputs-below n [] ts h = h
 inputs-below n (b ∷ bs) [] h = tt
 inputs-below n (true ∷ bs) (t ∷ ts) h = inputs-below n bs ts h.1
 inputs-below n (false ∷ bs) (t ∷ ts) h = (h.0, inputs-below n bs ts h.1)
 
-pub have_sorts-below : (shapes : List Shape) (vars : List Sort) (ts : List Tree) (sorts : List Sort) → HaveSorts shapes vars ts sorts → AreBelow (length shapes) ts
+pub have_sorts-below : (shapes : List Shape) (vars : List Sort) (ts : List Tree) (sorts : List Sort) → HaveSorts shapes vars ts sorts → TreeLabelsBelow (length shapes) ts
 have_sorts-below shapes vars [] sorts h = tt
 have_sorts-below shapes vars (t ∷ ts) [] h = absurd h
 have_sorts-below shapes vars (t ∷ ts) (x ∷ xs) h = (sorted-below shapes vars t x h.0, have_sorts-below shapes vars ts xs h.1)
 
-pub given-below : (n : ℕ) (js : List Judgement) (i : ℕ) (j : Judgement) → JudgementsBelow n js → slice_get js i ≡ Some j → AreBelow n j.places
+pub given-below : (n : ℕ) (js : List Judgement) (i : ℕ) (j : Judgement) → JudgementsBelow n js → slice_get js i ≡ Some j → TreeLabelsBelow n j.places
 given-below n [] i j h e = cc
-given-below n (x ∷ xs) zero j h e = let q : x ≡ j = cc in subst (λ (y : Judgement). AreBelow n y.places) q h.0
+given-below n (x ∷ xs) zero j h e = let q : x ≡ j = cc in subst (λ (y : Judgement). TreeLabelsBelow n y.places) q h.0
 given-below n (x ∷ xs) (suc i) j h e = given-below n xs i j h.1 e
 
-module _ (rules : List Rule) (n : ℕ) (table : Table) (is : IsTable n table) (subjects : Modes) (hyps : Hypotheses) (below : HypothesesBelow n hyps) where
-  pub own_image : (j : Judgement) → AreBelow n j.places → IsImageOf table subjects j j
+module _ (rules : List Rule) (n : ℕ) (table : Table) (is : IsPlainTable n table) (subjects : Modes) (hyps : Hypotheses) (below : HypothesesBelow n hyps) where
+  pub own_image : (j : Judgement) → TreeLabelsBelow n j.places → IsImageOf table subjects j j
   own_image j b = record {
     same_form = refl;
     images = sym (map-stays n table is (inputs_of subjects j) (inputs-below n (subjects j.form) j.places b));
@@ -161,7 +166,7 @@ module _ (rules : List Rule) (n : ℕ) (table : Table) (is : IsTable n table) (s
     }
 
 -- a base rule is its own flat form
-module _ (base : List Shape) (forms : FormSorts) (table : Table) (is : IsTable (length base) table) (subjects : Modes) (vars : List Sort) where
+module _ (base : List Shape) (forms : FormSorts) (table : Table) (is : IsPlainTable (length base) table) (subjects : Modes) (vars : List Sort) where
   flat-judgement : (j : Judgement) → JudgementIsSorted base forms vars j → flat_judgement table subjects None j ≡ j
   flat-judgement j h =
       let e = flat-stays (length base) table is (subjects j.form) j.places (have_sorts-below base vars j.places (forms j.form) h) in

@@ -13,14 +13,16 @@ use Rattle.sx_rules.specs.declared.rule.Premise.TheVariants.{Holds, Apart}
 use Rattle.sx_rules.specs.declared.rule.Judgement.{Judgement}
 use Rattle.sx_rules.specs.Rules.{judgements_of}
 use Rattle.sx_rules.specs.Views.{premise}
-use Rattle.sx_rules.specs.Derivations.{Proof, Proofs, by, given, no_more, ◌⊳◌, height_of, most_height}
+use Rattle.sx_rules.specs.Derivations.{Proof, Proofs, by, given, no_more, ◌⊳◌, height_of}
+use Rattle.sx_rules.specs.Derivations.{most_height}
 use Rattle.sx_rules.specs.ProofView.{proof, boxed}
 use Rattle.sx_rules.proofs.ProofRows.{proof-at_by}
 use Rattle.sx_rewrite.specs.declared.given_use.GivenUse.{GivenUse}
 use Rattle.sx_rewrite.specs.Measured.{is_used, is_used_among}
 use Rattle.sx_rewrite.specs.Copied.{times_given, times_given_in}
-use Rattle.sx_rewrite.specs.Counts.{own_nodes, own_nodes_of, own_height, own_height_of, nodes_above, nodes_above_in}
-use Rattle.sx_rewrite.specs.Sizes.{in_u128, unused, noted, AreUsesOf}
+use Rattle.sx_rewrite.specs.Counts.{own_nodes, own_nodes_of, own_height, own_height_of, nodes_above}
+use Rattle.sx_rewrite.specs.Counts.{nodes_above_in}
+use Rattle.sx_rewrite.specs.Sizes.{in_u128, unused_givens, noted, AreUsesOf}
 use Rattle.sx_rewrite.proofs.Summed.{nothing-above}
 use Rattle.sx_rewrite.proofs.SizeLaws.{stands-times, stand-times, none-positive}
 
@@ -116,7 +118,7 @@ noted-at j over i (suc d) (x ∷ us) u v e l g w =
     λ k. here k ∷ rest k
 
 -- from nothing
-pub uses-noted : (p : Proof) (i n : ℕ) → AreUsesOf i p (noted_by p 0 i (unused n))
+pub uses-noted : (p : Proof) (i n : ℕ) → AreUsesOf i p (noted_by p 0 i (unused_givens n))
 uses-noted p i zero = tt
 uses-noted p i (suc n) = (here (is_used i p) (stands-times i p), uses-noted p (i + 1) n)
   where
@@ -130,15 +132,15 @@ pub many-noted : (p : Proof) (over i : ℕ) (us : List GivenUse) → length (not
 many-noted p over i [] = refl
 many-noted p over i (u ∷ us) = ap suc (many-noted p over (i + 1) us)
 
-pub many-unused : (n : ℕ) → length (unused n) ≡ n
+pub many-unused : (n : ℕ) → length (unused_givens n) ≡ n
 many-unused zero = refl
 many-unused (suc n) = ap suc (many-unused n)
 
-pub unused-push : (n : ℕ) (u : GivenUse) → u ≡ record { times = 0; above = 0 } → unused n ++ u ∷ [] ≡ unused (n + 1)
-unused-push zero u e = ap (λ (x : GivenUse). x ∷ []) e
-unused-push (suc n) u e =
+pub unused_givens-push : (n : ℕ) (u : GivenUse) → u ≡ record { times = 0; above = 0 } → unused_givens n ++ u ∷ [] ≡ unused_givens (n + 1)
+unused_givens-push zero u e = ap (λ (x : GivenUse). x ∷ []) e
+unused_givens-push (suc n) u e =
     let m : suc n + 1 ≡ suc (n + 1) = omega arith in
-    rw m (ap (λ (us : List GivenUse). record { times = 0; above = 0 } ∷ us) (unused-push n u e))
+    rw m (ap (λ (us : List GivenUse). record { times = 0; above = 0 } ∷ us) (unused_givens-push n u e))
 
 -- the proofs from a place on
 pub kids-drop : (ks : List (Box ProofOf Global)) (i : ℕ) (k : Box ProofOf Global) (q : ProofOf) → i < length ks → k ≡ get_or ks i k → q ≡ k.value → boxed (drop i ks) ≡ proof q ⊳ boxed (drop (i + 1) ks)
@@ -164,7 +166,7 @@ module _ (p : ProofOf) (r : ℕ) (binds : Vec Term Global) (kids : Vec (Box Proo
 
 -- a given for each judgement among the premises before a place, none of which is used
 pub record UsesSoFar (ps : List Premise) (i : ℕ) (us : List GivenUse) : Type 0 where
-  pub made : us ≡ unused (length us)
+  pub made : us ≡ unused_givens (length us)
   pub many : length us + length (judgements_of (map premise (drop i ps))) ≡ length (judgements_of (map premise ps))
 
 length-push : (us : List GivenUse) (u : GivenUse) → length (us ++ u ∷ []) ≡ length us + 1
@@ -180,10 +182,10 @@ uses-held ps i p j us new l e is more so =
     let n = ap length more ∙ length-push us (record { times = 0; above = 0 }) in
     let d = ap (λ x. length (judgements_of x)) (premise-drop ps i p l e ∙ ap (λ (x : Premise). premise x ∷ map premise (drop (i + 1) ps)) is) in
     let m = so.many in
-    let made : us ++ record { times = 0; above = 0 } ∷ [] ≡ unused (length us + 1) =
-    ap (λ (x : List GivenUse). x ++ record { times = 0; above = 0 } ∷ []) so.made ∙ unused-push (length us) (record { times = 0; above = 0 }) refl in
+    let made : us ++ record { times = 0; above = 0 } ∷ [] ≡ unused_givens (length us + 1) =
+    ap (λ (x : List GivenUse). x ++ record { times = 0; above = 0 } ∷ []) so.made ∙ unused_givens-push (length us) (record { times = 0; above = 0 }) refl in
     record {
-      made = more ∙ made ∙ ap unused (sym n);
+      made = more ∙ made ∙ ap unused_givens (sym n);
       many = omega (arith, n, d, m);
     }
 
@@ -193,12 +195,12 @@ uses-apart ps i p t u us l e is so =
     let m = so.many in
     record { made = so.made; many = omega (arith, d, m) }
 
-pub uses-all : (ps : List Premise) (i : ℕ) (us : List GivenUse) → length ps ≤ i → UsesSoFar ps i us → us ≡ unused (length (judgements_of (map premise ps)))
+pub uses-all : (ps : List Premise) (i : ℕ) (us : List GivenUse) → length ps ≤ i → UsesSoFar ps i us → us ≡ unused_givens (length (judgements_of (map premise ps)))
 uses-all ps i us l so =
     let d = ap (λ (x : List Premise). length (judgements_of (map premise x))) (drop_all i ps l) in
     let m = so.many in
     let n : length us ≡ length (judgements_of (map premise ps)) = omega (arith, d, m) in
-    so.made ∙ ap unused n
+    so.made ∙ ap unused_givens n
 
 pub uses-none : (ps : List Premise) (us : List GivenUse) → us ≡ [] → UsesSoFar ps 0 us
 uses-none ps us e = subst (λ (x : List GivenUse). UsesSoFar ps 0 x) (sym e) (record { made = refl; many = omega arith })

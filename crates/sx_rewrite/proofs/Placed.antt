@@ -5,9 +5,12 @@ use Rattle.std.proofs.Math.ListN.{length-map}
 use Rattle.sx_term.specs.Tree.{Tree}
 use Rattle.sx_rules.specs.declared.proof.Proof.{Proof as ProofOf}
 use Rattle.sx_rules.specs.ProofView.{proof, row_of, boxed}
-use Rattle.sx_rules.specs.Derivations.{Proof, Proofs, by, given, no_more, ◌⊳◌, proof_at, put_for, proof_instance, proof_instances, graft, grafts, height_of, most_height}
+use Rattle.sx_rules.specs.Derivations.{Proof, Proofs, by, given, no_more, ◌⊳◌, proof_at, put_for}
+use Rattle.sx_rules.specs.Derivations.{proof_instance, proof_instances, graft, grafts, height_of}
+use Rattle.sx_rules.specs.Derivations.{most_height}
 use Rattle.sx_rewrite.proofs.KidInstances.{givens-instance}
-use Rattle.sx_rewrite.specs.Givens.{givens_of, givens_of_all, numbered, all_numbered, placed, AreNumbered}
+use Rattle.sx_rewrite.specs.Givens.{givens_of, givens_of_all, numbered, all_numbered, placed_at}
+use Rattle.sx_rewrite.specs.Givens.{CountUpFrom}
 
 -- from a number on the proofs are those of the givens
 abbrev AreAt : Proofs → Proofs → ℕ → List ℕ → Type 0
@@ -28,9 +31,9 @@ at-later : (proofs ks : Proofs) (k : Proof) (n : ℕ) (gs : List ℕ) → AreAt 
 at-later proofs ks k n [] h = tt
 at-later proofs ks k n (g ∷ gs) h = (h.0, at-later proofs ks k (suc n) gs h.1)
 
-placed-at : (proofs : Proofs) (gs : List ℕ) → AreAt proofs (placed proofs gs) 0 gs
-placed-at proofs [] = tt
-placed-at proofs (g ∷ gs) = (refl, at-later proofs (placed proofs gs) (put_for (proof_at proofs g) g) 0 gs (placed-at proofs gs))
+placed_at-at : (proofs : Proofs) (gs : List ℕ) → AreAt proofs (placed_at proofs gs) 0 gs
+placed_at-at proofs [] = tt
+placed_at-at proofs (g ∷ gs) = (refl, at-later proofs (placed_at proofs gs) (put_for (proof_at proofs g) g) 0 gs (placed_at-at proofs gs))
 
 mutual
   graft-at : (proofs ks : Proofs) (n : ℕ) (p : Proof) → AreAt proofs ks n (givens_of p) → graft ks (numbered n p) ≡ graft proofs p
@@ -44,19 +47,19 @@ mutual
       let b = grafts-at proofs ks (n + length (givens_of p)) ps (at-back proofs ks n (givens_of p) (givens_of_all ps) h) in cc
 
 -- where givens are numbered, the kids at their places stand for the kids
-pub graft-placed : (proofs : Proofs) (p : Proof) → graft (placed proofs (givens_of p)) (numbered 0 p) ≡ graft proofs p
-graft-placed proofs p = graft-at proofs (placed proofs (givens_of p)) 0 p (placed-at proofs (givens_of p))
+pub graft-placed : (proofs : Proofs) (p : Proof) → graft (placed_at proofs (givens_of p)) (numbered 0 p) ≡ graft proofs p
+graft-placed proofs p = graft-at proofs (placed_at proofs (givens_of p)) 0 p (placed_at-at proofs (givens_of p))
 
 -- givens that are numbered count up
 many-both : (xs ys : List ℕ) → length (xs ++ ys) ≡ length xs + length ys
 many-both [] ys = omega arith
 many-both (x ∷ xs) ys = let h = many-both xs ys in omega arith
 
-numbered-both : (n : ℕ) (xs ys : List ℕ) → AreNumbered n xs → AreNumbered (n + length xs) ys → AreNumbered n (xs ++ ys)
-numbered-both n [] ys h k = let e : n + 0 ≡ n = omega arith in subst (λ (m : ℕ). AreNumbered m ys) e k
+numbered-both : (n : ℕ) (xs ys : List ℕ) → CountUpFrom n xs → CountUpFrom (n + length xs) ys → CountUpFrom n (xs ++ ys)
+numbered-both n [] ys h k = let e : n + 0 ≡ n = omega arith in subst (λ (m : ℕ). CountUpFrom m ys) e k
 numbered-both n (x ∷ xs) ys h k =
     let e : n + length (x ∷ xs) ≡ suc n + length xs = omega arith in
-    (h.0, numbered-both (suc n) xs ys h.1 (subst (λ (m : ℕ). AreNumbered m ys) e k))
+    (h.0, numbered-both (suc n) xs ys h.1 (subst (λ (m : ℕ). CountUpFrom m ys) e k))
 
 mutual
   pub numbered-many : (n : ℕ) (p : Proof) → length (givens_of (numbered n p)) ≡ length (givens_of p)
@@ -72,16 +75,16 @@ mutual
       let d = many-both (givens_of p) (givens_of_all ps) in omega (arith, a, b, c, d)
 
 mutual
-  pub numbered-counts : (n : ℕ) (p : Proof) → AreNumbered n (givens_of (numbered n p))
+  pub numbered-counts : (n : ℕ) (p : Proof) → CountUpFrom n (givens_of (numbered n p))
   numbered-counts n (by r binds kids) = all_numbered-count n kids
   numbered-counts n (given i) = (refl, tt)
 
-  all_numbered-count : (n : ℕ) (ps : Proofs) → AreNumbered n (givens_of_all (all_numbered n ps))
+  all_numbered-count : (n : ℕ) (ps : Proofs) → CountUpFrom n (givens_of_all (all_numbered n ps))
   all_numbered-count n no_more = tt
   all_numbered-count n (p ⊳ ps) =
       let e : n + length (givens_of p) ≡ n + length (givens_of (numbered n p)) = (let m = numbered-many n p in omega (arith, m)) in
       numbered-both n (givens_of (numbered n p)) (givens_of_all (all_numbered (n + length (givens_of p)) ps)) (numbered-counts n p)
-      (subst (λ (m : ℕ). AreNumbered m (givens_of_all (all_numbered (n + length (givens_of p)) ps))) e (all_numbered-count (n + length (givens_of p)) ps))
+      (subst (λ (m : ℕ). CountUpFrom m (givens_of_all (all_numbered (n + length (givens_of p)) ps))) e (all_numbered-count (n + length (givens_of p)) ps))
 
 -- an instance is as deep
 mutual
@@ -95,7 +98,7 @@ mutual
       let a = height-instance qs s p in
       let b = heights-instance qs s ps in omega (arith, a, b)
 
-length-placed : (qs : Proofs) (ks : List (Box ProofOf Global)) (gs : List ℕ) → boxed ks ≡ placed qs gs → length ks ≡ length gs
+length-placed : (qs : Proofs) (ks : List (Box ProofOf Global)) (gs : List ℕ) → boxed ks ≡ placed_at qs gs → length ks ≡ length gs
 length-placed qs ks gs e = go (map (λ k. proof k.value) ks) gs e (length-map ks (λ k. proof k.value))
   where
     many : Proofs → ℕ
@@ -106,30 +109,30 @@ length-placed qs ks gs e = go (map (λ k. proof k.value) ks) gs e (length-map ks
     many-row [] = refl
     many-row (p ∷ ps) = ap suc (many-row ps)
 
-    many-placed : (xs : List ℕ) → many (placed qs xs) ≡ length xs
+    many-placed : (xs : List ℕ) → many (placed_at qs xs) ≡ length xs
     many-placed [] = refl
     many-placed (x ∷ xs) = ap suc (many-placed xs)
 
-    go : (ps : List Proof) (xs : List ℕ) → row_of ps ≡ placed qs xs → length ps ≡ length ks → length ks ≡ length xs
+    go : (ps : List Proof) (xs : List ℕ) → row_of ps ≡ placed_at qs xs → length ps ≡ length ks → length ks ≡ length xs
     go ps xs f l = sym l ∙ sym (many-row ps) ∙ ap many f ∙ many-placed xs
 
 -- the instance of a certificate with kids at its places
-module _ (cert : Proof) (s : ℕ → Tree) (kids ks : List (Box ProofOf Global)) (body : Proof) (gs : List ℕ) (givens : gs ≡ [] ++ givens_of cert) (is : body ≡ numbered 0 (proof_instance s cert)) (at : boxed ks ≡ placed (boxed kids) gs) where
-  placed-instance : boxed ks ≡ placed (boxed kids) (givens_of (proof_instance s cert))
-  placed-instance = at ∙ ap (placed (boxed kids)) (givens ∙ sym (givens-instance s cert))
+module _ (cert : Proof) (s : ℕ → Tree) (kids ks : List (Box ProofOf Global)) (body : Proof) (gs : List ℕ) (givens : gs ≡ [] ++ givens_of cert) (is : body ≡ numbered 0 (proof_instance s cert)) (at : boxed ks ≡ placed_at (boxed kids) gs) where
+  placed_at-instance : boxed ks ≡ placed_at (boxed kids) (givens_of (proof_instance s cert))
+  placed_at-instance = at ∙ ap (placed_at (boxed kids)) (givens ∙ sym (givens-instance s cert))
 
   pub body-grafted : graft (boxed ks) body ≡ graft (boxed kids) (proof_instance s cert)
   body-grafted =
-      ap (λ (x : Proofs). graft x body) placed-instance ∙ ap (graft (placed (boxed kids) (givens_of (proof_instance s cert)))) is
+      ap (λ (x : Proofs). graft x body) placed_at-instance ∙ ap (graft (placed_at (boxed kids) (givens_of (proof_instance s cert)))) is
       ∙ graft-placed (boxed kids) (proof_instance s cert)
 
-  pub body-numbered : AreNumbered 0 (givens_of body)
-  body-numbered = subst (λ (x : Proof). AreNumbered 0 (givens_of x)) (sym is) (numbered-counts 0 (proof_instance s cert))
+  pub body-numbered : CountUpFrom 0 (givens_of body)
+  body-numbered = subst (λ (x : Proof). CountUpFrom 0 (givens_of x)) (sym is) (numbered-counts 0 (proof_instance s cert))
 
   pub body-many : length (givens_of body) ≡ length ks
   body-many =
       ap (λ (x : Proof). length (givens_of x)) is ∙ numbered-many 0 (proof_instance s cert)
-      ∙ sym (length-placed (boxed kids) ks (givens_of (proof_instance s cert)) placed-instance)
+      ∙ sym (length-placed (boxed kids) ks (givens_of (proof_instance s cert)) placed_at-instance)
 
   pub body-low : height_of (graft (boxed kids) cert) ≤ 3000 → height_of (graft (boxed ks) body) ≤ 3000
   body-low h =

@@ -10,13 +10,13 @@ use Rattle.sx_plain.specs.Plain.{Table}
 use Rattle.sx_rewrite.specs.declared.ext_rule.ExtRule.{ExtRule as ExtRuleOf}
 use Rattle.sx_rewrite.specs.Accepted.{ExtRule, Accepted, extended_rules, IsAccepted}
 use Rattle.sx_rewrite.specs.PlainRules.{plain_named}
-use Rattle.sx_rewrite.specs.Extensions.{Fits}
+use Rattle.sx_rewrite.specs.Extensions.{FitsRules}
 use Rattle.sx_rewrite.specs.Stored.{signature_of}
 use Rattle.sx_rewrite.proofs.Growing.{longer}
 use Rattle.sx_rewrite.proofs.PlainGood.{plain-set, plain-grown}
 
 module _ (base shapes all : List Shape) (forms own plain_forms : List FormData) (a : Accepted) (other : Table) (exts : List ExtRule) (rs : List RuleOf) (es : List ExtRuleOf) (ps : List NamedRule)
-    (ok : IsAccepted (signature_of forms) base shapes a) (x : Fits (signature_of forms) base shapes all a.table other exts) (rules_are : map rule rs ≡ extended_rules a)
+    (ok : IsAccepted (signature_of forms) base shapes a) (x : FitsRules (signature_of forms) base shapes all a.table other exts) (rules_are : map rule rs ≡ extended_rules a)
     (plain_are : ps ≡ map (plain_named a.table) (map named rs)) where
   pub plain-added : ps ++ map (λ e. plain_named other (named e.rule)) es ≡ map (plain_named other) (map named rs ++ map (λ e. named e.rule) es)
   plain-added =

@@ -8,7 +8,8 @@ use Rattle.sx_term.specs.Untyped.{PlainHaveNoTyped}
 use Rattle.sx_term.specs.Sorts.{Shape}
 use Rattle.sx_rules.specs.Rules.{Judgement, Premise, holds, apart, Rule}
 use Rattle.sx_rules.specs.Modes.{Modes, outputs}
-use Rattle.sx_rules.specs.Sorts.{FormSorts, JudgementIsSorted, PremisesAreSorted, RuleIsSorted, RulesAreSorted}
+use Rattle.sx_rules.specs.Sorts.{FormSorts, JudgementIsSorted, PremisesAreSorted, RuleIsSorted}
+use Rattle.sx_rules.specs.Sorts.{RulesAreSorted}
 use Rattle.sx_rules.specs.Discipline.{FormsFit}
 use Rattle.sx_rules.specs.Deep.{AreShallow, PremisesAreShallow, RulesAreShallow}
 use Rattle.sx_rules.specs.declared.rule.Rule.{Rule as RuleOf}
@@ -18,10 +19,11 @@ use Rattle.sx_rules.specs.Fits.{JudgementFits, PremiseFits, PremisesFit}
 use Rattle.sx_rules.specs.Good.{IsGood, AllGood, IsRuleSet}
 use Rattle.sx_rules.proofs.SetLaws.{fitting_sorted}
 use Rattle.sx_plain.specs.Plain.{Table, image}
-use Rattle.sx_plain.specs.Tables.{IsTable, Begins, Desugars}
+use Rattle.sx_plain.specs.Tables.{IsPlainTable, Begins, Desugars}
 use Rattle.sx_plain.proofs.Tables.{base-stays, sorted-below}
 use Rattle.sx_rewrite.specs.Accepted.{Checked, basic, checked, rule_in, AreTypedSorts}
-use Rattle.sx_rewrite.specs.PlainRules.{image_judgement, image_premise, plain_rule, plain_named, plain_checked, HasImage, PremiseHasImage, RuleHasImage}
+use Rattle.sx_rewrite.specs.PlainRules.{image_judgement, image_premise, plain_rule, plain_named}
+use Rattle.sx_rewrite.specs.PlainRules.{plain_checked, HasImage, PremiseHasImage, RuleHasImage}
 use Rattle.sx_rewrite.specs.Stored.{signature_of}
 use Rattle.sx_rewrite.proofs.Lowerings.{map-stays, have_sorts-below}
 use Rattle.sx_rewrite.proofs.PlainRules.{image-keeps, list-keeps}
@@ -79,7 +81,7 @@ module _ (base shapes : List Shape) (forms : List FormData) (table : Table) (beg
   plain-set rs h = let e = same-count rs in let l = h.0 in (omega (arith, e, l), plain-all [] rs h.1)
 
 -- base rules are their own plain rules
-module _ (base : List Shape) (forms : FormSorts) (table : Table) (is : IsTable (length base) table) where
+module _ (base : List Shape) (forms : FormSorts) (table : Table) (is : IsPlainTable (length base) table) where
   judgement-stays : (vars : List Sort) (j : Judgement) → JudgementIsSorted base forms vars j → image_judgement table j ≡ j
   judgement-stays vars j h =
       let e = map-stays (length base) table is j.places (have_sorts-below base vars j.places (forms j.form) h) in
@@ -156,7 +158,7 @@ premises-shallow table (apart t u ∷ ps) h = ((h.0.0.image_shallow, h.0.1.image
 pub none-stay : (table : Table) → table ≡ (λ (label : ℕ). None) → (shapes : List Shape) (forms : FormSorts) (rs : List RuleOf) → RulesAreSorted shapes forms (map rule rs) →
     map (plain_named table) (map named rs) ≡ map named rs
 none-stay table e shapes forms rs h =
-    let is : IsTable (length shapes) table = subst (λ (t : Table). IsTable (length shapes) t) (sym e) (record { keeps_base = λ label l. refl; flat = λ label body f. cc }) in
+    let is : IsPlainTable (length shapes) table = subst (λ (t : Table). IsPlainTable (length shapes) t) (sym e) (record { keeps_base = λ label l. refl; flat = λ label body f. cc }) in
     named-stay shapes forms table is (map named rs) (subst (λ (x : List Rule). RulesAreSorted shapes forms x) (bare-rules rs) h)
 
 -- the plain rules of a set without their names
@@ -168,7 +170,7 @@ plain-more : (table : Table) (more : List Checked) → map (plain_rule table) (m
 plain-more table [] = refl
 plain-more table (c ∷ cs) = ap (λ (x : List Rule). plain_rule table c.rule ∷ x) (plain-more table cs)
 
-plain-both : (base : List Shape) (forms : FormSorts) (table : Table) → IsTable (length base) table → (bs : List Rule) (more : List Checked) → RulesAreSorted base forms bs →
+plain-both : (base : List Shape) (forms : FormSorts) (table : Table) → IsPlainTable (length base) table → (bs : List Rule) (more : List Checked) → RulesAreSorted base forms bs →
     map (plain_rule table) (map rule_in (map basic bs ++ map checked more)) ≡ map rule_in (map basic bs ++ map checked (map (plain_checked table) more))
 plain-both base forms table is [] more h = plain-more table more
 plain-both base forms table is (b ∷ bs) more h =
@@ -176,7 +178,7 @@ plain-both base forms table is (b ∷ bs) more h =
     let c = plain-both base forms table is bs more h.1 in
     λ i. a i ∷ c i
 
-pub plain-bare : (base : List Shape) (forms : FormSorts) (table : Table) → IsTable (length base) table → (bs : List Rule) (more : List Checked) → RulesAreSorted base forms bs → (ps rs : List RuleOf) →
+pub plain-bare : (base : List Shape) (forms : FormSorts) (table : Table) → IsPlainTable (length base) table → (bs : List Rule) (more : List Checked) → RulesAreSorted base forms bs → (ps rs : List RuleOf) →
     map named ps ≡ map (plain_named table) (map named rs) → map rule rs ≡ map rule_in (map basic bs ++ map checked more) →
     map rule ps ≡ map rule_in (map basic bs ++ map checked (map (plain_checked table) more))
 plain-bare base forms table is bs more h ps rs e f =

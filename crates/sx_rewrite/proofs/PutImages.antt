@@ -11,7 +11,7 @@ use Rattle.sx_plain.specs.Measures.{greatest}
 use Rattle.sx_plain.specs.PartMeasures.{depths_of}
 use Rattle.sx_rewrite.specs.declared.put_term.PutTerm.{PutTerm}
 use Rattle.sx_rewrite.specs.Puts.{AreMeasuresOf, AreMadeOf}
-use Rattle.sx_rewrite.specs.PutImages.{IsPut, image_for, images_for}
+use Rattle.sx_rewrite.specs.PutImages.{IsTermPut, image_for, images_for}
 use Rattle.sx_rewrite.proofs.Instanced.{deep-both, greatest-both, measures-both, tree-both}
 
 made-both : (ts us xs ys : List Tree) → AreMadeOf ts us → AreMadeOf xs ys → AreMadeOf (ts ++ xs) (us ++ ys)
@@ -51,7 +51,7 @@ pub no-images : (table : Table) (sorts : List Sort) (ts : List Term) → ImagesS
 no-images table sorts ts = record { shallow = omega arith; low = omega arith; measured = tt; made_are = tt }
 
 module _ (table : Table) (sorts : List Sort) (ts : List Term) (i : ℕ) (made : List Term) (ms : List Measure) (so : ImagesSoFar table sorts ts i made ms) where
-  pub images-step : (sort : Sort) (t : Term) (p : PutTerm) → length ts ≡ length sorts → i < length ts → sort ≡ get_or sorts i sort → t ≡ get_or ts i t → IsPut (image_for table sort (tree t)) p →
+  pub images-step : (sort : Sort) (t : Term) (p : PutTerm) → length ts ≡ length sorts → i < length ts → sort ≡ get_or sorts i sort → t ≡ get_or ts i t → IsTermPut (image_for table sort (tree t)) p →
       ImagesSoFar table sorts ts (i + 1) (made ++ p.term ∷ []) (ms ++ p.measure ∷ [])
   images-step sort t p n l e f is =
       let to = sym (images-to table sorts ts i sort t n l e f) in

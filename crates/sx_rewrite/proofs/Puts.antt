@@ -2,7 +2,8 @@
 use Rattle.std.proofs.Common.{◌≡◌, arith, ℕ, zero, suc, ◌-◌, ◌^◌, ◌<◌, ◌≤◌, min, Bool, true, false, List, [], ◌∷◌, ◌++◌, map, Option, Some, None, length, if◌then◌else◌, inl, inr, refl, sym, ap, ◌∙◌, subst, append-nil}
 use Rattle.std.specs.Prelude.{Err, nat_lt, slice_index_or}
 use Rattle.std.proofs.lemmas.Bool.{lt-ltb, le-ltb}
-use Rattle.sx_term.specs.Tree.{Tree, Trees, node, lexeme, hole, none, ◌▹◌, forest, depth_of, greatest_depth, size_of, total_size}
+use Rattle.sx_term.specs.Tree.{Tree, Trees, node, lexeme, hole, none, ◌▹◌, forest, depth_of}
+use Rattle.sx_term.specs.Tree.{greatest_depth, size_of, total_size}
 use Rattle.sx_term.specs.Instances.{instance, instances, Stands, StandsInKids, bound_by}
 use Rattle.sx_term.proofs.Instancing.{instance-same}
 use Rattle.sx_term.proofs.Kids.{listed-forest}
@@ -13,12 +14,15 @@ use Rattle.sx_plain.specs.PartMeasures.{depths_of, sizes_of}
 use Rattle.sx_plain.proofs.Measured.{sat, depths, sizes, node-depth, node-size}
 use Rattle.sx_plain.proofs.PartLaws.{node-sats}
 use Rattle.sx_rewrite.specs.declared.rewrite_error.RewriteError.{RewriteError}
-use Rattle.sx_rewrite.specs.declared.rewrite_error.RewriteError.TheVariants.{Memory, RewriteSpent, RewriteDeep, TooDeep, TooBig}
+use Rattle.sx_rewrite.specs.declared.rewrite_error.RewriteError.TheVariants.{Memory, RewriteSpent}
+use Rattle.sx_rewrite.specs.declared.rewrite_error.RewriteError.TheVariants.{RewriteDeep, TooDeep}
+use Rattle.sx_rewrite.specs.declared.rewrite_error.RewriteError.TheVariants.{TooBig}
 use Rattle.sx_rules.specs.Rules.{Rule}
 use Rattle.sx_rewrite.specs.Measured.{node_terms}
 use Rattle.sx_rewrite.specs.Put.{conclusion_terms}
 use Rattle.sx_rewrite.specs.Rewriting.{Refusal, too_deep, too_big, first_over}
-use Rattle.sx_rewrite.specs.Puts.{IsMeasureOf, AreMeasuresOf, IsSmall, AreMadeOf, IsLimited, Tells}
+use Rattle.sx_rewrite.specs.Puts.{IsMeasureOf, AreMeasuresOf, IsSmallTerm, AreMadeOf, IsLimited}
+use Rattle.sx_rewrite.specs.Puts.{Tells}
 
 -- the measures are the depths and the sizes
 depths-are : (ts : List Tree) (ms : List Measure) → AreMeasuresOf ts ms → depths_of ms ≡ depths ts
@@ -77,7 +81,7 @@ mutual
   sizes-within s (t ▹ ts) v (inl h) = let k = size-within s t v h in omega arith
   sizes-within s (t ▹ ts) v (inr h) = let k = sizes-within s ts v h in omega arith
 
-made-at : (more made : List Tree) → AreMadeOf more made → (v : ℕ) → IsSmall (bound_by more v) → bound_by made v ≡ bound_by more v
+made-at : (more made : List Tree) → AreMadeOf more made → (v : ℕ) → IsSmallTerm (bound_by more v) → bound_by made v ≡ bound_by more v
 made-at [] [] h v s = refl
 made-at [] (u ∷ us) h v s = absurd h
 made-at (t ∷ ts) [] h v s = absurd h
@@ -85,7 +89,7 @@ made-at (t ∷ ts) (u ∷ us) h zero s = h.0 s
 made-at (t ∷ ts) (u ∷ us) h (suc v) s = made-at ts us h.1 v s
 
 -- an instance that passes no limit is made by what is made
-pub put-made : (more made : List Tree) (t : Tree) → AreMadeOf more made → IsSmall (instance (bound_by more) t) → instance (bound_by made) t ≡ instance (bound_by more) t
+pub put-made : (more made : List Tree) (t : Tree) → AreMadeOf more made → IsSmallTerm (instance (bound_by more) t) → instance (bound_by made) t ≡ instance (bound_by more) t
 put-made more made t h s =
     instance-same (bound_by made) (bound_by more) t
     (λ v st.
@@ -105,13 +109,13 @@ over-big t ts d l =
     ap (λ (b : Bool). if b then Some (too_deep (depth_of t)) else if nat_lt 1000000 (size_of t) then Some (too_big (min (size_of t) (2 ^ 64 - 1))) else first_over ts) (le-ltb 1000 (depth_of t) d)
     ∙ ap (λ (b : Bool). if b then Some (too_big (min (size_of t) (2 ^ 64 - 1))) else first_over ts) (lt-ltb 1000000 (size_of t) l)
 
-pub over-none : (t : Tree) (ts : List Tree) → IsSmall t → first_over (t ∷ ts) ≡ first_over ts
+pub over-none : (t : Tree) (ts : List Tree) → IsSmallTerm t → first_over (t ∷ ts) ≡ first_over ts
 over-none t ts (d, n) =
     ap (λ (b : Bool). if b then Some (too_deep (depth_of t)) else if nat_lt 1000000 (size_of t) then Some (too_big (min (size_of t) (2 ^ 64 - 1))) else first_over ts) (le-ltb 1000 (depth_of t) d)
     ∙ ap (λ (b : Bool). if b then Some (too_big (min (size_of t) (2 ^ 64 - 1))) else first_over ts) (le-ltb 1000000 (size_of t) n)
 
 -- a measured term passes no limit, or it is the first that does
-pub limited-small : (t : Tree) (m : Measure) → (m.depth ≤ 1000) × (m.size ≤ 1000000) → IsMeasureOf t m → IsSmall t
+pub limited-small : (t : Tree) (m : Measure) → (m.depth ≤ 1000) × (m.size ≤ 1000000) → IsMeasureOf t m → IsSmallTerm t
 limited-small t m (d, n) (a, b) = (omega (arith, d, a), omega (arith, n, b))
 
 pub limited-tells : (t : Tree) (ts : List Tree) (m : Measure) (e : RewriteError) → IsLimited m (Err e) → IsMeasureOf t m → Tells (first_over (t ∷ ts)) e

@@ -10,15 +10,17 @@ use Rattle.sx_rules.specs.Views.{hypotheses, subjects_in, judgement}
 use Rattle.sx_rewrite.specs.declared.lowered.Lowered.{Lowered}
 use Rattle.sx_rewrite.specs.declared.lowered_size.LoweredSize.{LoweredSize}
 use Rattle.sx_rewrite.specs.declared.rewrite_error.RewriteError.{RewriteError}
-use Rattle.sx_rewrite.specs.declared.rewrite_error.RewriteError.TheVariants.{Memory, RewriteSpent, RewriteDeep, TooDeep, TooBig}
+use Rattle.sx_rewrite.specs.declared.rewrite_error.RewriteError.TheVariants.{Memory, RewriteSpent}
+use Rattle.sx_rewrite.specs.declared.rewrite_error.RewriteError.TheVariants.{RewriteDeep, TooDeep}
+use Rattle.sx_rewrite.specs.declared.rewrite_error.RewriteError.TheVariants.{TooBig}
 use Rattle.sx_rewrite.specs.declared.source.Source.{Source}
 use Rattle.sx_rewrite.specs.Accepted.{Accepted}
 use Rattle.sx_rewrite.specs.AcceptedView.{accepted, signature}
 use Rattle.sx_rewrite.specs.LoweredSizes.{HasFitKids, IsLoweredSize}
-use Rattle.sx_rewrite.specs.Lowering.{CanLower, IsLoweredTo, IsRefused}
+use Rattle.sx_rewrite.specs.Lowering.{CanLower, IsLoweredTo, IsLoweringRefused}
 use Rattle.sx_rewrite.specs.Lowers.{Lowers}
 use Rattle.sx_rewrite.specs.Measured.{Measures}
-use Rattle.sx_rewrite.specs.PutSubjects.{IsReady}
+use Rattle.sx_rewrite.specs.PutSubjects.{IsProofReady}
 use Rattle.sx_rewrite.specs.Rewrites.{CanRewrite, CountsAlike}
 use Rattle.sx_rewrite.specs.RewrittenView.{IsRewriting}
 use Rattle.sx_rewrite.specs.SourceView.{set_of, IsSource}
@@ -56,10 +58,10 @@ module _ (s : Source) (source : IsSource s) (counts : CountsAlike s) (p : Proof)
       pub can-lower : CanLower set hyps p
       can-lower = record { judgement = can.judgement; derives = can.derives; binds = can.binds; fit = can.fit; low = less }
 
-      pub is-refused : (e : RewriteError) → IsRefused set (subjects_in (forms_in s.set.now.base)) hyps p e → IsRewriting set (signature s.set.now).subjects hyps p budget (Err e)
+      pub is-refused : (e : RewriteError) → IsLoweringRefused set (subjects_in (forms_in s.set.now.base)) hyps p e → IsRewriting set (signature s.set.now).subjects hyps p budget (Err e)
       is-refused e f = go (terms_are_measured (signature s.set.now) (shapes_in s.set.now.base) (shapes_in s.set.now.rules) set source.accepted_with hyps p can.judgement can.derives) e f
         where
-          go : (ts : List Tree) × Measures set (signature s.set.now).subjects hyps p ts → (e : RewriteError) → IsRefused set (subjects_in (forms_in s.set.now.base)) hyps p e →
+          go : (ts : List Tree) × Measures set (signature s.set.now).subjects hyps p ts → (e : RewriteError) → IsLoweringRefused set (subjects_in (forms_in s.set.now.base)) hyps p e →
               IsRewriting set (signature s.set.now).subjects hyps p budget (Err e)
           go (ts, m) Memory f = tt
           go (ts, m) (RewriteSpent n) f = absurd (f ts m)
@@ -68,7 +70,7 @@ module _ (s : Source) (source : IsSource s) (counts : CountsAlike s) (p : Proof)
           go (ts, m) (TooBig n) f = (few, less, (ts, m, f ts m))
 
       module _ (q : Proof) (is : IsLoweredTo set (subjects_in (forms_in s.set.now.base)) hyps p q) where
-        pub is-ready : IsReady (bare_rules_in s.set.now.base) hyps q
+        pub is-ready : IsProofReady (bare_rules_in s.set.now.base) hyps q
         is-ready = lowered-ready (signature s.set.now) (shapes_in s.set.now.base) (shapes_in s.set.now.rules) set source.accepted_with hyps source.below source.near p q can-lower is
 
         pub is-done : (result : Result Lowered RewriteError) →

@@ -9,12 +9,13 @@ use Rattle.std.specs.List.{AllByRecursion}
 use Rattle.sx_term.specs.Tree.{Tree, depth_of}
 use Rattle.sx_term.specs.Term.{tree}
 use Rattle.sx_term.specs.declared.term.Term.{Term}
-use Rattle.sx_rules.specs.Derivations.{Proof, Proofs, by, given, no_more, ◌⊳◌, height_of, HasShallowBinds, HaveShallowBinds, AreShallow}
+use Rattle.sx_rules.specs.Derivations.{Proof, Proofs, by, given, no_more, ◌⊳◌, height_of}
+use Rattle.sx_rules.specs.Derivations.{HasShallowBinds, HaveShallowBinds, AreShallow}
 use Rattle.sx_rules.specs.ProofView.{proof}
 use Rattle.sx_plain.proofs.Kept.{unrefuted}
 use Rattle.sx_rewrite.specs.declared.flat.Flat.{Flat}
 use Rattle.sx_rewrite.specs.Stored.{flat_at}
-use Rattle.sx_rewrite.specs.Shallow.{IsShallow}
+use Rattle.sx_rewrite.specs.Shallow.{IsShallowFlat}
 use Rattle.sx_rewrite.proofs.Stable.{Decided, decided, stable, both}
 
 within : (m n : ℕ) → Decided (m ≤ n)
@@ -43,25 +44,25 @@ subject_within : (o : Option Term) → Decided (IfSome o (λ t. depth_of (tree t
 subject_within None = inl tt
 subject_within (Some t) = within (depth_of (tree t)) 1000
 
-flat_within : (f : Flat) → Decided (IsShallow f)
+flat_within : (f : Flat) → Decided (IsShallowFlat f)
 flat_within f =
     decided (λ x. (x.0, x.1.0, x.1.1)) (λ x. (x.0, (x.1, x.2))) (both (subject_within f.subject) (both (within (height_of (proof f.proof.value)) 3000) (binds_within (proof f.proof.value))))
 
-flats_within : (fs : List Flat) → Decided (AllByRecursion IsShallow fs)
+flats_within : (fs : List Flat) → Decided (AllByRecursion IsShallowFlat fs)
 flats_within [] = inl tt
 flats_within (f ∷ fs) = both (flat_within f) (flats_within fs)
 
 -- the one that lies at a place is shallow
-pub shallow-at : (fs : List Flat) (i : ℕ) (f : Flat) → ∥ AllByRecursion IsShallow fs ∥₁ → i < length fs → f ≡ get_or fs i f → IsShallow f
+pub shallow-at : (fs : List Flat) (i : ℕ) (f : Flat) → ∥ AllByRecursion IsShallowFlat fs ∥₁ → i < length fs → f ≡ get_or fs i f → IsShallowFlat f
 shallow-at fs i f t l e = go fs i (stable (flats_within fs) (unrefuted t)) l e
   where
-    go : (gs : List Flat) (n : ℕ) → AllByRecursion IsShallow gs → n < length gs → f ≡ get_or gs n f → IsShallow f
+    go : (gs : List Flat) (n : ℕ) → AllByRecursion IsShallowFlat gs → n < length gs → f ≡ get_or gs n f → IsShallowFlat f
     go [] n h m g = absurd (omega (arith, m))
-    go (x ∷ gs) zero h m g = subst IsShallow (sym g) h.0
+    go (x ∷ gs) zero h m g = subst IsShallowFlat (sym g) h.0
     go (x ∷ gs) (suc n) h m g = go gs n h.1 (omega (arith, m)) g
 
 -- so are more of them
-pub shallow-both : (fs gs : List Flat) → AllByRecursion IsShallow fs → AllByRecursion IsShallow gs → AllByRecursion IsShallow (fs ++ gs)
+pub shallow-both : (fs gs : List Flat) → AllByRecursion IsShallowFlat fs → AllByRecursion IsShallowFlat gs → AllByRecursion IsShallowFlat (fs ++ gs)
 shallow-both [] gs h k = k
 shallow-both (f ∷ fs) gs h k = (h.0, shallow-both fs gs h.1 k)
 

@@ -13,12 +13,14 @@ use Rattle.sx_rewrite.specs.declared.given_use.GivenUse.{GivenUse}
 use Rattle.sx_rewrite.specs.declared.certificate_size.CertificateSize.{CertificateSize}
 use Rattle.sx_rewrite.specs.declared.ext_rule.ExtRule.{ExtRule}
 use Rattle.sx_rewrite.specs.declared.flat.Flat.{Flat}
-use Rattle.sx_rewrite.specs.Accepted.{Known, basic, checked, Checked, Accepted, known_of, Signature, IsAccepted}
+use Rattle.sx_rewrite.specs.Accepted.{Known, basic, checked, Checked, Accepted, known_of, Signature}
+use Rattle.sx_rewrite.specs.Accepted.{IsAccepted}
 use Rattle.sx_rewrite.specs.Stored.{checked_with, checked_of, stored_in, stored_at}
 use Rattle.sx_rewrite.specs.Measured.{is_used}
 use Rattle.sx_rewrite.specs.Copied.{times_given}
 use Rattle.sx_rewrite.specs.Counts.{own_nodes, own_height, nodes_above}
-use Rattle.sx_rewrite.specs.Sizes.{in_u128, IsUseOf, AreUsesOf, IsSizeOf, AreSizesOf, IsSizeIn, IsSmall, UsesPremises}
+use Rattle.sx_rewrite.specs.Sizes.{in_u128, IsUseOf, AreUsesOf, IsSizeOf, AreSizesOf, IsSizeIn}
+use Rattle.sx_rewrite.specs.Sizes.{IsSmallCertificate, UsesPremises}
 use Rattle.sx_rewrite.proofs.Stable.{Decided, decided, stable, both}
 use Rattle.sx_rewrite.proofs.StoredAt.{base-none, after-base}
 use Rattle.sx_rewrite.proofs.Summed.{certificates_use_premises}
@@ -88,7 +90,7 @@ module _ (a : Accepted) (ss : List CertificateSize) (first r : ℕ) (counted : f
       subst (λ (o : Option Checked). IsSizeIn o s) (sym at) (in-more a.more ss (r - length a.base) s (kept_sizes a.more ss sized) (omega (arith, m, counted)) g)
 
 -- what holds of a size
-pub size-small : (o : Option Checked) (s : CertificateSize) → IsSizeIn o s → IsSmall s
+pub size-small : (o : Option Checked) (s : CertificateSize) → IsSizeIn o s → IsSmallCertificate s
 size-small None s h = absurd h
 size-small (Some c) s h =
     let a = own_height-within c.proof in

@@ -6,10 +6,11 @@ use Rattle.std.proofs.lemmas.Bool.{eq-eqb, eqb-true}
 use Rattle.std.proofs.lemmas.List.{map-append, length-set, get_or-set_same, get_or-set_other}
 use Rattle.sx_rules.specs.declared.proof.Proof.{Proof as ProofOf, Given}
 use Rattle.sx_rules.specs.Discipline.{one_when}
-use Rattle.sx_rules.specs.Derivations.{Proof, Proofs, no_more, ◌⊳◌, proof_at, put_for, height_of, most_height, HasShallowBinds, HaveShallowBinds}
+use Rattle.sx_rules.specs.Derivations.{Proof, Proofs, no_more, ◌⊳◌, proof_at, put_for, height_of}
+use Rattle.sx_rules.specs.Derivations.{most_height, HasShallowBinds, HaveShallowBinds}
 use Rattle.sx_rules.specs.ProofView.{proof, row_of, boxed}
-use Rattle.sx_rewrite.specs.Givens.{placed, times_among, AllBelow}
-use Rattle.sx_rewrite.specs.Taken.{IsTaken}
+use Rattle.sx_rewrite.specs.Givens.{placed_at, times_among, NumbersBelow}
+use Rattle.sx_rewrite.specs.Taken.{IsPlaceTaken}
 use Rattle.sx_rewrite.proofs.Grafted.{views}
 
 -- numbers from a place on
@@ -35,7 +36,7 @@ read-any [] i d e l = absurd (omega (arith, l))
 read-any (x ∷ xs) zero d e l = refl
 read-any (x ∷ xs) (suc i) d e l = read-any xs i d e (omega (arith, l))
 
-pub below-at : (n : ℕ) (xs : List ℕ) (i x : ℕ) → AllBelow n xs → i < length xs → x ≡ get_or xs i x → x < n
+pub below-at : (n : ℕ) (xs : List ℕ) (i x : ℕ) → NumbersBelow n xs → i < length xs → x ≡ get_or xs i x → x < n
 below-at n [] i x h l e = absurd (omega (arith, l))
 below-at n (y ∷ xs) zero x h l e = let a = h.0 in omega (arith, a, e)
 below-at n (y ∷ xs) (suc i) x h l e = below-at n xs i x h.1 (omega (arith, l)) e
@@ -124,12 +125,12 @@ pub record TakenTo (givens : List ℕ) (i : ℕ) (old now : List (Box ProofOf Gl
   pub kids_many : length now ≡ length old
   pub times : (g : ℕ) → g < length now → get_or left g 0 ≡ times_among g (drop i givens)
   pub kept : (g : ℕ) → 0 < get_or left g 0 → proof_at (boxed now) g ≡ proof_at (boxed old) g
-  pub made_are : after (views made) (placed (boxed old) (drop i givens)) ≡ placed (boxed old) givens
+  pub made_are : after (views made) (placed_at (boxed old) (drop i givens)) ≡ placed_at (boxed old) givens
   pub height : most_height (boxed now) ≤ 3000
   pub binds : HaveShallowBinds (boxed now)
 
 module _ (givens : List ℕ) (i : ℕ) (old now : List (Box ProofOf Global)) (left : List ℕ) (made : List (Box ProofOf Global)) (so : TakenTo givens i old now left made)
-    (j : ℕ) (l : i < length givens) (e : j ≡ get_or givens i j) (b : AllBelow (length old) givens) where
+    (j : ℕ) (l : i < length givens) (e : j ≡ get_or givens i j) (b : NumbersBelow (length old) givens) where
   from : drop i givens ≡ j ∷ drop (i + 1) givens
   from = numbers-from givens i j l e
 
@@ -142,7 +143,7 @@ module _ (givens : List ℕ) (i : ℕ) (old now : List (Box ProofOf Global)) (le
       let c = ap (times_among j) from in
       let d = times-same j (drop (i + 1) givens) in omega (arith, t, c, d)
 
-  pub taken-step : (then : List ℕ) (new : List (Box ProofOf Global)) (kid : Box ProofOf Global) → IsTaken j left then now new → Some (proof kid.value) ≡ proof_at (boxed now) j →
+  pub taken-step : (then : List ℕ) (new : List (Box ProofOf Global)) (kid : Box ProofOf Global) → IsPlaceTaken j left then now new → Some (proof kid.value) ≡ proof_at (boxed now) j →
       TakenTo givens (i + 1) old new then (made ++ kid ∷ [])
   taken-step then new kid t k = record {
     left_many = t.left_many ∙ so.left_many ∙ sym t.kids_many;
@@ -151,10 +152,10 @@ module _ (givens : List ℕ) (i : ℕ) (old now : List (Box ProofOf Global)) (le
     kept = λ g w. t.kept g w ∙ so.kept g (some g w (either g j));
     made_are =
         let is : put_for (proof_at (boxed old) j) j ≡ proof kid.value = sym (ap (λ (o : Option Proof). put_for o j) (k ∙ so.kept j taken-some)) in
-        ap (λ (xs : List Proof). after xs (placed (boxed old) (drop (i + 1) givens))) (map-append (λ x. proof x.value) made (kid ∷ []))
-        ∙ after-one (views made) (proof kid.value) (placed (boxed old) (drop (i + 1) givens))
-        ∙ sym (ap (λ (x : Proof). after (views made) (x ⊳ placed (boxed old) (drop (i + 1) givens))) is)
-        ∙ sym (ap (λ (xs : List ℕ). after (views made) (placed (boxed old) xs)) from)
+        ap (λ (xs : List Proof). after xs (placed_at (boxed old) (drop (i + 1) givens))) (map-append (λ x. proof x.value) made (kid ∷ []))
+        ∙ after-one (views made) (proof kid.value) (placed_at (boxed old) (drop (i + 1) givens))
+        ∙ sym (ap (λ (x : Proof). after (views made) (x ⊳ placed_at (boxed old) (drop (i + 1) givens))) is)
+        ∙ sym (ap (λ (xs : List ℕ). after (views made) (placed_at (boxed old) xs)) from)
         ∙ so.made_are;
     height = t.height;
     binds = t.binds;
@@ -179,9 +180,9 @@ module _ (givens : List ℕ) (i : ℕ) (old now : List (Box ProofOf Global)) (le
       some g w (inr other) = let m = t.others g other in omega (arith, m, w)
 
 pub taken-all : (givens : List ℕ) (i : ℕ) (old now : List (Box ProofOf Global)) (left : List ℕ) (made : List (Box ProofOf Global)) → TakenTo givens i old now left made → length givens ≤ i →
-    boxed made ≡ placed (boxed old) givens
+    boxed made ≡ placed_at (boxed old) givens
 taken-all givens i old now left made so l =
-    sym (after-none (views made)) ∙ sym (ap (λ (xs : List ℕ). after (views made) (placed (boxed old) xs)) (numbers-end givens i l)) ∙ so.made_are
+    sym (after-none (views made)) ∙ sym (ap (λ (xs : List ℕ). after (views made) (placed_at (boxed old) xs)) (numbers-end givens i l)) ∙ so.made_are
 
 -- one kid is taken
 found : (ks : List (Box ProofOf Global)) (n : ℕ) (k : Box ProofOf Global) → n < length ks → k ≡ get_or ks n k → proof_at (boxed ks) n ≡ Some (proof k.value)
@@ -231,7 +232,7 @@ set-shallow (x ∷ ks) (suc n) k a h = (h.0, set-shallow ks n k a h.1)
 
 module _ (number : ℕ) (left : List ℕ) (kids : List (Box ProofOf Global)) (n : ℕ) (within : number < length left) (some : 0 < get_or left number 0) (is : n ≡ get_or left number 0 - 1)
     (height : most_height (boxed kids) ≤ 3000) (binds : HaveShallowBinds (boxed kids)) where
-  pub take-copied : IsTaken number left (set left number n) kids kids
+  pub take-copied : IsPlaceTaken number left (set left number n) kids kids
   take-copied = record {
     less = let s = get_or-set_same left number n 0 within in omega (arith, s, some, is);
     others = λ g other. get_or-set_other left number g n 0 other;
@@ -242,7 +243,7 @@ module _ (number : ℕ) (left : List ℕ) (kids : List (Box ProofOf Global)) (n 
     binds = binds;
   }
 
-  pub take-moved : (k : Box ProofOf Global) (i : ℕ) → k.value ≡ Given i → n ≡ 0 → IsTaken number left (set left number n) kids (set kids number k)
+  pub take-moved : (k : Box ProofOf Global) (i : ℕ) → k.value ≡ Given i → n ≡ 0 → IsPlaceTaken number left (set left number n) kids (set kids number k)
   take-moved k i e none = record {
     less = let s = get_or-set_same left number n 0 within in omega (arith, s, some, is);
     others = λ g other. get_or-set_other left number g n 0 other;

@@ -11,20 +11,24 @@ use Rattle.sx_term.specs.Tree.{Tree}
 use Rattle.sx_rules.specs.declared.proof.Proof.{Proof as ProofOf, By}
 use Rattle.sx_rules.specs.Instances.{bound_by}
 use Rattle.sx_rules.specs.Rules.{Judgement, Rule, Hypotheses, judgement_instance, judgements_of}
-use Rattle.sx_rules.specs.Derivations.{Proof, Proofs, by, given, no_more, ◌⊳◌, Derives, DeriveEach, height_of, most_height}
+use Rattle.sx_rules.specs.Derivations.{Proof, Proofs, by, given, no_more, ◌⊳◌, Derives, DeriveEach}
+use Rattle.sx_rules.specs.Derivations.{height_of, most_height}
 use Rattle.sx_rules.specs.ProofView.{proof, boxed}
 use Rattle.sx_rules.proofs.ProofRows.{proof-at_by}
 use Rattle.sx_plain.specs.Measures.{total, greatest}
 use Rattle.sx_rewrite.specs.declared.given_use.GivenUse.{GivenUse}
 use Rattle.sx_rewrite.specs.declared.certificate_size.CertificateSize.{CertificateSize}
 use Rattle.sx_rewrite.specs.declared.lowered_tally.LoweredTally.{LoweredTally}
-use Rattle.sx_rewrite.specs.Accepted.{Known, basic, checked, Checked, Accepted, known_of, extended_rules, rule_in}
+use Rattle.sx_rewrite.specs.Accepted.{Known, basic, checked, Checked, Accepted, known_of}
+use Rattle.sx_rewrite.specs.Accepted.{extended_rules, rule_in}
 use Rattle.sx_rewrite.specs.Stored.{stored_in}
-use Rattle.sx_rewrite.specs.Used.{lowered_nodes, lowered_nodes_of, lowered_height, lowered_heights_of, nodes_at, height_at}
+use Rattle.sx_rewrite.specs.Used.{lowered_nodes, lowered_nodes_of, lowered_height}
+use Rattle.sx_rewrite.specs.Used.{lowered_heights_of, nodes_at, height_at}
 use Rattle.sx_rewrite.specs.Copied.{copied, copied_of, copied_at}
-use Rattle.sx_rewrite.specs.Sizes.{in_u128, in_u64, IsSizeIn, UsesPremises, used_sum, used_most, used_copies}
+use Rattle.sx_rewrite.specs.Sizes.{in_u128, in_u64, IsSizeIn, UsesPremises, used_sum, used_most}
+use Rattle.sx_rewrite.specs.Sizes.{used_copies}
 use Rattle.sx_rewrite.specs.Tallies.{IsTallyOf, IsSizedTally, IsBaseTally, IsWithKid}
-use Rattle.sx_rewrite.specs.LoweredSizes.{number_of, FitKids, HasFitKids, HaveFitKids}
+use Rattle.sx_rewrite.specs.LoweredSizes.{proof_count, FitKids, HasFitKids, HaveFitKids}
 use Rattle.sx_rewrite.proofs.Known.{known-at}
 use Rattle.sx_rewrite.proofs.Summed.{nodes_are_summed, height_is_greatest}
 use Rattle.sx_rewrite.proofs.SizeLaws.{kid-nodes, kid-copied, used-nodes, used-height, used-copied, uses-drop}
@@ -47,26 +51,26 @@ mutual
   all_derived-fit a hyps [] (p ⊳ ps) d = absurd d
   all_derived-fit a hyps (j ∷ js) (p ⊳ ps) d = (derived-fit a hyps j p d.0, all_derived-fit a hyps js ps d.1)
 
-  all_derived-many : (rules : List Rule) (hyps : Hypotheses) (js : List Judgement) (ps : Proofs) → DeriveEach rules hyps js ps → number_of ps ≡ length js
+  all_derived-many : (rules : List Rule) (hyps : Hypotheses) (js : List Judgement) (ps : Proofs) → DeriveEach rules hyps js ps → proof_count ps ≡ length js
   all_derived-many rules hyps [] no_more d = refl
   all_derived-many rules hyps (j ∷ js) no_more d = absurd d
   all_derived-many rules hyps [] (p ⊳ ps) d = absurd d
   all_derived-many rules hyps (j ∷ js) (p ⊳ ps) d = let h = all_derived-many rules hyps js ps d.1 in omega (arith, h)
 
 -- so many kids
-pub number-boxed : (ks : List (Box ProofOf Global)) → number_of (boxed ks) ≡ length ks
+pub number-boxed : (ks : List (Box ProofOf Global)) → proof_count (boxed ks) ≡ length ks
 number-boxed [] = refl
 number-boxed (k ∷ ks) = let h = number-boxed ks in omega (arith, h)
 
-many-nodes : (a : Accepted) (ps : Proofs) → length (lowered_nodes_of a ps) ≡ number_of ps
+many-nodes : (a : Accepted) (ps : Proofs) → length (lowered_nodes_of a ps) ≡ proof_count ps
 many-nodes a no_more = refl
 many-nodes a (p ⊳ ps) = let h = many-nodes a ps in omega (arith, h)
 
-many-heights : (a : Accepted) (ps : Proofs) → length (lowered_heights_of a ps) ≡ number_of ps
+many-heights : (a : Accepted) (ps : Proofs) → length (lowered_heights_of a ps) ≡ proof_count ps
 many-heights a no_more = refl
 many-heights a (p ⊳ ps) = let h = many-heights a ps in omega (arith, h)
 
-many-copied : (a : Accepted) (ps : Proofs) → length (copied_of a ps) ≡ number_of ps
+many-copied : (a : Accepted) (ps : Proofs) → length (copied_of a ps) ≡ proof_count ps
 many-copied a no_more = refl
 many-copied a (p ⊳ ps) = let h = many-copied a ps in omega (arith, h)
 
@@ -118,10 +122,10 @@ base-node (Some (checked c)) ps ns hs cs e fit = absurd (some-none c e)
     some-none d f = cc
 
 -- a rule with a certificate has as many kids as uses are kept
-pub sized-many : (a : Accepted) (r : ℕ) (size : CertificateSize) (kids : Proofs) → IsSizeIn (stored_in (slice_get (known_of a) r)) size → FitKids (slice_get (known_of a) r) kids → number_of kids ≡ length size.uses.items
+pub sized-many : (a : Accepted) (r : ℕ) (size : CertificateSize) (kids : Proofs) → IsSizeIn (stored_in (slice_get (known_of a) r)) size → FitKids (slice_get (known_of a) r) kids → proof_count kids ≡ length size.uses.items
 sized-many a r size kids s f = go (slice_get (known_of a) r) s f
   where
-    go : (o : Option Known) → IsSizeIn (stored_in o) size → FitKids o kids → number_of kids ≡ length size.uses.items
+    go : (o : Option Known) → IsSizeIn (stored_in o) size → FitKids o kids → proof_count kids ≡ length size.uses.items
     go None s f = absurd s
     go (Some (basic rule)) s f = absurd s
     go (Some (checked c)) s f = let m = s.many in omega (arith, m, f)

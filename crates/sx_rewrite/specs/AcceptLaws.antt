@@ -18,7 +18,7 @@ use Rattle.sx_rewrite.specs.Accepted.{AreTypedSorts, AllDisciplined, Signature, 
 use Rattle.sx_rewrite.specs.Sound.{HasBaseSyntax, flat_given, flat_goal, IsSoundBy, AreSoundBy}
 use Rattle.sx_rewrite.specs.Accepting.{IsStored, IsRejected}
 use Rattle.sx_rewrite.specs.Extensions.{Extension, without_extensions, with_table, extended}
-use Rattle.sx_rewrite.specs.Extensions.{GrowsSoundly, BodyFits, Fits}
+use Rattle.sx_rewrite.specs.Extensions.{GrowsSoundly, BodyFits, FitsRules}
 
 -- a certificate holds for all terms that are put for the rule's variables: from derivations
 -- of the instances of the flat premises it makes one of the instance of the flat conclusion
@@ -87,7 +87,7 @@ abbrev pub AcceptedSetsGrow : Type 0
 AcceptedSetsGrow =
     (sig : Signature) (base shapes all : List Shape) (a : Accepted) (e : Extension) →
     IsAccepted sig base shapes a →
-    Fits sig base shapes all a.table e.table e.rules →
+    FitsRules sig base shapes all a.table e.table e.rules →
     AreSoundBy sig.subjects (length base) (with_table a e.table) e.rules e.stored →
     IsAccepted sig base all (extended a e)
 

@@ -20,17 +20,18 @@ pub record IsAsBefore (old kept : Accepted) : Type 0 where
   pub flats : kept.flats.items ≡ old.flats.items
 
 -- the set has other rules and another table, and more is stored, or it is as it was
-abbrev pub IsJoined : Accepted → Grown → PlainTable → List Flat → Result Accepted Accepted → Type 0
-IsJoined old grown plain flats (Ok new) =
+abbrev pub IsSetJoined : Accepted → Grown → PlainTable → List Flat → Result Accepted Accepted →
+    Type 0
+IsSetJoined old grown plain flats (Ok new) =
     (new.base ≡ old.base) × (new.rules ≡ grown.rules) × (new.plain ≡ plain)
     × (new.flats.items ≡ old.flats.items ++ flats)
-IsJoined old grown plain flats (Err kept) = IsAsBefore old kept
+IsSetJoined old grown plain flats (Err kept) = IsAsBefore old kept
 
 -- the set with the extension after it, whose rules have the shapes, or the set as it was
-abbrev pub IsAdded : Accepted → List Shape → ExtensionData → List Flat →
+abbrev pub IsExtensionAdded : Accepted → List Shape → ExtensionData → List Flat →
     Result Accepted Accepted → Type 0
-IsAdded old all ext flats (Ok new) =
+IsExtensionAdded old all ext flats (Ok new) =
     (new.base ≡ old.base) × (shapes_in new.rules ≡ all)
     × (rules_in new.rules ≡ rules_in old.rules ++ named_rules ext)
     × (accepted new ≡ extended (accepted old) (extension_with ext flats))
-IsAdded old all ext flats (Err kept) = IsAsBefore old kept
+IsExtensionAdded old all ext flats (Err kept) = IsAsBefore old kept

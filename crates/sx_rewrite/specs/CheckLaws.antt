@@ -12,7 +12,7 @@ use Rattle.sx_rewrite.specs.declared.rewrite_error.RewriteError.{RewriteError}
 use Rattle.sx_rewrite.specs.Accepted.{ExtRule, Checked, Accepted, Signature, IsAccepted}
 use Rattle.sx_rewrite.specs.Accepted.{extended_rules}
 use Rattle.sx_rewrite.specs.Accepting.{IsFirstBy, IsStored, AreStored}
-use Rattle.sx_rewrite.specs.Extensions.{Extension, with_table, GoesOn, Fits, ComesAfter}
+use Rattle.sx_rewrite.specs.Extensions.{Extension, with_table, ShapesGoOn, FitsRules, ComesAfter}
 use Rattle.sx_rewrite.specs.Lowering.{BindsFit}
 use Rattle.sx_rewrite.specs.Lowers.{HypothesesBelow}
 use Rattle.sx_rewrite.specs.PlainRules.{plain_of}
@@ -26,7 +26,7 @@ abbrev pub LongerTablesAreAccepted : Type 0
 LongerTablesAreAccepted =
     (sig : Signature) (base shapes all : List Shape) →
     (a : Accepted) → IsAccepted sig base shapes a → (table : Table) →
-    GoesOn base shapes all a.table table →
+    ShapesGoOn base shapes all a.table table →
     IsAccepted sig base all (with_table a table)
 
 -- its plain rules stay as they are
@@ -104,6 +104,6 @@ abbrev pub StoredExtensionsAreSound : Type 0
 StoredExtensionsAreSound =
     (sig : Signature) (base shapes all : List Shape) →
     (a : Accepted) → IsAccepted sig base shapes a → (e : Extension) →
-    Fits sig base shapes all a.table e.table e.rules →
+    FitsRules sig base shapes all a.table e.table e.rules →
     AreStored sig (length base) (with_table a e.table) e.rules e.stored →
     AreSoundBy sig.subjects (length base) (with_table a e.table) e.rules e.stored

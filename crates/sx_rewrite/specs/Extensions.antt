@@ -55,7 +55,7 @@ BodiesFit sig shapes n table (e ∷ es) =
 
 -- The shapes and the table go on from those before: the new shapes come after those before, and
 -- the table keeps their entries and has one for each plain constructor that is not base.
-pub record GoesOn (base shapes all : List Shape) (before table : Table) : Type 0 where
+pub record ShapesGoOn (base shapes all : List Shape) (before table : Table) : Type 0 where
   pub begins : Begins shapes all
   pub no_typed : PlainHaveNoTyped all
   pub keeps : (label : ℕ) → label < length shapes → before label ≡ table label
@@ -63,9 +63,9 @@ pub record GoesOn (base shapes all : List Shape) (before table : Table) : Type 0
 
 -- The extension fits the rules that have the shapes: its shapes and its table go on from theirs,
 -- and its rules are well sorted, moded and disciplined, with bodies of syntax before it.
-pub record Fits (sig : Signature) (base shapes all : List Shape) (before table : Table)
+pub record FitsRules (sig : Signature) (base shapes all : List Shape) (before table : Table)
     (rules : List ExtRule) : Type 0 where
-  pub goes_on : GoesOn base shapes all before table
+  pub goes_on : ShapesGoOn base shapes all before table
   pub sorted : RulesAreSorted all sig.forms (map (λ e. e.rule) rules)
   pub moded : AllModed sig.modes (map (λ e. e.rule) rules)
   pub disciplined : AllDisciplined sig.subjects (map (λ e. e.rule) rules)
@@ -77,7 +77,7 @@ pub record Fits (sig : Signature) (base shapes all : List Shape) (before table :
 pub record ComesAfter (sig : Signature) (base shapes all : List Shape)
     (a : Accepted) (table : Table) (ext : ExtRule) : Type 0 where
   pub accepted : IsAccepted sig base shapes a
-  pub goes_on : GoesOn base shapes all a.table table
+  pub goes_on : ShapesGoOn base shapes all a.table table
   pub sorted : RuleIsSorted all sig.forms ext.rule
   pub disciplined : IsDisciplined sig.subjects ext.rule
   pub body : BodyFits sig all (length shapes) table ext.rule ext.body

@@ -15,9 +15,9 @@ abbrev mutual
   givens_of_all (p ⊳ ps) = givens_of p ++ givens_of_all ps
 
 -- the numbers count up from the first
-abbrev pub AreNumbered : ℕ → List ℕ → Type 0
-AreNumbered first [] = Unit {0}
-AreNumbered first (i ∷ is) = (i ≡ first) × AreNumbered (suc first) is
+abbrev pub CountUpFrom : ℕ → List ℕ → Type 0
+CountUpFrom first [] = Unit {0}
+CountUpFrom first (i ∷ is) = (i ≡ first) × CountUpFrom (suc first) is
 
 -- the proof with its givens numbered from the first number on, in preorder
 abbrev mutual
@@ -31,9 +31,9 @@ abbrev mutual
   all_numbered first (p ⊳ ps) = numbered first p ⊳ all_numbered (first + length (givens_of p)) ps
 
 -- the proof at each of the numbers, one after another
-abbrev pub placed : Proofs → List ℕ → Proofs
-placed proofs [] = no_more
-placed proofs (i ∷ is) = put_for (proof_at proofs i) i ⊳ placed proofs is
+abbrev pub placed_at : Proofs → List ℕ → Proofs
+placed_at proofs [] = no_more
+placed_at proofs (i ∷ is) = put_for (proof_at proofs i) i ⊳ placed_at proofs is
 
 -- how often the number stands in the list
 abbrev pub times_among : ℕ → List ℕ → ℕ
@@ -41,6 +41,6 @@ times_among i [] = 0
 times_among i (j ∷ js) = one_when (nat_eq i j) + times_among i js
 
 -- each number is below the bound
-abbrev pub AllBelow : ℕ → List ℕ → Type 0
-AllBelow bound [] = Unit {0}
-AllBelow bound (i ∷ is) = (i < bound) × AllBelow bound is
+abbrev pub NumbersBelow : ℕ → List ℕ → Type 0
+NumbersBelow bound [] = Unit {0}
+NumbersBelow bound (i ∷ is) = (i < bound) × NumbersBelow bound is

@@ -9,14 +9,14 @@ use Rattle.sx_rewrite.specs.Copied.{copied}
 use Rattle.sx_rewrite.specs.Sizes.{in_u64}
 
 -- how many proofs there are
-abbrev pub number_of : Proofs → ℕ
-number_of no_more = 0
-number_of (p ⊳ ps) = number_of ps + 1
+abbrev pub proof_count : Proofs → ℕ
+proof_count no_more = 0
+proof_count (p ⊳ ps) = proof_count ps + 1
 
 -- there is a rule, and a kid for each judgement among its premises
 abbrev pub FitKids : Option Known → Proofs → Type 0
 FitKids None kids = ⊥
-FitKids (Some known) kids = number_of kids ≡ length (judgements_of (rule_in known).premises)
+FitKids (Some known) kids = proof_count kids ≡ length (judgements_of (rule_in known).premises)
 
 -- each node of the proof is by a rule of the set,
 -- and has a kid for each judgement among its premises

@@ -14,9 +14,9 @@ use Rattle.sx_rewrite.specs.Accepted.{Accepted, extended_rules}
 use Rattle.sx_rewrite.specs.Lowers.{Lowers}
 use Rattle.sx_rewrite.specs.Used.{lowered_height}
 use Rattle.sx_rewrite.specs.Measured.{node_terms, certificate_terms, Measures, MeasuresEach}
-use Rattle.sx_rewrite.specs.Givens.{givens_of, AllBelow}
+use Rattle.sx_rewrite.specs.Givens.{givens_of, NumbersBelow}
 use Rattle.sx_rewrite.specs.Rewriting.{first_over}
-use Rattle.sx_rewrite.specs.LoweredSizes.{number_of}
+use Rattle.sx_rewrite.specs.LoweredSizes.{proof_count}
 use Rattle.sx_rewrite.specs.Puts.{Tells}
 use Rattle.sx_rules.specs.Limits.{most_levels}
 
@@ -49,7 +49,7 @@ pub record IsLoweredTo (a : Accepted) (subjects : Modes) (hyps : Hypotheses)
 -- and in the place of another stands a given
 pub record AreLoweredTo (a : Accepted) (subjects : Modes) (hyps : Hypotheses) (need : ℕ → Bool)
     (ps qs : Proofs) : Type 0 where
-  pub many : number_of qs ≡ number_of ps
+  pub many : proof_count qs ≡ proof_count ps
   pub each : (i : ℕ) (p q : Proof) → need i ≡ true → proof_at ps i ≡ Some p →
       proof_at qs i ≡ Some q → IsLoweredTo a subjects hyps p q
   pub blank : (i : ℕ) (q : Proof) → need i ≡ false → proof_at qs i ≡ Some q →
@@ -62,8 +62,8 @@ needed_terms need i (ts ∷ tss) = (if need i then ts else []) ++ needed_terms n
 
 -- the error tells the first term that is measured for the proof and passes a limit,
 -- or out of memory
-abbrev pub IsRefused : Accepted → Modes → Hypotheses → Proof → RewriteError → Type 0
-IsRefused a subjects hyps p e =
+abbrev pub IsLoweringRefused : Accepted → Modes → Hypotheses → Proof → RewriteError → Type 0
+IsLoweringRefused a subjects hyps p e =
     (ts : List Tree) → Measures a subjects hyps p ts → Tells (first_over ts) e
 
 -- so it does of the kids that are needed
@@ -87,7 +87,7 @@ own_proof (Some certificate) r more qs = graft qs (proof_instance (bound_by more
 abbrev pub CanGraft : Option Proof → Proofs → Type 0
 CanGraft certificate qs =
     (p : Proof) → certificate ≡ Some p →
-    AllBelow (number_of qs) (givens_of p) × (height_of (graft qs p) ≤ most_levels)
+    NumbersBelow (proof_count qs) (givens_of p) × (height_of (graft qs p) ≤ most_levels)
 
 -- the kid is lowered where it is needed, and else a given stands in its place
 abbrev pub IsKidLowered : Accepted → Modes → Hypotheses → Bool → Proof → Proof → Type 0

@@ -58,24 +58,20 @@ abbrev mutual
       Lowers a subjects hyps p q k × LowersEach a subjects hyps ps qs ks
   LowersEach a subjects hyps _ _ _ = ⊥
 
--- there are none
-abbrev pub no_hypotheses : Hypotheses
-no_hypotheses = record { judgements = []; pairs = [] }
-
 -- each place of k that is no subject is the plain image of that place of j
 pub record IsImageOf (table : Table) (subjects : Modes) (k j : Judgement) : Type 0 where
   pub same_form : k.form ≡ j.form
   pub images : others_of subjects k ≡ map (image table) (others_of subjects j)
 
 -- the labels of the terms are below the number
-abbrev pub AreBelow : ℕ → List Tree → Type 0
-AreBelow n [] = Unit {0}
-AreBelow n (t ∷ ts) = LabelsBelow n t × AreBelow n ts
+abbrev pub TreeLabelsBelow : ℕ → List Tree → Type 0
+TreeLabelsBelow n [] = Unit {0}
+TreeLabelsBelow n (t ∷ ts) = LabelsBelow n t × TreeLabelsBelow n ts
 
 -- so are those of the judgements
 abbrev pub JudgementsBelow : ℕ → List Judgement → Type 0
 JudgementsBelow n [] = Unit {0}
-JudgementsBelow n (j ∷ js) = AreBelow n j.places × JudgementsBelow n js
+JudgementsBelow n (j ∷ js) = TreeLabelsBelow n j.places × JudgementsBelow n js
 
 -- and those of the pairs
 abbrev pub PairsBelow : ℕ → List (Tree × Tree) → Type 0

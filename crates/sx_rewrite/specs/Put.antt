@@ -12,8 +12,8 @@ abbrev pub ArePut : List Tree → PutTerms → Type 0
 ArePut more p = AreMeasuresOf more p.measures.items × AreMadeOf more (map tree p.terms.items)
 
 -- these are put: each is measured and made
-abbrev pub IsMadeOf : List Tree → PutTerms → Type 0
-IsMadeOf ts p = AreMeasuresOf ts p.measures.items × (map tree p.terms.items ≡ ts)
+abbrev pub ArePutsMade : List Tree → PutTerms → Type 0
+ArePutsMade ts p = AreMeasuresOf ts p.measures.items × (map tree p.terms.items ≡ ts)
 
 -- the places of the conclusion of a node by the rule, or none where there is no rule
 abbrev pub conclusion_terms : Option Rule → List Tree → List Tree

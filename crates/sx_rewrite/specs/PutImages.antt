@@ -6,13 +6,13 @@ use Rattle.sx_term.specs.declared.sort.Sort.{Sort}
 use Rattle.sx_term.specs.declared.sort.Sort.TheVariants.{Lex, Plain, Typed}
 use Rattle.sx_plain.specs.Plain.{Table, image}
 use Rattle.sx_rewrite.specs.declared.put_term.PutTerm.{PutTerm}
-use Rattle.sx_rewrite.specs.Puts.{IsMeasureOf, IsSmall}
+use Rattle.sx_rewrite.specs.Puts.{IsMeasureOf, IsSmallTerm}
 use Rattle.sx_term.specs.Limits.{most_depth}
 
 -- the term is put: it is measured, and made where it passes no limit
-pub record IsPut (t : Tree) (p : PutTerm) : Type 0 where
+pub record IsTermPut (t : Tree) (p : PutTerm) : Type 0 where
   pub measured : IsMeasureOf t p.measure
-  pub made : IsSmall t → tree p.term ≡ t
+  pub made : IsSmallTerm t → tree p.term ≡ t
   pub shallow : depth_of (tree p.term) ≤ most_depth
   pub low : p.measure.depth ≤ 1001000
 

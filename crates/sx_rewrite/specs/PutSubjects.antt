@@ -9,7 +9,7 @@ use Rattle.sx_rules.specs.Derivations.{Proof, Proofs, proof_at, Derives, AreShal
 use Rattle.sx_rules.specs.Derivations.{HasShallowBinds}
 
 -- the proof derives a judgement by the rules, and no term of the two is deeper than 1,000
-pub record IsReady (rules : List Rule) (hyps : Hypotheses) (q : Proof) : Type 0 where
+pub record IsProofReady (rules : List Rule) (hyps : Hypotheses) (q : Proof) : Type 0 where
   pub binds : HasShallowBinds q
   pub judgement : Judgement
   pub derives : Derives rules hyps judgement q
@@ -40,7 +40,7 @@ pub record ArePutBelow (subjects : Modes) (rules : List Rule) (hyps : Hypotheses
 -- the kids that are needed are ready
 abbrev pub AreReady : List Rule → Hypotheses → (ℕ → Bool) → Proofs → Type 0
 AreReady rules hyps need kids =
-    (i : ℕ) (q : Proof) → need i ≡ true → proof_at kids i ≡ Some q → IsReady rules hyps q
+    (i : ℕ) (q : Proof) → need i ≡ true → proof_at kids i ≡ Some q → IsProofReady rules hyps q
 
 -- the rule with the number has so many variables and so many judgements among its premises,
 -- and their subjects are bare variables

@@ -21,13 +21,13 @@ AreMeasuresOf (t ∷ ts) (m ∷ ms) = IsMeasureOf t m × AreMeasuresOf ts ms
 AreMeasuresOf _ _ = ⊥
 
 -- the term passes no limit
-abbrev pub IsSmall : Tree → Type 0
-IsSmall t = (depth_of t ≤ most_depth) × (size_of t ≤ most_size)
+abbrev pub IsSmallTerm : Tree → Type 0
+IsSmallTerm t = (depth_of t ≤ most_depth) × (size_of t ≤ most_size)
 
 -- each term that passes no limit is made; in the place of another stands any term
 abbrev pub AreMadeOf : List Tree → List Tree → Type 0
 AreMadeOf [] [] = Unit {0}
-AreMadeOf (t ∷ ts) (u ∷ us) = (IsSmall t → u ≡ t) × AreMadeOf ts us
+AreMadeOf (t ∷ ts) (u ∷ us) = (IsSmallTerm t → u ≡ t) × AreMadeOf ts us
 AreMadeOf _ _ = ⊥
 
 -- what is measured is within the limits, or the first limit that it passes

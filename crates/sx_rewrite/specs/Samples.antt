@@ -10,7 +10,8 @@ use Rattle.sx_rules.specs.Rules.{Judgement, holds, Rule}
 use Rattle.sx_rules.specs.Derivations.{Proof, by, given, no_more, ◌⊳◌}
 use Rattle.sx_plain.specs.Plain.{Body, Table}
 use Rattle.sx_rewrite.specs.Accepted.{Checked, Accepted, Signature, IsAccepted}
-use Rattle.sx_rewrite.specs.Lowers.{Lowers, no_hypotheses}
+use Rattle.sx_rewrite.specs.Lowers.{Lowers}
+use Rattle.sx_rules.specs.Rules.{no_hypotheses}
 
 -- a shape
 abbrev pub shape_of : Sort → List Sort → Shape

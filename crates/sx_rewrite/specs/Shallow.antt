@@ -10,8 +10,8 @@ use Rattle.sx_term.specs.Limits.{most_depth}
 
 -- the flat body and the terms of the certificate are no deeper than 1,000,
 -- and the certificate is no deeper than 3,000
-abbrev pub IsShallow : Flat → Type 0
-IsShallow f =
+abbrev pub IsShallowFlat : Flat → Type 0
+IsShallowFlat f =
     IfSome f.subject (λ t. depth_of (tree t) ≤ most_depth) ×
     (height_of (proof f.proof.value) ≤ most_levels)
     × HasShallowBinds (proof f.proof.value)

@@ -21,9 +21,9 @@ abbrev pub in_u64 : ℕ → ℕ
 in_u64 n = min n (2 ^ 64 - 1)
 
 -- no given is used yet
-abbrev pub unused : ℕ → List GivenUse
-unused zero = []
-unused (suc n) = record { times = 0; above = 0 } ∷ unused n
+abbrev pub unused_givens : ℕ → List GivenUse
+unused_givens zero = []
+unused_givens (suc n) = record { times = 0; above = 0 } ∷ unused_givens n
 
 -- the uses of the givens from i on, with those in a proof under so many nodes,
 -- by how often each stands, whether it does, and how many nodes are above it there
@@ -74,8 +74,8 @@ AreNear [] = Unit {0}
 AreNear (u ∷ us) = (u.above ≤ most_levels) × AreNear us
 
 -- the numbers are those of a certificate that is no deeper than 3,000
-abbrev pub IsSmall : CertificateSize → Type 0
-IsSmall size =
+abbrev pub IsSmallCertificate : CertificateSize → Type 0
+IsSmallCertificate size =
     (in_u128 size.nodes ≡ size.nodes) × (size.height ≤ most_levels) × AreNear size.uses.items
 
 -- the sum of the numbers, each as often as the given at its place is used

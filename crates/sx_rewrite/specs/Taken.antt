@@ -7,7 +7,8 @@ use Rattle.sx_rules.specs.ProofView.{boxed}
 use Rattle.sx_rules.specs.Limits.{most_levels}
 
 -- one place less is left for the kid with the number, and each kid with a place left is as before
-pub record IsTaken (number : ℕ) (left then : List ℕ) (kids now : List (Box ProofOf)) : Type 0 where
+pub record IsPlaceTaken (number : ℕ) (left then : List ℕ) (kids now : List
+    (Box ProofOf)) : Type 0 where
   pub less : slice_index_or left number 0 ≡ slice_index_or then number 0 + 1
   pub others : (g : ℕ) → (g ≡ number → ⊥) → slice_index_or then g 0 ≡ slice_index_or left g 0
   pub left_many : length then ≡ length left

@@ -7,12 +7,12 @@ ghost use Rattle.sx_rules.specs.Good.{IsRuleSet};
 ghost use Rattle.sx_rules.specs.Sets.{shapes_in, forms_in, rules_in};
 ghost use Rattle.sx_rules.specs.Views.{named, rule};
 ghost use Rattle.sx_plain.specs.Views.{table_of};
-ghost use Rattle.sx_rewrite.specs.Extensions.{Fits, with_table};
+ghost use Rattle.sx_rewrite.specs.Extensions.{FitsRules, with_table};
 ghost use Rattle.sx_rewrite.specs.Sound.{AreSoundBy};
 ghost use Rattle.sx_rewrite.specs.AcceptedView.{accepted, signature};
 ghost use Rattle.sx_rewrite.specs.ExtensionView.{ext_rule, named_rules, extension_with};
-ghost use Rattle.sx_rewrite.specs.Shallow.{IsShallow};
-ghost use Rattle.sx_rewrite.specs.Adds.{IsAdded};
+ghost use Rattle.sx_rewrite.specs.Shallow.{IsShallowFlat};
+ghost use Rattle.sx_rewrite.specs.Adds.{IsExtensionAdded};
 ghost use Rattle.std.specs.List.{AllByRecursion};
 ghost use Rattle.sx_rewrite.specs.PlainRules.{plain_named, RuleHasImage};
 
@@ -44,18 +44,18 @@ impl Accepted {
         requires good { IsRuleSet (shapes all.now) (forms_in self.rules)
             (rules_in self.rules ++ named_rules ext) }
         requires shallow { RulesAreShallow (map (λ e. rule e.rule) ext.rules.items) }
-        requires stored { AllByRecursion IsShallow flats.items }
+        requires stored { AllByRecursion IsShallowFlat flats.items }
         requires images { AllByRecursion
             (λ e. RuleHasImage (table_of ext.plain) (rule e.rule)) ext.rules.items }
         requires labels { ext.plain.base ≡ self.plain.base }
-        requires fits { Fits (signature self) (shapes_in self.base) (shapes_in self.rules)
+        requires fits { FitsRules (signature self) (shapes_in self.base) (shapes_in self.rules)
             (shapes all.now) (table_of self.plain) (table_of ext.plain)
             (map ext_rule ext.rules.items) }
         requires sound { AreSoundBy (signature self).subjects (length (shapes_in self.base))
             (with_table (accepted self) (table_of ext.plain))
             (map ext_rule ext.rules.items) (extension_with ext flats.items).stored }
         requires many { length flats.items ≡ length ext.rules.items }
-        ensures { IsAdded self (shapes all.now) ext flats.items result }
+        ensures { IsExtensionAdded self (shapes all.now) ext flats.items result }
     {
         self.facts();
         let ExtensionData { name, rules, plain } = ext;

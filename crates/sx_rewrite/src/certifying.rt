@@ -6,7 +6,7 @@ ghost use Rattle.sx_term.specs.Instances.{bound_by};
 ghost use Rattle.sx_rules.specs.Derivations as spec;
 ghost use Rattle.sx_rules.specs.ProofView as view;
 ghost use Rattle.sx_rules.specs.Sets.{bare_rules_in};
-ghost use Rattle.sx_rewrite.specs.Givens.{givens_of, AllBelow};
+ghost use Rattle.sx_rewrite.specs.Givens.{givens_of, NumbersBelow};
 ghost use Rattle.sx_rewrite.specs.Rewriting.{first_over};
 ghost use Rattle.sx_rewrite.specs.Measured.{certificate_terms};
 ghost use Rattle.sx_rewrite.specs.Puts.{Answers};
@@ -35,7 +35,7 @@ pub(crate) fn certified(
     requires height { spec.height_of (view.proof certificate.now) ≤ most_levels }
     requires binds { spec.HasShallowBinds (view.proof certificate.now) }
     requires put { (more : List Tree) × ArePut more puts.now }
-    requires givens { AllBelow (length kids.items) (givens_of (view.proof certificate.now)) }
+    requires givens { NumbersBelow (length kids.items) (givens_of (view.proof certificate.now)) }
     requires kids_height { spec.most_height (view.boxed kids.items) ≤ most_levels }
     requires kids_binds { spec.HaveShallowBinds (view.boxed kids.items) }
     requires whole { spec.height_of

@@ -3,7 +3,7 @@
 ghost use Rattle.std.specs.Prelude.{◌≡◌, ◌+◌, ◌<◌, ◌≤◌, length, drop};
 ghost use Rattle.sx_rules.specs.Derivations as spec;
 ghost use Rattle.sx_rules.specs.ProofView as view;
-ghost use Rattle.sx_rewrite.specs.Givens.{givens_of, givens_of_all, AreNumbered};
+ghost use Rattle.sx_rewrite.specs.Givens.{givens_of, givens_of_all, CountUpFrom};
 ghost use Rattle.sx_rules.specs.Limits.{most_levels};
 
 use std::mem;
@@ -12,7 +12,7 @@ use sx_rules::Proof;
 /// The body with kid i in the place of its given i, where its givens in preorder are 0, 1 and so
 /// on, as many as kids. Kids are moved: no memory is taken, and nothing is refused.
 pub fn graft(body: Box<Proof>, kids: Vec<Box<Proof>>) -> Box<Proof>
-    requires numbered { AreNumbered 0 (givens_of (view.proof body.value)) }
+    requires numbered { CountUpFrom 0 (givens_of (view.proof body.value)) }
     requires many { length (givens_of (view.proof body.value)) ≡ length kids.items }
     requires shallow { spec.height_of
         (spec.graft (view.boxed kids.items) (view.proof body.value)) ≤ most_levels }
@@ -33,7 +33,7 @@ pub fn graft(body: Box<Proof>, kids: Vec<Box<Proof>>) -> Box<Proof>
 #[cycle(filling)]
 fn filled(proof: Proof, next: &mut usize, kids: &mut [Box<Proof>]) -> Proof
     requires shallow { spec.height_of (view.proof proof) ≤ most_levels }
-    requires numbered { AreNumbered next.old (givens_of (view.proof proof)) }
+    requires numbered { CountUpFrom next.old (givens_of (view.proof proof)) }
     requires many { next.old + length (givens_of (view.proof proof)) ≤ length kids.old }
     ensures grafted { view.proof result ≡ spec.graft (view.boxed kids.old) (view.proof proof) }
     ensures next { next.new ≡ next.old + length (givens_of (view.proof proof)) }
@@ -66,7 +66,7 @@ fn filled(proof: Proof, next: &mut usize, kids: &mut [Box<Proof>]) -> Proof
 #[cycle(filling)]
 fn fill_each(parts: &mut [Box<Proof>], next: &mut usize, kids: &mut [Box<Proof>])
     requires shallow { spec.most_height (view.boxed parts.old) < most_levels }
-    requires numbered { AreNumbered next.old (givens_of_all (view.boxed parts.old)) }
+    requires numbered { CountUpFrom next.old (givens_of_all (view.boxed parts.old)) }
     requires many { next.old + length (givens_of_all (view.boxed parts.old)) ≤ length kids.old }
     ensures grafted { view.boxed parts.new
         ≡ spec.grafts (view.boxed kids.old) (view.boxed parts.old) }

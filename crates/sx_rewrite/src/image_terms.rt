@@ -7,7 +7,7 @@ ghost use Rattle.sx_plain.specs.Plain.{image};
 ghost use Rattle.sx_plain.specs.Tables.{FitsTable, FitTable};
 ghost use Rattle.sx_plain.specs.Views.{table_of};
 ghost use Rattle.sx_rewrite.specs.Put.{ArePut};
-ghost use Rattle.sx_rewrite.specs.PutImages.{IsPut, image_for, images_for};
+ghost use Rattle.sx_rewrite.specs.PutImages.{IsTermPut, image_for, images_for};
 ghost use Rattle.sx_term.specs.Limits.{most_depth};
 
 use crate::put_term::PutTerm;
@@ -60,7 +60,7 @@ fn put_image(
 ) -> Result<PutTerm, NoMemory>
     requires shallow { depth_of (tree term.now) ≤ most_depth }
     requires fits { FitsTable (table_of table.now) (tree term.now) }
-    ensures { IfOk result (IsPut (image_for (table_of table.now) sort (tree term.now))) }
+    ensures { IfOk result (IsTermPut (image_for (table_of table.now) sort (tree term.now))) }
 {
     match sort {
         Sort::Lex(_) => image_put(alloc, table, term),
@@ -77,7 +77,7 @@ fn put_image(
 fn image_put(alloc: Global, table: &PlainTable, term: &Term) -> Result<PutTerm, NoMemory>
     requires shallow { depth_of (tree term.now) ≤ most_depth }
     requires fits { FitsTable (table_of table.now) (tree term.now) }
-    ensures { IfOk result (IsPut (image (table_of table.now) (tree term.now))) }
+    ensures { IfOk result (IsTermPut (image (table_of table.now) (tree term.now))) }
 {
     let measure = image_measure(table, term);
     match lower(alloc, table, term) {

@@ -1,6 +1,6 @@
 //! Accepted sets with other rules.
 
-ghost use Rattle.sx_rewrite.specs.Adds.{IsJoined};
+ghost use Rattle.sx_rewrite.specs.Adds.{IsSetJoined};
 ghost use Rattle.sx_rewrite.specs.Joins.{CanJoin};
 
 use crate::accepted::Accepted;
@@ -18,7 +18,7 @@ impl Accepted {
         more: Certificates,
     ) -> Result<Accepted, Accepted>
         requires { CanJoin self grown plain more }
-        ensures { IsJoined self grown plain more.flats.items result }
+        ensures { IsSetJoined self grown plain more.flats.items result }
     {
         let Accepted {
             alloc,

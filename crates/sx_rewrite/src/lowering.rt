@@ -6,7 +6,7 @@ ghost use Rattle.sx_rules.specs.ProofView as view;
 ghost use Rattle.sx_rules.specs.Sets.{forms_in};
 ghost use Rattle.sx_rules.specs.Views.{hypotheses, subjects_in};
 ghost use Rattle.sx_rewrite.specs.AcceptedView.{accepted};
-ghost use Rattle.sx_rewrite.specs.Lowering.{CanLower, IsLoweredTo, AreLoweredTo, IsRefused};
+ghost use Rattle.sx_rewrite.specs.Lowering.{CanLower, IsLoweredTo, AreLoweredTo, IsLoweringRefused};
 ghost use Rattle.sx_rewrite.specs.Lowering.{AreRefused, IsKidLowered, IsKidRefused};
 ghost use Rattle.sx_rewrite.specs.Needed.{needed};
 ghost use Rattle.sx_rewrite.specs.SourceView.{set_of, IsSource};
@@ -35,7 +35,7 @@ pub(crate) fn lower_proof(
     ensures { MatchResult result
         (λ x. IsLoweredTo (set_of source.now) (subjects_in (forms_in source.now.set.now.base))
         (hypotheses source.now.given.now) (view.proof proof.now) (view.proof x.value))
-        (IsRefused (set_of source.now) (subjects_in (forms_in source.now.set.now.base))
+        (IsLoweringRefused (set_of source.now) (subjects_in (forms_in source.now.set.now.base))
         (hypotheses source.now.given.now) (view.proof proof.now)) }
 {
     match proof {

@@ -10,7 +10,7 @@ ghost use Rattle.sx_plain.specs.PartMeasures.{depths_of};
 ghost use Rattle.sx_rewrite.specs.Rewriting.{first_over};
 ghost use Rattle.sx_rewrite.specs.Measured.{node_terms};
 ghost use Rattle.sx_rewrite.specs.Puts.{AreMeasuresOf, Answers};
-ghost use Rattle.sx_rewrite.specs.Put.{ArePut, IsMadeOf, conclusion_terms};
+ghost use Rattle.sx_rewrite.specs.Put.{ArePut, ArePutsMade, conclusion_terms};
 ghost use Rattle.sx_term.specs.Limits.{most_depth};
 
 use crate::instance_made::instance_made;
@@ -55,7 +55,7 @@ fn instances(alloc: Global, terms: &[Term], puts: &PutTerms) -> Result<PutTerms,
     requires put { (more : List Tree) × ArePut more puts.now }
     ensures { (more : List Tree) → ArePut more puts.now →
         Answers (first_over (map (instance (bound_by more)) (map tree terms.now)))
-        (IsMadeOf (map (instance (bound_by more)) (map tree terms.now))) result }
+        (ArePutsMade (map (instance (bound_by more)) (map tree terms.now))) result }
 {
     let mut made = Vec::with_capacity(alloc, terms.len())?;
     let mut measures = Vec::with_capacity(alloc, terms.len())?;

@@ -4,8 +4,8 @@ ghost use Rattle.std.specs.Prelude.{◌≡◌, ℕ, ◌+◌, ◌<◌, ◌≤◌,
 ghost use Rattle.std.specs.Prelude.{slice_index_or};
 ghost use Rattle.sx_rules.specs.Derivations as spec;
 ghost use Rattle.sx_rules.specs.ProofView as view;
-ghost use Rattle.sx_rewrite.specs.Givens.{placed, times_among, AllBelow};
-ghost use Rattle.sx_rewrite.specs.Taken.{IsTaken};
+ghost use Rattle.sx_rewrite.specs.Givens.{placed_at, times_among, NumbersBelow};
+ghost use Rattle.sx_rewrite.specs.Taken.{IsPlaceTaken};
 ghost use Rattle.sx_rules.specs.Limits.{most_levels};
 
 use std::alloc::Global;
@@ -21,11 +21,11 @@ pub(crate) fn placed_kids(
     givens: &Vec<u32>,
     kids: Vec<Box<Proof>>,
 ) -> Result<Vec<Box<Proof>>, NoMemory>
-    requires below { AllBelow (length kids.items) givens.now.items }
+    requires below { NumbersBelow (length kids.items) givens.now.items }
     requires height { spec.most_height (view.boxed kids.items) ≤ most_levels }
     requires binds { spec.HaveShallowBinds (view.boxed kids.items) }
     ensures { IfOk result (λ x. view.boxed x.items
-        ≡ placed (view.boxed kids.items) givens.now.items) }
+        ≡ placed_at (view.boxed kids.items) givens.now.items) }
 {
     let mut kids = kids;
     let mut left = places_left(alloc, givens, kids.len())?;
@@ -37,7 +37,7 @@ pub(crate) fn placed_kids(
 
 /// How many places each of so many kids has.
 fn places_left(alloc: Global, givens: &Vec<u32>, many: usize) -> Result<Vec<usize>, NoMemory>
-    requires { AllBelow many givens.now.items }
+    requires { NumbersBelow many givens.now.items }
     ensures many { IfOk result (λ x. length x.items ≡ many) }
     ensures times { IfOk result
         (λ x. (g : ℕ) → g < many → slice_index_or x.items g 0 ≡ times_among g givens.now.items) }
@@ -56,13 +56,13 @@ fn put_kids(
     left: &mut [usize],
     kids: &mut [Box<Proof>],
 ) -> Result<Vec<Box<Proof>>, NoMemory>
-    requires below { AllBelow (length kids.old) givens.now }
+    requires below { NumbersBelow (length kids.old) givens.now }
     requires many { length left.old ≡ length kids.old }
     requires times { (g : ℕ) → g < length kids.old →
         slice_index_or left.old g 0 ≡ times_among g givens.now }
     requires height { spec.most_height (view.boxed kids.old) ≤ most_levels }
     requires binds { spec.HaveShallowBinds (view.boxed kids.old) }
-    ensures { IfOk result (λ x. view.boxed x.items ≡ placed (view.boxed kids.old) givens.now) }
+    ensures { IfOk result (λ x. view.boxed x.items ≡ placed_at (view.boxed kids.old) givens.now) }
 {
     let mut placed = Vec::with_capacity(alloc, givens.len())?;
     for i in 0..givens.len() {
@@ -84,7 +84,7 @@ fn take_kid(
     requires some { 0 < slice_index_or left.old number 0 }
     requires height { spec.most_height (view.boxed kids.old) ≤ most_levels }
     requires binds { spec.HaveShallowBinds (view.boxed kids.old) }
-    ensures taken { OnOk result (IsTaken number left.old left.new kids.old kids.new) }
+    ensures taken { OnOk result (IsPlaceTaken number left.old left.new kids.old kids.new) }
     ensures kid { IfOk result
         (λ x. Some (view.proof x.value) ≡ spec.proof_at (view.boxed kids.old) number) }
 {

@@ -11,7 +11,7 @@ ghost use Rattle.sx_rules.specs.ProofView as view;
 ghost use Rattle.sx_rules.specs.Sets.{forms_in, bare_rules_in};
 ghost use Rattle.sx_rules.specs.Views.{judgement, premise, hypotheses, subjects_in};
 ghost use Rattle.sx_rewrite.specs.Put.{ArePut};
-ghost use Rattle.sx_rewrite.specs.PutSubjects.{IsReady, IsSubjectPut, AreReady, ArePutBelow};
+ghost use Rattle.sx_rewrite.specs.PutSubjects.{IsProofReady, IsSubjectPut, AreReady, ArePutBelow};
 ghost use Rattle.sx_rewrite.specs.Needed.{needed};
 ghost use Rattle.sx_rewrite.specs.Stored.{certificate_at};
 ghost use Rattle.sx_rewrite.specs.AcceptedView.{accepted};
@@ -85,7 +85,8 @@ fn put_subject(
     puts: &mut PutTerms,
 ) -> Result<(), NoMemory>
     requires near { ShallowJudgements (hypotheses given.now).judgements }
-    requires ready { IsReady (bare_rules_in base.now) (hypotheses given.now) (view.proof kid.now) }
+    requires ready { IsProofReady (bare_rules_in base.now) (hypotheses given.now)
+        (view.proof kid.now) }
     ensures { OnOk result
         ((old : List Tree) → ArePut old puts.old → (more : List Tree) × ArePut more puts.new
         × IsSubjectPut (subjects_in (forms_in base.now)) (bare_rules_in base.now)

@@ -6,10 +6,9 @@ ghost use Rattle.sx_rules.specs.Rules as known;
 ghost use Rattle.sx_rules.specs.Derivations.{Derives, ShallowJudgements};
 ghost use Rattle.sx_rules.specs.Sets.{shapes_in, bare_rules_in};
 ghost use Rattle.sx_rules.specs.Views.{hypotheses, judgement};
-ghost use Rattle.sx_rewrite.specs.PutSubjects.{IsReady};
+ghost use Rattle.sx_rewrite.specs.PutSubjects.{IsProofReady};
 ghost use Rattle.sx_rewrite.specs.declared.rewrite_error.RewriteError.TheVariants.{Memory};
 ghost use Rattle.sx_rewrite.specs.AcceptedView.{accepted, signature};
-ghost use Rattle.sx_rewrite.specs.Lowers as bare;
 ghost use Rattle.sx_rewrite.specs.PlainRules.{plain_of};
 ghost use Rattle.sx_rewrite.specs.Rewrites.{CanRewrite, AreGood, CountsAlike};
 ghost use Rattle.sx_rewrite.specs.RewrittenView.{IsRewriting};
@@ -64,8 +63,8 @@ pub fn rewrite(
     proof: &Proof,
     budget: u64,
 ) -> Result<Lowered, RewriteError>
-    requires { CanRewrite (accepted set.now) bare.no_hypotheses (view.proof proof.now) }
-    ensures { IsRewriting (accepted set.now) (signature set.now).subjects bare.no_hypotheses
+    requires { CanRewrite (accepted set.now) known.no_hypotheses (view.proof proof.now) }
+    ensures { IsRewriting (accepted set.now) (signature set.now).subjects known.no_hypotheses
         (view.proof proof.now) budget result }
 {
     let none = no_hypotheses(alloc);
@@ -76,7 +75,7 @@ pub fn rewrite(
 
 /// There are none.
 fn no_hypotheses(alloc: Global) -> Hyps
-    ensures { hypotheses result ≡ bare.no_hypotheses }
+    ensures { hypotheses result ≡ known.no_hypotheses }
 {
     Hyps {
         holds: Vec::new(alloc),
@@ -142,7 +141,7 @@ fn with_judgement(
     copied: u64,
 ) -> Result<Lowered, RewriteError>
     requires near { ShallowJudgements (hypotheses source.now.given.now).judgements }
-    requires ready { IsReady (bare_rules_in source.now.set.now.base)
+    requires ready { IsProofReady (bare_rules_in source.now.set.now.base)
         (hypotheses source.now.given.now) (view.proof proof.value) }
     ensures { MatchResult result
         (λ x. (view.proof x.proof.value ≡ view.proof proof.value) × (x.copied ≡ copied)

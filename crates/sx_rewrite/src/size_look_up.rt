@@ -4,7 +4,7 @@ ghost use Rattle.std.specs.Prelude.{◌≡◌, MatchOption, IfSome, None};
 ghost use Rattle.sx_rewrite.specs.Stored.{stored_at, certificate_at};
 ghost use Rattle.sx_rewrite.specs.Needed.{needed};
 ghost use Rattle.sx_rewrite.specs.AcceptedView.{accepted};
-ghost use Rattle.sx_rewrite.specs.Sizes.{IsSizeIn, IsSmall, UsesPremises};
+ghost use Rattle.sx_rewrite.specs.Sizes.{IsSizeIn, IsSmallCertificate, UsesPremises};
 
 use crate::accepted::Accepted;
 use crate::certificate_size::CertificateSize;
@@ -16,7 +16,7 @@ impl Accepted {
     pub fn certificate_size(&self, rule: u32) -> Option<&CertificateSize>
         ensures value { MatchOption result (stored_at (accepted self.now) rule ≡ None)
             (λ size. IsSizeIn (stored_at (accepted self.now) rule) size.now) }
-        ensures small { IfSome result (λ size. IsSmall size.now) }
+        ensures small { IfSome result (λ size. IsSmallCertificate size.now) }
         ensures only { UsesPremises (stored_at (accepted self.now) rule) }
     {
         self.facts();

@@ -10,8 +10,8 @@ ghost use Rattle.sx_rewrite.specs.Stored.{checked_of};
 ghost use Rattle.sx_rewrite.specs.Measured.{is_used};
 ghost use Rattle.sx_rewrite.specs.Copied.{times_given};
 ghost use Rattle.sx_rewrite.specs.Counts as count;
-ghost use Rattle.sx_rewrite.specs.Shallow.{IsShallow};
-ghost use Rattle.sx_rewrite.specs.Sizes.{in_u128, unused, noted, AreUsesOf, AreSizesOf};
+ghost use Rattle.sx_rewrite.specs.Shallow.{IsShallowFlat};
+ghost use Rattle.sx_rewrite.specs.Sizes.{in_u128, unused_givens, noted, AreUsesOf, AreSizesOf};
 ghost use Rattle.sx_rules.specs.Limits.{most_levels};
 
 use crate::certificate_size::CertificateSize;
@@ -30,7 +30,7 @@ pub(crate) fn certificate_sizes(
     flats: &[Flat],
 ) -> Result<Vec<CertificateSize>, NoMemory>
     requires many { length flats.now ≡ length rules.now }
-    requires shallow { AllByRecursion IsShallow flats.now }
+    requires shallow { AllByRecursion IsShallowFlat flats.now }
     ensures { IfOk result (λ sizes. AreSizesOf
         (checked_of (map (λ e. rule e.rule) rules.now) flats.now) sizes.items) }
 {
@@ -68,7 +68,7 @@ fn certificate_size(
 /// For each judgement among the premises a given that is not used.
 fn no_uses(alloc: Global, premises: &[Premise]) -> Result<Vec<GivenUse>, NoMemory>
     ensures { IfOk result (λ uses. uses.items
-        ≡ unused (length (judgements_of (map premise premises.now)))) }
+        ≡ unused_givens (length (judgements_of (map premise premises.now)))) }
 {
     let mut uses = Vec::new(alloc);
     for premise in premises {

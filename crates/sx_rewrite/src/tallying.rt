@@ -4,7 +4,7 @@ ghost use Rattle.std.specs.Prelude.{◌≡◌, ◌<◌, ◌≤◌, length};
 ghost use Rattle.sx_rules.specs.Derivations.{height_of, most_height};
 ghost use Rattle.sx_rules.specs.ProofView as view;
 ghost use Rattle.sx_rewrite.specs.AcceptedView.{accepted};
-ghost use Rattle.sx_rewrite.specs.Sizes.{IsSmall};
+ghost use Rattle.sx_rewrite.specs.Sizes.{IsSmallCertificate};
 ghost use Rattle.sx_rewrite.specs.LoweredSizes.{HasFitKids, HaveFitKids, IsLoweredSize};
 ghost use Rattle.sx_rewrite.specs.Tallies.{IsTallyOf, IsSizedTally, IsBaseTally, IsWithKid};
 ghost use Rattle.sx_rules.specs.Limits.{most_levels};
@@ -54,7 +54,7 @@ fn certificate_tally(set: &Accepted, size: &CertificateSize, kids: &[Box<Proof>]
     requires shallow { most_height (view.boxed kids.now) < most_levels }
     requires fit { HaveFitKids (accepted set.now) (view.boxed kids.now) }
     requires many { length kids.now ≡ length size.now.uses.items }
-    requires small { IsSmall size.now }
+    requires small { IsSmallCertificate size.now }
     ensures { IsSizedTally (accepted set.now) size.now (view.boxed kids.now) result }
 {
     let mut all = size.own_tally();

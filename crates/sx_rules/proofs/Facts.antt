@@ -14,7 +14,7 @@ use Rattle.sx_rules.specs.Sorts.{RulesAreSorted}
 use Rattle.sx_rules.specs.Deep.{AreShallow, PremiseIsShallow, PremisesAreShallow, RulesAreShallow}
 use Rattle.sx_rules.specs.Views.{FormData, NamedRule, named, rule, modes_of, sorts_of}
 use Rattle.sx_rules.specs.Good.{IsAmong, AllGood, IsRuleSet, names_of}
-use Rattle.sx_rules.specs.RuleNames.{AreDistinct}
+use Rattle.sx_rules.specs.RuleNames.{AreNamesDistinct}
 use Rattle.sx_rules.proofs.SetLaws.{good_no_breach, fitting_sorted}
 use Rattle.sx_rules.proofs.Decided.{no_breach_good}
 
@@ -125,12 +125,12 @@ module _ (S : List Shape) (F : List FormData) where
     later_differ (names ++ r.name ∷ []) rs x (among_left names x r.name k) h.1,
   )
 
-  all_distinct : (names : List (List ℕ)) (rs : List RuleOf) → AllGood S F names (map named rs) → AreDistinct (names_of rs)
+  all_distinct : (names : List (List ℕ)) (rs : List RuleOf) → AllGood S F names (map named rs) → AreNamesDistinct (names_of rs)
   all_distinct names [] h = tt
   all_distinct names (r ∷ rs) h = (
     later_differ (names ++ r.name ∷ []) rs r.name (among_last names r.name) h.1,
     all_distinct (names ++ r.name ∷ []) rs h.1,
   )
 
-  pub kept_distinct : (rs : List RuleOf) → ∥ IsRuleSet S F (map named rs) ∥₁ → AreDistinct (names_of rs)
+  pub kept_distinct : (rs : List RuleOf) → ∥ IsRuleSet S F (map named rs) ∥₁ → AreNamesDistinct (names_of rs)
   kept_distinct rs t = all_distinct [] rs (kept_good S F (map named rs) t).1

@@ -12,8 +12,12 @@ use Rattle.sx_rules.specs.Instances.{StandsAmong}
 use Rattle.sx_rules.specs.Rules.{Premise, holds, apart, Rule}
 use Rattle.sx_rules.specs.Views.{FormData, subjects_in}
 use Rattle.sx_rules.specs.Chosen.{negation}
-use Rattle.sx_rules.specs.Subjects.{subject_kind, premise_subject, first_at, is_other, count_in, is_not_once, has_bare, is_again, first_again, is_typed, is_settled, part_of, subject_uses, broken_part}
-use Rattle.sx_rules.specs.FirstBreach.{HaveEach, IsFirstWithout, premise_subjects, IsBare, StandsOnce, IsNew, IsFirstBroken, not_bare, not_once, not_new, no_subject}
+use Rattle.sx_rules.specs.Subjects.{subject_kind, premise_subject, first_at, is_other, count_in}
+use Rattle.sx_rules.specs.Subjects.{is_not_once, has_bare, is_again, first_again, is_typed_sort}
+use Rattle.sx_rules.specs.Subjects.{is_settled, part_of, subject_uses, broken_part}
+use Rattle.sx_rules.specs.FirstBreach.{HaveEach, IsFirstWithout, premise_subjects, IsBare}
+use Rattle.sx_rules.specs.FirstBreach.{StandsOnce, IsNew, IsFirstBroken, not_bare, not_once}
+use Rattle.sx_rules.specs.FirstBreach.{not_new, no_subject}
 use Rattle.sx_rules.proofs.ModeLaws.{number_same, Has, has-first, has-later, to_among}
 use Rattle.sx_rules.proofs.SubjectLaws.{not-true, subject_is, bare-subject, subject-bare, once_among, once-if, other_not}
 
@@ -116,7 +120,7 @@ not-all p (w ∷ ws) e = by (p w) refl e (λ h. not-all p ws h)
     by true t h more = let r = more h in (r.0, has-later r.0 w ws r.1, r.2)
     by false t h more = (w, has-first w w ws refl, t)
 
-typed-which : (o : Option Sort) (b : Bool) → (if is_typed o then b else true) ≡ false → (k : ℕ) × (o ≡ Some (Typed k)) × (b ≡ false)
+typed-which : (o : Option Sort) (b : Bool) → (if is_typed_sort o then b else true) ≡ false → (k : ℕ) × (o ≡ Some (Typed k)) × (b ≡ false)
 typed-which None b e = not-true e
 typed-which (Some (Lex k)) b e = not-true e
 typed-which (Some (Plain k)) b e = not-true e

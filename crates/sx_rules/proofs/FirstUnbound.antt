@@ -6,9 +6,10 @@ use Rattle.sx_rules.specs.Rules.{Premise, holds, apart, Rule}
 use Rattle.sx_rules.specs.Modes.{outputs_of}
 use Rattle.sx_rules.specs.Views.{FormData, places_at, modes_of}
 use Rattle.sx_rules.specs.Chosen.{holes_of, holes_among}
-use Rattle.sx_rules.specs.Unmoded.{has_number, joined, first_unbound, first_missing, or_else, binds_of, unbound_from, bound_first, unbound}
+use Rattle.sx_rules.specs.Unmoded.{has_number, united, first_unbound, first_missing, or_else}
+use Rattle.sx_rules.specs.Unmoded.{binds_of, unbound_from, bound_first, unbound}
 use Rattle.sx_rules.specs.FirstBreach.{IsFirstFree, IsLeastFree, IsFirstUnboundFrom, IsFirstUnbound}
-use Rattle.sx_rules.proofs.ModeLaws.{Has, unbound-if, chosen_inputs, chosen_outputs, joined-keeps, joined-has, joined-only, out_to, to_out, first_agrees}
+use Rattle.sx_rules.proofs.ModeLaws.{Has, unbound-if, chosen_inputs, chosen_outputs, united-keeps, united-has, united-only, out_to, to_out, first_agrees}
 
 not-some : {A : Type 0} (v : ℕ) → None ≡ Some v → A
 not-some v e = absurd (let q : None ≡ Some v = e in cc)
@@ -94,10 +95,10 @@ module _ (F : List FormData) (rule : Rule) where
         | inl h ↦ inl (subst (λ (vs : List ℕ). IsFirstFree Bound vs v) same (first_free Bound bound agree _ v h))
         | inr h ↦ inr (
           subst (AllByRecursion Bound) same (all_bound Bound bound agree _ h.0),
-          first_from (λ w. Bound w ⊎ StandsAmong w (outputs_of (modes_of F) j)) (joined bound (binds_of F (holds j))) ps v
+          first_from (λ w. Bound w ⊎ StandsAmong w (outputs_of (modes_of F) j)) (united bound (binds_of F (holds j))) ps v
               (λ w. (
-                λ k. elim k [ inl b ↦ joined-keeps w (binds_of F (holds j)) bound ((agree w).0 b) | inr s ↦ joined-has w (binds_of F (holds j)) bound (out_to F j w s) ],
-                λ k. elim (joined-only w (binds_of F (holds j)) bound k) [ inl b ↦ inl ((agree w).1 b) | inr s ↦ inr (to_out F j w s) ],
+                λ k. elim k [ inl b ↦ united-keeps w (binds_of F (holds j)) bound ((agree w).0 b) | inr s ↦ united-has w (binds_of F (holds j)) bound (out_to F j w s) ],
+                λ k. elim (united-only w (binds_of F (holds j)) bound k) [ inl b ↦ inl ((agree w).1 b) | inr s ↦ inr (to_out F j w s) ],
               ))
               h.1,
         )

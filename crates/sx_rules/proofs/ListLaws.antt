@@ -1,6 +1,7 @@
 -- What is read is the list that was written, and the other way round.
 use Rattle.std.proofs.Common.{◌≡◌, ◌≢◌, ℕ, zero, suc, ◌+◌, ◌^◌, ◌<◌, Bool, true, false, cond, List, [], ◌∷◌, ◌++◌, length, get_or, map, codes, Option, Some, None, Result, Ok, Err, refl, sym, ap, subst, ◌∙◌, add-one, lit<, inl, inr, ◌⊎◌, arith}
-use Rattle.std.specs.Prelude.{slice_get, option_map, option_and_then, MatchOption, IfOk, IfErr, IfSome}
+use Rattle.std.specs.Prelude.{slice_get, option_map, option_and_then, MatchOption, IfOk, IfErr}
+use Rattle.std.specs.Prelude.{IfSome}
 use Rattle.std.proofs.lemmas.Option.{slice_get_within, get_or_from_slice_get}
 use Rattle.std.specs.Global.{Vec}
 use Rattle.std.specs.List.{AllByRecursion}
@@ -8,10 +9,10 @@ use Rattle.std.specs.Str.{bytes_eq}
 use Rattle.std.specs.Fmt.{decimal}
 use Rattle.std.proofs.lemmas.Slice.Eq.{bytes_eq-Decides}
 use Rattle.std.proofs.lemmas.List.{append-nil}
-use Rattle.sx_lines.specs.Lines.{Lines, lines_from, texts, IsLineText}
+use Rattle.sx_lines.specs.Lines.{Lines, lines_from, line_texts, IsLineText}
 use Rattle.sx_lines.specs.Words.{after, number_within, is_name}
-use Rattle.sx_lines.specs.Reading.{◌>>=◌, the_line, each_line, written, Gives}
-use Rattle.sx_rules.specs.BadLine.{NoneStates, IsFirstBad}
+use Rattle.sx_lines.specs.Reading.{◌>>=◌, the_line, each_line, written, GivesRead}
+use Rattle.sx_rules.specs.BadLine.{NoneStates, IsFirstMisread}
 use Rattle.sx_lines.proofs.WordLaws.{after_front, front_of, not_after}
 use Rattle.sx_lines.proofs.DecimalLaws.{number_again, number_spelled}
 use Rattle.sx_lines.proofs.TextLaws.{IsPlain, IsPlain-append, plain_text, plain_decimal, plain_from_test, NoBlank, name_no_blank, no_blank_plain, lines_written}
@@ -20,15 +21,16 @@ use Rattle.sx_rules.specs.declared.entry.Entry.{Entry}
 use Rattle.sx_rules.specs.declared.entry.Entry.TheVariants.{Rule, Given}
 use Rattle.sx_rules.specs.declared.list_error.ListError.{ListError}
 use Rattle.sx_rules.specs.declared.list_error.ListError.TheVariants.{Memory, BadList}
-use Rattle.sx_rules.specs.ListRead.{refusal, Refuses}
+use Rattle.sx_rules.specs.ListRead.{refusal, RefusesList}
 use Rattle.sx_rules.specs.Good.{IsAmong}
-use Rattle.sx_rules.specs.RuleNames.{place_from, AreDistinct, AreNames}
-use Rattle.sx_rules.specs.ListText.{entry_line, list_lines, IsEntry, StatesList, before, given_of, given_or, entry_of, list_of}
+use Rattle.sx_rules.specs.RuleNames.{place_from, AreNamesDistinct, AreNames}
+use Rattle.sx_rules.specs.ListText.{entry_line, list_lines, IsEntry, StatesList, before}
+use Rattle.sx_rules.specs.ListText.{given_number, given_or, entry_of, list_of}
 
 -- the names of the rules of a set
 pub record AreRuleNames (names : List (List ℕ)) : Type 0 where
   pub named : AreNames names
-  pub distinct : AreDistinct names
+  pub distinct : AreNamesDistinct names
 
 -- ---- a rule's place
 
@@ -63,7 +65,7 @@ all_at P (x ∷ names) zero h lt = h.0
 all_at P (x ∷ names) (suc i) h lt = all_at P names i h.1 (omega arith)
 
 -- a name is found at its own place
-pub place_again : (from i : ℕ) (names : List (List ℕ)) → AreDistinct names → i < length names → place_from from names (get_or names i []) ≡ Some (from + i)
+pub place_again : (from i : ℕ) (names : List (List ℕ)) → AreNamesDistinct names → i < length names → place_from from names (get_or names i []) ≡ Some (from + i)
 unfolding place_from
 place_again from i [] h lt = absurd (omega arith)
 place_again from zero (x ∷ names) h lt = rw (bytes_refl x) (ap (λ (n : ℕ). Some n) (omega arith))
@@ -81,7 +83,7 @@ place_none from (x ∷ names) name h =
     rw test (place_none (from + 1) names name (λ k. h (inr k)))
 
 -- where names are distinct, the number of a name is its place
-pub place_is : (names : List (List ℕ)) (name : List ℕ) (r : Option ℕ) → AreDistinct names → MatchOption r (IsAmong name names → ⊥) (λ n. slice_get names n ≡ Some name) → r ≡ place_from 0 names name
+pub place_is : (names : List (List ℕ)) (name : List ℕ) (r : Option ℕ) → AreNamesDistinct names → MatchOption r (IsAmong name names → ⊥) (λ n. slice_get names n ≡ Some name) → r ≡ place_from 0 names name
 place_is names name None d h = sym (place_none 0 names name h)
 place_is names name (Some n) d h =
     let inside = slice_get_within names n name h in
@@ -101,8 +103,8 @@ before_some (suc n) m e = let same : n ≡ m = cc in omega arith
 before_more : (n : ℕ) → before (n + 1) ≡ Some n
 before_more n = rw add-one refl
 
-given_found : (text : List ℕ) (n : ℕ) → given_of text ≡ Some n → (text ≡ codes "given " ++ decimal (n + 1)) × (n < 2 ^ 32)
-unfolding given_of
+given_found : (text : List ℕ) (n : ℕ) → given_number text ≡ Some n → (text ≡ codes "given " ++ decimal (n + 1)) × (n < 2 ^ 32)
+unfolding given_number
 given_found text n e =
     let p = and_then_some (after (codes "given ") text) (λ digits. option_and_then before (number_within (2 ^ 32) digits)) n e in
     let q = and_then_some (number_within (2 ^ 32) p.0) before n p.2 in
@@ -111,15 +113,15 @@ given_found text n e =
     let more = before_some q.0 n q.2 in
     (front ∙ ap (λ (x : List ℕ). codes "given " ++ x) spelled.0 ∙ ap (λ (x : ℕ). codes "given " ++ decimal x) more, omega (arith, spelled.1, more))
 
-given_again : (n : ℕ) → n < 2 ^ 32 → given_of (codes "given " ++ decimal (n + 1)) ≡ Some n
-unfolding given_of
+given_again : (n : ℕ) → n < 2 ^ 32 → given_number (codes "given " ++ decimal (n + 1)) ≡ Some n
+unfolding given_number
 given_again n lt =
     let e = after_front (codes "given ") (decimal (n + 1)) in
     let k = number_again (2 ^ 32) (n + 1) (omega arith) (omega arith) in
     ap (option_and_then (λ digits. option_and_then before (number_within (2 ^ 32) digits))) e ∙ ap (option_and_then before) k ∙ before_more n
 
-not_given : (text : List ℕ) → NoBlank text → given_of text ≡ None
-unfolding given_of
+not_given : (text : List ℕ) → NoBlank text → given_number text ≡ None
+unfolding given_number
 not_given text h =
     let none = not_after (codes "given ") text (λ rest e. let k = subst (λ (x : List ℕ). NoBlank x) e h in absurd (omega (arith, k.1.1.1.1.1.0))) in
     ap (option_and_then (λ digits. option_and_then before (number_within (2 ^ 32) digits))) none
@@ -133,7 +135,7 @@ rule_found names text (Some r) e is h =
     (sym p.3 ∙ ap (λ (i : ℕ). get_or names i []) r-is, omega (arith, p.2, r-is))
 rule_found names text None e is h = absurd cc
 
-entry_case : (names : List (List ℕ)) (text : List ℕ) (o : Option ℕ) (e : Entry) → given_of text ≡ o → given_or o (place_from 0 names text) ≡ Some e → (text ≡ entry_line names e) × IsEntry names e
+entry_case : (names : List (List ℕ)) (text : List ℕ) (o : Option ℕ) (e : Entry) → given_number text ≡ o → given_or o (place_from 0 names text) ≡ Some e → (text ≡ entry_line names e) × IsEntry names e
 entry_case names text (Some n) e is h =
     let same : Given n ≡ e = cc in
     subst (λ (x : Entry). (text ≡ entry_line names x) × IsEntry names x) same (given_found text n is)
@@ -142,7 +144,7 @@ entry_case names text None e is h = rule_found names text (place_from 0 names te
 -- a line that names an entry is the entry's line
 pub entry_found : (names : List (List ℕ)) (text : List ℕ) (e : Entry) → entry_of names text ≡ Some e → (text ≡ entry_line names e) × IsEntry names e
 unfolding entry_of
-entry_found names text e h = entry_case names text (given_of text) e refl h
+entry_found names text e h = entry_case names text (given_number text) e refl h
 
 named_at : (names : List (List ℕ)) (i : ℕ) → AreRuleNames names → i < length names → is_name true (get_or names i []) ≡ true
 named_at names i h lt = all_at (λ name. is_name true name ≡ true) names i h.named lt
@@ -186,16 +188,16 @@ each_err : {A : Type 0} (read : List ℕ → Option A) (lines : List (List ℕ))
 each_err {A} read lines n r k h e = subst (λ (x : Result (List A) ℕ). EachGives read lines n x) e h
 
 -- what was read is stated
-pub list_stated : (names : List (List ℕ)) (lines : Lines) (list : List Entry) → Numbered 1 lines → list_of names lines ≡ Ok list → StatesList names (texts lines) list
+pub list_stated : (names : List (List ℕ)) (lines : Lines) (list : List Entry) → Numbered 1 lines → list_of names lines ≡ Ok list → StatesList names (line_texts lines) list
 unfolding list_of
 list_stated names lines list h e =
     let p = bind_ok (the_line (codes "sxder 1") lines) (λ entries. each_line (entry_of names) entries) list e in
     let first = the_line-read (codes "sxder 1") lines p.0 1 h p.1 in
-    let q = reads_found names (texts p.0) list (each_ok (entry_of names) (texts p.0) 1 _ list (each_line-gives (entry_of names) p.0 1 first.1) p.2) in
+    let q = reads_found names (line_texts p.0) list (each_ok (entry_of names) (line_texts p.0) 1 _ list (each_line-gives (entry_of names) p.0 1 first.1) p.2) in
     record { spelled = first.0 ∙ ap (λ (x : List (List ℕ)). codes "sxder 1" ∷ x) q.0; entries = q.1 }
 
 -- what is stated is read
-pub list_again : (names : List (List ℕ)) (lines : Lines) (list : List Entry) → AreRuleNames names → StatesList names (texts lines) list → list_of names lines ≡ Ok list
+pub list_again : (names : List (List ℕ)) (lines : Lines) (list : List Entry) → AreRuleNames names → StatesList names (line_texts lines) list → list_of names lines ≡ Ok list
 unfolding list_of
 list_again names lines list h s =
     let p = the_line-again (codes "sxder 1") lines (map (entry_line names) list) s.spelled in
@@ -242,16 +244,16 @@ no_entries : (names : List (List ℕ)) → StatesList names (codes "sxder 1" ∷
 no_entries names = record { spelled = refl; entries = tt }
 
 -- the refusal is at the first line that is not as defined
-pub list_refused : (names : List (List ℕ)) (lines : Lines) (k : ℕ) → AreRuleNames names → Numbered 1 lines → list_of names lines ≡ Err k → IsFirstBad (StatesList names) (texts lines) k
+pub list_refused : (names : List (List ℕ)) (lines : Lines) (k : ℕ) → AreRuleNames names → Numbered 1 lines → list_of names lines ≡ Err k → IsFirstMisread (StatesList names) (line_texts lines) k
 unfolding list_of
 list_refused names lines k h n e =
     elim (bind_err (the_line (codes "sxder 1") lines) (λ entries. each_line (entry_of names) entries) k e) [
       | inl first ↦
           let p = the_line-refused (codes "sxder 1") lines 1 k n first in
-          record { front = []; rest = texts lines; parts = refl; place = p.0; more = codes "sxder 1" ∷ []; value = []; good = no_entries names; bad = head_bad names (texts lines) p.1 }
+          record { front = []; rest = line_texts lines; parts = refl; place = p.0; more = codes "sxder 1" ∷ []; value = []; good = no_entries names; bad = head_bad names (line_texts lines) p.1 }
       | inr later ↦
           let first = the_line-read (codes "sxder 1") lines later.0 1 n later.1 in
-          let r = each_err (entry_of names) (texts later.0) 1 _ k (each_line-gives (entry_of names) later.0 1 first.1) later.2 in
+          let r = each_err (entry_of names) (line_texts later.0) 1 _ k (each_line-gives (entry_of names) later.0 1 first.1) later.2 in
           record {
             front = codes "sxder 1" ∷ r.front;
             rest = r.text ∷ r.rest;
@@ -282,12 +284,12 @@ list_round names list h k =
 
 -- ---- of a call's result
 
-pub is_stated : (names : List (List ℕ)) (lines : Lines) (r : Result (Vec Entry) ListError) → Numbered 1 lines → Gives (λ v. v.items) Refuses r (list_of names lines) → IfOk r (λ v. StatesList names (texts lines) v.items)
+pub is_stated : (names : List (List ℕ)) (lines : Lines) (r : Result (Vec Entry) ListError) → Numbered 1 lines → GivesRead (λ v. v.items) RefusesList r (list_of names lines) → IfOk r (λ v. StatesList names (line_texts lines) v.items)
 is_stated names lines (Ok v) n h = list_stated names lines v.items n h
 is_stated names lines (Err e) n h = tt
 
-pub is_refused : (names : List (List ℕ)) (lines : Lines) (r : Result (Vec Entry) ListError) → AreRuleNames names → Numbered 1 lines → Gives (λ v. v.items) Refuses r (list_of names lines)
-    → IfErr r (λ e. IfSome (refusal e) (IsFirstBad (StatesList names) (texts lines)))
+pub is_refused : (names : List (List ℕ)) (lines : Lines) (r : Result (Vec Entry) ListError) → AreRuleNames names → Numbered 1 lines → GivesRead (λ v. v.items) RefusesList r (list_of names lines)
+    → IfErr r (λ e. IfSome (refusal e) (IsFirstMisread (StatesList names) (line_texts lines)))
 is_refused names lines (Ok v) h n g = tt
 is_refused names lines (Err Memory) h n g = tt
 is_refused names lines (Err (BadList k)) h n g = list_refused names lines k h n g

@@ -13,7 +13,8 @@ use Rattle.sx_term.specs.Sorts.{Shape, HasSort, KidsHaveSorts, HaveSorts}
 use Rattle.sx_rules.specs.Views.{FormData, places_at, is_out, is_sub, modes_of}
 use Rattle.sx_rules.specs.Fits.{PremisesFit, RuleFits}
 use Rattle.sx_rules.specs.Chosen.{negation, pick, chosen, holes_of, holes_in, holes_among}
-use Rattle.sx_rules.specs.Unmoded.{has_number, put_new, joined, first_unbound, first_missing, or_else, binds_of, unbound_from, bound_first, unbound}
+use Rattle.sx_rules.specs.Unmoded.{has_number, put_new, united, first_unbound, first_missing}
+use Rattle.sx_rules.specs.Unmoded.{or_else, binds_of, unbound_from, bound_first, unbound}
 
 abbrev pub Has : ℕ → List ℕ → Type 0
 Has v xs = has_number v xs ≡ true
@@ -134,20 +135,20 @@ new-only false v w bound h = elim (has-parts v bound (w ∷ []) h) [
   | inr b ↦ elim (has-which v w [] b) [ inl e ↦ inr e | inr k ↦ nothing_has v k ]
 ]
 
-pub joined-keeps : (v : ℕ) (vs bound : List ℕ) → Has v bound → Has v (joined bound vs)
-joined-keeps v [] bound h = h
-joined-keeps v (w ∷ vs) bound h = joined-keeps v vs (put_new w bound) (new-keeps (has_number w bound) v w bound h)
+pub united-keeps : (v : ℕ) (vs bound : List ℕ) → Has v bound → Has v (united bound vs)
+united-keeps v [] bound h = h
+united-keeps v (w ∷ vs) bound h = united-keeps v vs (put_new w bound) (new-keeps (has_number w bound) v w bound h)
 
-pub joined-has : (v : ℕ) (vs bound : List ℕ) → Has v vs → Has v (joined bound vs)
-joined-has v [] bound h = nothing_has v h
-joined-has v (w ∷ vs) bound h = elim (has-which v w vs h) [
-  | inl e ↦ joined-keeps v vs (put_new w bound) (subst (λ (x : ℕ). Has x (put_new w bound)) (sym e) (new-has (has_number w bound) w bound refl))
-  | inr k ↦ joined-has v vs (put_new w bound) k
+pub united-has : (v : ℕ) (vs bound : List ℕ) → Has v vs → Has v (united bound vs)
+united-has v [] bound h = nothing_has v h
+united-has v (w ∷ vs) bound h = elim (has-which v w vs h) [
+  | inl e ↦ united-keeps v vs (put_new w bound) (subst (λ (x : ℕ). Has x (put_new w bound)) (sym e) (new-has (has_number w bound) w bound refl))
+  | inr k ↦ united-has v vs (put_new w bound) k
 ]
 
-pub joined-only : (v : ℕ) (vs bound : List ℕ) → Has v (joined bound vs) → Has v bound ⊎ Has v vs
-joined-only v [] bound h = inl h
-joined-only v (w ∷ vs) bound h = elim (joined-only v vs (put_new w bound) h) [
+pub united-only : (v : ℕ) (vs bound : List ℕ) → Has v (united bound vs) → Has v bound ⊎ Has v vs
+united-only v [] bound h = inl h
+united-only v (w ∷ vs) bound h = elim (united-only v vs (put_new w bound) h) [
   | inl a ↦ elim (new-only (has_number w bound) v w bound a) [ inl b ↦ inl b | inr e ↦ inr (has-first v w vs e) ]
   | inr k ↦ inr (has-later v w vs k)
 ]
@@ -254,12 +255,12 @@ module _ (F : List FormData) where
     moded_from Bound bound (holds j ∷ ps) agree within fits e =
         let k = or_else-none _ _ e in (
           λ v h. (agree v).1 (unbound-none bound _ k.0 v (in_to j v h)),
-          moded_from (λ v. Bound v ⊎ StandsAmong v (outputs_of (modes_of F) j)) (joined bound (binds_of F (holds j))) ps
+          moded_from (λ v. Bound v ⊎ StandsAmong v (outputs_of (modes_of F) j)) (united bound (binds_of F (holds j))) ps
               (λ v. (
-                λ h. elim h [ inl b ↦ joined-keeps v (binds_of F (holds j)) bound ((agree v).0 b) | inr s ↦ joined-has v (binds_of F (holds j)) bound (out_to j v s) ],
-                λ h. elim (joined-only v (binds_of F (holds j)) bound h) [ inl b ↦ inl ((agree v).1 b) | inr s ↦ inr (to_out j v s) ],
+                λ h. elim h [ inl b ↦ united-keeps v (binds_of F (holds j)) bound ((agree v).0 b) | inr s ↦ united-has v (binds_of F (holds j)) bound (out_to j v s) ],
+                λ h. elim (united-only v (binds_of F (holds j)) bound h) [ inl b ↦ inl ((agree v).1 b) | inr s ↦ inr (to_out j v s) ],
               ))
-              (λ v h. elim (joined-only v (binds_of F (holds j)) bound h) [ inl b ↦ within v b | inr s ↦ inside_row S rule.sorts j.places _ fits.0.2 v (among_outputs (modes_of F j.form) j.places v (to_out j v s)) ])
+              (λ v h. elim (united-only v (binds_of F (holds j)) bound h) [ inl b ↦ within v b | inr s ↦ inside_row S rule.sorts j.places _ fits.0.2 v (among_outputs (modes_of F j.form) j.places v (to_out j v s)) ])
               fits.1 k.1,
         )
 
@@ -271,17 +272,17 @@ module _ (F : List FormData) where
         both-none _ _ (none-unbound bound _ (λ v h. (agree v).0 (m.0 v (elim (has-parts v (holes_of t) (holes_of u) h) [ inl a ↦ inl (to_stands v t a) | inr b ↦ inr (to_stands v u b) ])))) (from_moded Bound bound ps agree m.1)
     from_moded Bound bound (holds j ∷ ps) agree m =
         both-none _ _ (none-unbound bound _ (λ v h. (agree v).0 (m.0 v (to_in j v h))))
-        (from_moded (λ v. Bound v ⊎ StandsAmong v (outputs_of (modes_of F) j)) (joined bound (binds_of F (holds j))) ps
+        (from_moded (λ v. Bound v ⊎ StandsAmong v (outputs_of (modes_of F) j)) (united bound (binds_of F (holds j))) ps
         (λ v. (
-          λ h. elim h [ inl b ↦ joined-keeps v (binds_of F (holds j)) bound ((agree v).0 b) | inr s ↦ joined-has v (binds_of F (holds j)) bound (out_to j v s) ],
-          λ h. elim (joined-only v (binds_of F (holds j)) bound h) [ inl b ↦ inl ((agree v).1 b) | inr s ↦ inr (to_out j v s) ],
+          λ h. elim h [ inl b ↦ united-keeps v (binds_of F (holds j)) bound ((agree v).0 b) | inr s ↦ united-has v (binds_of F (holds j)) bound (out_to j v s) ],
+          λ h. elim (united-only v (binds_of F (holds j)) bound h) [ inl b ↦ inl ((agree v).1 b) | inr s ↦ inr (to_out j v s) ],
         ))
         m.1)
 
     pub first_agrees : (v : ℕ) → StandsAmong v (inputs_of (modes_of F) rule.conclusion) ↔ Has v (bound_first F rule.conclusion)
     first_agrees v = (
-      λ h. joined-has v _ [] (in_to rule.conclusion v h),
-      λ h. elim (joined-only v _ [] h) [ inl b ↦ nothing_has v b | inr s ↦ to_in rule.conclusion v s ],
+      λ h. united-has v _ [] (in_to rule.conclusion v h),
+      λ h. elim (united-only v _ [] h) [ inl b ↦ nothing_has v b | inr s ↦ to_in rule.conclusion v s ],
     )
 
     pub moded_of_none : RuleFits S F rule → unbound F rule ≡ None → IsModed (modes_of F) rule

@@ -2,9 +2,11 @@
 use Rattle.std.proofs.Common.{◌≡◌, ◌≢◌, ℕ, ◌<◌, ◌≤◌, List, [], ◌∷◌, ◌++◌, ◌⊎◌, inl, inr, length, refl, sym, ◌∙◌, arith}
 use Rattle.sx_term.specs.Sorts.{Shape}
 use Rattle.sx_rules.specs.declared.error.RuleError.{RuleError}
-use Rattle.sx_rules.specs.declared.error.RuleError.TheVariants.{Memory, TooManyRules, TooManyVars, SameRule, SortDiffers, Discipline, NotModed}
+use Rattle.sx_rules.specs.declared.error.RuleError.TheVariants.{Memory, TooManyRules, TooManyVars}
+use Rattle.sx_rules.specs.declared.error.RuleError.TheVariants.{SameRule, SortDiffers, Discipline}
+use Rattle.sx_rules.specs.declared.error.RuleError.TheVariants.{NotModed}
 use Rattle.sx_rules.specs.Views.{FormData, NamedRule}
-use Rattle.sx_rules.specs.Good.{AllGood, IsFirstBreach, IsRefused}
+use Rattle.sx_rules.specs.Good.{AllGood, IsFirstBreach, IsRuleSetRefused}
 use Rattle.sx_rules.specs.Laws.{RuleSetsAreNotRefused, OneRefusalIsDue, GoodRulesAreModed}
 use Rattle.sx_rules.proofs.SetLaws.{good_no_breach, breach_one}
 
@@ -25,7 +27,7 @@ module _ (S : List Shape) (F : List FormData) where
   abbrev Due : List NamedRule → RuleError → Type 0
   Due rs e = (e ≡ Memory) ⊎ ((e ≡ TooManyRules) × (4096 < length rs)) ⊎ ((length rs ≤ 4096) × IsFirstBreach S F [] rs e)
 
-  due : (rs : List NamedRule) (e : RuleError) → IsRefused S F rs e → Due rs e
+  due : (rs : List NamedRule) (e : RuleError) → IsRuleSetRefused S F rs e → Due rs e
   due rs Memory h = inl refl
   due rs TooManyRules h = inr (inl (refl, h))
   due rs (TooManyVars n) h = inr (inr h)

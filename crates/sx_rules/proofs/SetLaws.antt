@@ -4,7 +4,9 @@ use Rattle.std.specs.Prelude.{slice_get, option_map}
 use Rattle.std.proofs.lemmas.Option.{slice_get-map, slice_get_read}
 use Rattle.sx_rules.specs.declared.rule.Rule.{Rule as RuleOf}
 use Rattle.sx_rules.specs.declared.error.RuleError.{RuleError}
-use Rattle.sx_rules.specs.declared.error.RuleError.TheVariants.{Memory, TooManyRules, TooManyVars, SameRule, SortDiffers, Discipline, NotModed}
+use Rattle.sx_rules.specs.declared.error.RuleError.TheVariants.{Memory, TooManyRules, TooManyVars}
+use Rattle.sx_rules.specs.declared.error.RuleError.TheVariants.{SameRule, SortDiffers, Discipline}
+use Rattle.sx_rules.specs.declared.error.RuleError.TheVariants.{NotModed}
 use Rattle.sx_rules.specs.Rules.{Judgement, Premise, holds, apart, Rule}
 use Rattle.sx_term.specs.Sorts.{Shape, HaveSorts}
 use Rattle.sx_rules.specs.Sorts.{JudgementIsSorted, PremisesAreSorted}
@@ -13,8 +15,10 @@ use Rattle.sx_rules.specs.Deep.{RuleIsShallow, RulesAreShallow}
 use Rattle.sx_rules.specs.Fits.{RuleFits, JudgementFits, PremisesFit}
 use Rattle.sx_rules.specs.Subjects.{broken_part}
 use Rattle.sx_rules.specs.Unmoded.{unbound}
-use Rattle.sx_rules.specs.Good.{IsAmong, IsGood, IsBreach, AllGood, IsFirstBreach, IsRefused, IsChecked, AreChecked, names_of}
-use Rattle.sx_rules.specs.Laws.{NoneBrokenIsDisciplined, NoneUnboundIsModed, GoodHasNoBreach, BreachIsUnique, FittingIsSorted}
+use Rattle.sx_rules.specs.Good.{IsAmong, IsGood, IsBreach, AllGood, IsFirstBreach, IsRuleSetRefused}
+use Rattle.sx_rules.specs.Good.{IsChecked, AreChecked, names_of}
+use Rattle.sx_rules.specs.Laws.{NoneBrokenIsDisciplined, NoneUnboundIsModed, GoodHasNoBreach}
+use Rattle.sx_rules.specs.Laws.{BreachIsUnique, FittingIsSorted}
 use Rattle.sx_term.proofs.SortLaws.{true_is_false}
 use Rattle.sx_rules.proofs.RowLaws.{map_drop, map_drop_all}
 use Rattle.sx_rules.proofs.ModeLaws.{moded_of_none, none_of_moded}
@@ -121,7 +125,7 @@ module _ (S : List Shape) (F : List FormData) where
     pub breach_begin : (rs : List RuleOf) (x : RuleError) → IsFirstBreach S F (before rs 0) (map named rs) x → IsFirstBreach S F start (map named rs) x
     breach_begin rs x b = subst (λ (ns : List (List ℕ)). IsFirstBreach S F ns (map named rs) x) (nothing_more start) b
 
-  pub refused_all : (rs : List NamedRule) (x : RuleError) → length rs ≤ 4096 → AreChecked S F [] rs (Err x) → IsRefused S F rs x
+  pub refused_all : (rs : List NamedRule) (x : RuleError) → length rs ≤ 4096 → AreChecked S F [] rs (Err x) → IsRuleSetRefused S F rs x
   refused_all rs Memory h b = tt
   refused_all rs TooManyRules h b = absurd b
   refused_all rs (TooManyVars n) h b = (h, b)

@@ -10,10 +10,13 @@ use Rattle.sx_rules.specs.declared.subject.Subject.{Subject}
 use Rattle.sx_rules.specs.declared.subject.Subject.TheVariants.{Absent}
 use Rattle.sx_rules.specs.Instances.{StandsAmong}
 use Rattle.sx_rules.specs.Rules.{Judgement, Premise, holds, apart, Rule, judgements_of}
-use Rattle.sx_rules.specs.Discipline.{one_when, times_in, times_in_kids, times_among, subjects_of, IsSubjectIn, IsBareSubject, AreBareSubjects, IsDisciplined}
+use Rattle.sx_rules.specs.Discipline.{one_when, times_in, times_in_kids, times_among, subjects_of}
+use Rattle.sx_rules.specs.Discipline.{IsSubjectIn, IsBareSubject, AreBareSubjects, IsDisciplined}
 use Rattle.sx_rules.specs.Views.{FormData, places_at, subjects_in}
 use Rattle.sx_rules.specs.Chosen.{negation, chosen, holes_of, holes_in, holes_among}
-use Rattle.sx_rules.specs.Subjects.{subject_kind, premise_subject, first_at, is_other, count_in, is_not_once, is_bare, has_bare, is_again, first_again, is_typed, is_settled, part_of, subject_uses, broken_part}
+use Rattle.sx_rules.specs.Subjects.{subject_kind, premise_subject, first_at, is_other, count_in}
+use Rattle.sx_rules.specs.Subjects.{is_not_once, is_bare, has_bare, is_again, first_again}
+use Rattle.sx_rules.specs.Subjects.{is_typed_sort, is_settled, part_of, subject_uses, broken_part}
 use Rattle.sx_rules.proofs.ModeLaws.{same_number, number_same, chosen_subjects, Has, has-first, has-later, has-which, among_to, to_among}
 
 -- how often a variable stands
@@ -173,7 +176,7 @@ module _ (F : List FormData) where
         )
 
     settled-bare : (v k : ℕ) (ss : List Subject) → slice_get rule.sorts v ≡ Some (Typed k) → is_settled rule.sorts ss v ≡ true → has_bare v ss ≡ true
-    settled-bare v k ss e h = sym (ap (λ x. if is_typed x then has_bare v ss else true) e) ∙ h
+    settled-bare v k ss e h = sym (ap (λ x. if is_typed_sort x then has_bare v ss else true) e) ∙ h
 
     pub disciplined_of_none : broken_part F rule ≡ None → IsDisciplined (subjects_in F) rule
     disciplined_of_none e =
@@ -231,7 +234,7 @@ module _ (F : List FormData) where
           some-if (is_again seen s) n (first_again (n + 1) (seen ++ s ∷ []) (map (premise_subject F) ps)) (again_not seen (chosen Subjects (places_at F j.form) j.places) (elim h.0 [ inl e ↦ inl (is ∙ e) | inr x ↦ inr (x.0, is ∙ x.1, λ b. x.3 (known x.0 b)) ])) rest.2,
         )
 
-    typed-if : (sort : Option Sort) (b : Bool) → ((k : ℕ) → sort ≡ Some (Typed k) → b ≡ true) → (if is_typed sort then b else true) ≡ true
+    typed-if : (sort : Option Sort) (b : Bool) → ((k : ℕ) → sort ≡ Some (Typed k) → b ≡ true) → (if is_typed_sort sort then b else true) ≡ true
     typed-if None b h = refl
     typed-if (Some (Lex k)) b h = refl
     typed-if (Some (Plain k)) b h = refl

@@ -11,7 +11,7 @@ NoneStates {V} States front (text ∷ rest) = (more : List (List ℕ)) (value : 
 
 -- The lines up to the one of this number are the front of a text that states a value, and with this
 -- line they are of none. A line that is missing has the number that a further line would have.
-pub record IsFirstBad {V : Type 0} (States : List (List ℕ) → V → Type 0) (lines : List (List ℕ))
+pub record IsFirstMisread {V : Type 0} (States : List (List ℕ) → V → Type 0) (lines : List (List ℕ))
     (number : ℕ) : Type 0 where
   pub front : List (List ℕ)
   pub rest : List (List ℕ)

@@ -69,10 +69,11 @@ abbrev pub IsRuleSet : List Shape → List FormData → List NamedRule → Type 
 IsRuleSet shapes forms rules = (length rules ≤ most_rules) × AllGood shapes forms [] rules
 
 -- why these are no rule set
-abbrev pub IsRefused : List Shape → List FormData → List NamedRule → RuleError → Type 0
-IsRefused shapes forms rules Memory = Unit {0}
-IsRefused shapes forms rules TooManyRules = most_rules < length rules
-IsRefused shapes forms rules e = (length rules ≤ most_rules) × IsFirstBreach shapes forms [] rules e
+abbrev pub IsRuleSetRefused : List Shape → List FormData → List NamedRule → RuleError → Type 0
+IsRuleSetRefused shapes forms rules Memory = Unit {0}
+IsRuleSetRefused shapes forms rules TooManyRules = most_rules < length rules
+IsRuleSetRefused shapes forms rules e = (length rules ≤ most_rules) ×
+    IsFirstBreach shapes forms [] rules e
 
 -- the rule is good, or this is its first breach
 abbrev pub IsChecked : List Shape → List FormData → List (List ℕ) → NamedRule →

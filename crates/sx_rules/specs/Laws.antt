@@ -12,7 +12,7 @@ use Rattle.sx_rules.specs.Fits.{RuleFits}
 use Rattle.sx_rules.specs.Subjects.{broken_part}
 use Rattle.sx_rules.specs.Unmoded.{unbound}
 use Rattle.sx_rules.specs.FirstBreach.{IsFirstBroken, IsFirstUnbound}
-use Rattle.sx_rules.specs.Good.{IsGood, IsBreach, AllGood, IsRuleSet, IsRefused}
+use Rattle.sx_rules.specs.Good.{IsGood, IsBreach, AllGood, IsRuleSet, IsRuleSetRefused}
 
 -- no part is broken exactly where the rule is disciplined
 abbrev pub NoneBrokenIsDisciplined : Type 0
@@ -50,12 +50,14 @@ FittingIsSorted = (shapes : List Shape) (forms : List FormData) (rule : Rule) �
 -- no rule set is refused, out of memory aside
 abbrev pub RuleSetsAreNotRefused : Type 0
 RuleSetsAreNotRefused = (shapes : List Shape) (forms : List FormData) (rules : List NamedRule)
-    (e : RuleError) → IsRuleSet shapes forms rules → IsRefused shapes forms rules e → e ≡ Memory
+    (e : RuleError) → IsRuleSet shapes forms rules → IsRuleSetRefused shapes forms rules e →
+    e ≡ Memory
 
 -- rules are refused in one way at most, out of memory aside
 abbrev pub OneRefusalIsDue : Type 0
 OneRefusalIsDue = (shapes : List Shape) (forms : List FormData) (rules : List NamedRule)
-    (e g : RuleError) → IsRefused shapes forms rules e → IsRefused shapes forms rules g →
+    (e g : RuleError) → IsRuleSetRefused shapes forms rules e →
+    IsRuleSetRefused shapes forms rules g →
     e ≢ Memory → g ≢ Memory → e ≡ g
 
 -- good rules are moded

@@ -9,6 +9,6 @@ refusal Memory = None
 refusal (BadList n) = Some n
 
 -- an error where memory runs out, or at the line that reading refuses
-abbrev pub Refuses : {Y : Type 0} → ListError → Result Y ℕ → Type 0
-Refuses Memory read = Unit {0}
-Refuses (BadList n) read = read ≡ Err n
+abbrev pub RefusesList : {Y : Type 0} → ListError → Result Y ℕ → Type 0
+RefusesList Memory read = Unit {0}
+RefusesList (BadList n) read = read ≡ Err n

@@ -37,8 +37,9 @@ before zero = None
 before (suc n) = Some n
 
 -- the hypothesis that a line names
-unfoldable pub given_of : List ℕ → Option ℕ
-given_of text = option_and_then (λ digits. option_and_then before (number_within (2 ^ 32) digits))
+unfoldable pub given_number : List ℕ → Option ℕ
+given_number text = option_and_then (λ digits. option_and_then before (number_within
+    (2 ^ 32) digits))
     (after (codes "given ") text)
 
 -- the entry that a line names
@@ -47,7 +48,7 @@ given_or (Some n) rule = Some (Given n)
 given_or None rule = option_map Rule rule
 
 unfoldable pub entry_of : List (List ℕ) → List ℕ → Option Entry
-entry_of names text = given_or (given_of text) (place_from 0 names text)
+entry_of names text = given_or (given_number text) (place_from 0 names text)
 
 -- the list that lines state, or the number of the first line that is not as defined
 unfoldable pub list_of : List (List ℕ) → Lines → Result (List Entry) ℕ

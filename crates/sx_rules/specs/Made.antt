@@ -5,11 +5,12 @@ use Rattle.sx_rules.specs.declared.error.RuleError.{RuleError}
 use Rattle.sx_term.specs.Sorts.{Shape}
 use Rattle.sx_term.specs.Shapes.{shapes}
 use Rattle.sx_rules.specs.Views.{FormData, NamedRule, forms, named}
-use Rattle.sx_rules.specs.Good.{IsRuleSet, IsRefused}
+use Rattle.sx_rules.specs.Good.{IsRuleSet, IsRuleSetRefused}
 
 -- the set has these shapes, forms and rules, and they are a rule set; or why they are none
-abbrev pub IsMade : List Shape → List FormData → List NamedRule → Result RuleSet RuleError → Type 0
-IsMade all known rules (Ok set) =
+abbrev pub IsRuleSetMade : List Shape → List FormData → List NamedRule → Result RuleSet RuleError →
+    Type 0
+IsRuleSetMade all known rules (Ok set) =
     (shapes set.shapes ≡ all) × (forms set.forms.items ≡ known) ×
     (map named set.rules.items ≡ rules) × IsRuleSet all known rules
-IsMade all known rules (Err e) = IsRefused all known rules e
+IsRuleSetMade all known rules (Err e) = IsRuleSetRefused all known rules e

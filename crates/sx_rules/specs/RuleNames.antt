@@ -12,9 +12,9 @@ place_from from (x ∷ names) name = if bytes_eq x name then Some from else plac
     (from + 1) names name
 
 -- no name stands twice
-abbrev pub AreDistinct : List (List ℕ) → Type 0
-AreDistinct [] = Unit {0}
-AreDistinct (x ∷ names) = AllByRecursion (λ y. x ≢ y) names × AreDistinct names
+abbrev pub AreNamesDistinct : List (List ℕ) → Type 0
+AreNamesDistinct [] = Unit {0}
+AreNamesDistinct (x ∷ names) = AllByRecursion (λ y. x ≢ y) names × AreNamesDistinct names
 
 -- each is an ASCII letter followed by ASCII letters, digits, `_` and `-`, at most 64 bytes
 abbrev pub AreNames : List (List ℕ) → Type 0

@@ -90,15 +90,16 @@ first_again n before (s ∷ ss) = if is_again before s then Some n else first_ag
     (before ++ s ∷ []) ss
 
 -- whether there is a sort and it is typed
-abbrev pub is_typed : Option Sort → Bool
-is_typed None = false
-is_typed (Some (Lex k)) = false
-is_typed (Some (Plain n)) = false
-is_typed (Some (Typed n)) = true
+abbrev pub is_typed_sort : Option Sort → Bool
+is_typed_sort None = false
+is_typed_sort (Some (Lex k)) = false
+is_typed_sort (Some (Plain n)) = false
+is_typed_sort (Some (Typed n)) = true
 
 -- a variable of a typed sort is a subject
 abbrev pub is_settled : List Sort → List Subject → ℕ → Bool
-is_settled sorts subjects v = if is_typed (slice_get sorts v) then has_bare v subjects else true
+is_settled sorts subjects v = if is_typed_sort (slice_get sorts v) then has_bare v subjects else
+    true
 
 -- the part with the number that was found, or else the next
 abbrev pub part_of : ℕ → Option ℕ → Option (ℕ × ℕ) → Option (ℕ × ℕ)

@@ -197,7 +197,7 @@ fn first_again(subjects: &[Subject]) -> Option<usize>
 }
 
 fn is_typed(sort: Option<Sort>) -> bool
-    ensures { result ≡ spec.is_typed sort }
+    ensures { result ≡ spec.is_typed_sort sort }
 {
     match sort {
         None => false,

@@ -4,10 +4,10 @@ ghost use Rattle.std.specs.Prelude.{◌≡◌, ◌++◌, map, List, IfOk, IfErr}
 ghost use Rattle.sx_term.specs.Sorts.{Shape};
 ghost use Rattle.sx_term.specs.Shapes.{shapes};
 ghost use Rattle.sx_rules.specs.Deep.{RulesAreShallow};
-ghost use Rattle.sx_rules.specs.Good.{IsRuleSet, IsRefused, names_of};
+ghost use Rattle.sx_rules.specs.Good.{IsRuleSet, IsRuleSetRefused, names_of};
 ghost use Rattle.sx_rules.specs.Views.{named, rule};
 ghost use Rattle.sx_rules.specs.Sets.{shapes_in, forms_in, rules_in, names_in};
-ghost use Rattle.sx_rules.specs.Made.{IsMade};
+ghost use Rattle.sx_rules.specs.Made.{IsRuleSetMade};
 
 use crate::checking::Checking;
 use crate::copying::{copy_forms, copy_rules};
@@ -59,7 +59,7 @@ fn grown_names(
     ensures good { IfOk result (λ _. IsRuleSet (shapes all.now) (forms_in base.now)
         (rules_in base.now ++ map named more.now)) }
     ensures names { IfOk result (λ names. names ≡ names_in base.now ++ names_of more.now) }
-    ensures refused { IfErr result (λ e. IsRefused (shapes all.now) (forms_in base.now)
+    ensures refused { IfErr result (λ e. IsRuleSetRefused (shapes all.now) (forms_in base.now)
         (rules_in base.now ++ map named more.now) e) }
 {
     if base.rules.len() + more.len() > MOST_RULES {
@@ -129,7 +129,7 @@ fn good_set(
 fn grown(alloc: Global, base: &RuleSet, all: &Shapes, more: Vec<Rule>) -> Result<RuleSet, RuleError>
     requires shallow { RulesAreShallow (map rule more.items) }
     requires begins { (new : List Shape) × (shapes all.now ≡ shapes_in base.now ++ new) }
-    ensures { IsMade (shapes all.now) (forms_in base.now)
+    ensures { IsRuleSetMade (shapes all.now) (forms_in base.now)
         (rules_in base.now ++ map named more.items) result }
 {
     let names = match grown_names(alloc, base, all, &more) {
@@ -156,7 +156,7 @@ fn grown(alloc: Global, base: &RuleSet, all: &Shapes, more: Vec<Rule>) -> Result
 /// shapes. All the rules are looked at.
 fn made(alloc: Global, base: &RuleSet, all: &Shapes, more: Vec<Rule>) -> Result<RuleSet, RuleError>
     requires { RulesAreShallow (map rule more.items) }
-    ensures { IsMade (shapes all.now) (forms_in base.now)
+    ensures { IsRuleSetMade (shapes all.now) (forms_in base.now)
         (rules_in base.now ++ map named more.items) result }
 {
     let rules = joined(alloc, base, more)?;
@@ -180,7 +180,7 @@ impl RuleSet {
         more: Vec<Rule>,
     ) -> Result<RuleSet, RuleError>
         requires { RulesAreShallow (map rule more.items) }
-        ensures { IsMade (shapes all.now) (forms_in base.now)
+        ensures { IsRuleSetMade (shapes all.now) (forms_in base.now)
             (rules_in base.now ++ map named more.items) result }
     {
         if all.goes_on_from(&base.shapes) {

@@ -7,7 +7,7 @@ ghost use Rattle.sx_rules.specs.Views.{forms, named, rule_name, modes_of, subjec
 ghost use Rattle.sx_rules.specs.Sets.{shapes_in, forms_in, rules_in, bare_rules_in, names_in};
 ghost use Rattle.sx_rules.specs.Good.{IsAmong, IsRuleSet, names_of};
 ghost use Rattle.sx_rules.specs.Modes.{AllModed};
-ghost use Rattle.sx_rules.specs.RuleNames.{AreDistinct};
+ghost use Rattle.sx_rules.specs.RuleNames.{AreNamesDistinct};
 ghost use Rattle.sx_rules.specs.Sorts.{RulesAreSorted};
 ghost use Rattle.sx_rules.specs.Deep.{RulesAreShallow};
 
@@ -80,6 +80,6 @@ impl RuleSet {
         ensures sorted { RulesAreSorted (shapes_in self.now) (sorts_of (forms_in self.now))
             (bare_rules_in self.now) }
         ensures shallow { RulesAreShallow (bare_rules_in self.now) }
-        ensures distinct { AreDistinct (names_in self.now) }
+        ensures distinct { AreNamesDistinct (names_in self.now) }
     {}
 }

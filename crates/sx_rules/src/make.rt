@@ -5,7 +5,7 @@ ghost use Rattle.sx_term.specs.Shapes.{shapes};
 ghost use Rattle.sx_rules.specs.Deep.{RulesAreShallow};
 ghost use Rattle.sx_rules.specs.Good.{AllGood, AreChecked, names_of};
 ghost use Rattle.sx_rules.specs.Views.{forms, named, rule};
-ghost use Rattle.sx_rules.specs.Made.{IsMade};
+ghost use Rattle.sx_rules.specs.Made.{IsRuleSetMade};
 
 use crate::checking::Checking;
 use crate::error::RuleError;
@@ -54,7 +54,8 @@ impl RuleSet {
         rules: Vec<Rule>,
     ) -> Result<RuleSet, RuleError>
         requires { RulesAreShallow (map rule rules.items) }
-        ensures { IsMade (shapes all.now) (forms known.items) (map named rules.items) result }
+        ensures { IsRuleSetMade (shapes all.now) (forms known.items)
+            (map named rules.items) result }
     {
         if rules.len() > MOST_RULES {
             drop(rules);

@@ -4,7 +4,7 @@ use Rattle.std.proofs.Common.{codes, ap, sym, refl, ◌∙◌, append_assoc, ari
 use Rattle.std.specs.List.{flat_map, join_with_byte, range_with_len}
 use Rattle.std.proofs.lemmas.Grind.{flat_map-append}
 use Rattle.std.proofs.lemmas.List.{append-nil, length-append}
-use Rattle.sx_sample.specs.Samples.{name_of, binding_of, tokens_of, text_of}
+use Rattle.sx_sample.specs.Samples.{numbered_name, binding_of, tokens_of, sample_text}
 
 -- a token, and a blank after it
 abbrev pub blanked : List ℕ → List ℕ
@@ -30,10 +30,10 @@ joined (x ∷ y ∷ tokens) last =
     ap (λ (text : List ℕ). x ++ 32 ∷ text) (joined (y ∷ tokens) last)
     ∙ sym (append_assoc (blanked x) more last ∙ append_assoc x (32 ∷ []) (more ++ last))
 
-text-is : (n : ℕ) → head ++ ((bindings 1 n ++ name_of n) ++ 10 ∷ []) ≡ text_of n
+text-is : (n : ℕ) → head ++ ((bindings 1 n ++ numbered_name n) ++ 10 ∷ []) ≡ sample_text n
 text-is n =
     let tokens = flat_map binding_of (range_with_len 1 n) in
-    let body = joined tokens (name_of n) in
+    let body = joined tokens (numbered_name n) in
     ap (λ (text : List ℕ). head ++ text) (ap (λ (text : List ℕ). text ++ 10 ∷ []) (sym body)
     ∙ sym (append-nil (join_with_byte 32 (tokens_of n) ++ 10 ∷ [])))
 
@@ -51,17 +51,17 @@ bound-more text new total n i h e so_far =
     ∙ ap (λ (m : ℕ). text ++ bindings (i + 1) m) left ∙ so_far
 
 -- all are bound
-pub all-bound : (text last : List ℕ) (n i : ℕ) → n ≤ i → last ≡ name_of n →
+pub all-bound : (text last : List ℕ) (n i : ℕ) → n ≤ i → last ≡ numbered_name n →
     text ++ bindings (i + 1) (n - i) ≡ head ++ bindings 1 n →
-    (text ++ last) ++ 10 ∷ [] ≡ text_of n
+    (text ++ last) ++ 10 ∷ [] ≡ sample_text n
 all-bound text last n i h e so_far =
     let none : n - i ≡ 0 = omega (arith, h) in
     let bound : text ≡ head ++ bindings 1 n =
     sym (append-nil text) ∙ ap (λ (m : ℕ). text ++ bindings (i + 1) m) (sym none) ∙ so_far in
     ap (λ (front : List ℕ). (front ++ last) ++ 10 ∷ []) bound
     ∙ ap (λ (end : List ℕ). ((head ++ bindings 1 n) ++ end) ++ 10 ∷ []) e
-    ∙ ap (λ (front : List ℕ). front ++ 10 ∷ []) (append_assoc head (bindings 1 n) (name_of n))
-    ∙ append_assoc head (bindings 1 n ++ name_of n) (10 ∷ []) ∙ text-is n
+    ∙ ap (λ (front : List ℕ). front ++ 10 ∷ []) (append_assoc head (bindings 1 n) (numbered_name n))
+    ∙ append_assoc head (bindings 1 n ++ numbered_name n) (10 ∷ []) ∙ text-is n
 
 -- how many tokens bind so many names
 many-tokens : (k many : ℕ) → length (flat_map binding_of (range_with_len k many)) ≡ 5 * many
@@ -70,5 +70,5 @@ many-tokens k (suc many) = let r = many-tokens (k + 1) many in omega (arith, r)
 
 pub tokens-counted : (n : ℕ) → length (tokens_of n) ≡ 5 * n + 1
 tokens-counted n =
-    length-append (flat_map binding_of (range_with_len 1 n)) (name_of n ∷ [])
+    length-append (flat_map binding_of (range_with_len 1 n)) (numbered_name n ∷ [])
     ∙ ap (λ (m : ℕ). m + 1) (many-tokens 1 n)

@@ -2,10 +2,10 @@
 use Rattle.std.specs.Prelude.{ℕ, [], ◌∷◌, codes}
 use Rattle.sx_outside.specs.Files.{Files, after, no_files}
 use Rattle.sx_sample.specs.declared.texts.TheConstants.{LAM_LANG, LET_EXT}
-use Rattle.sx_sample.specs.Samples.{text_of}
+use Rattle.sx_sample.specs.Samples.{sample_text}
 
 -- the module with so many names, its language and its extension, and no other file
-abbrev pub files_of : ℕ → Files
-files_of n = after (record { name = codes "Lam.lang"; bytes = LAM_LANG.now }
+abbrev pub sample_files : ℕ → Files
+sample_files n = after (record { name = codes "Lam.lang"; bytes = LAM_LANG.now }
     ∷ record { name = codes "Let.ext"; bytes = LET_EXT.now }
-    ∷ record { name = codes "Sample.mod"; bytes = text_of n } ∷ []) no_files
+    ∷ record { name = codes "Sample.mod"; bytes = sample_text n } ∷ []) no_files

@@ -4,20 +4,20 @@ use Rattle.std.specs.Fmt.{decimal}
 use Rattle.std.specs.List.{flat_map, join_with_byte, range_with_len}
 
 -- the name with this number
-abbrev pub name_of : ℕ → List ℕ
-name_of k = codes "v" ++ decimal k
+abbrev pub numbered_name : ℕ → List ℕ
+numbered_name k = codes "v" ++ decimal k
 
 -- what it is bound to: the first to 1, and each other to the name before it
 abbrev pub bound_of : ℕ → List ℕ
-bound_of k = if k == 1 then codes "1" else name_of (k - 1)
+bound_of k = if k == 1 then codes "1" else numbered_name (k - 1)
 
 -- the tokens that bind it
 abbrev pub binding_of : ℕ → List (List ℕ)
-binding_of k = codes "let" ∷ name_of k ∷ codes "=" ∷ bound_of k ∷ codes "in" ∷ []
+binding_of k = codes "let" ∷ numbered_name k ∷ codes "=" ∷ bound_of k ∷ codes "in" ∷ []
 
 -- the tokens of the body: those that bind the names from 1 on, and the last name
 abbrev pub tokens_of : ℕ → List (List ℕ)
-tokens_of n = flat_map binding_of (range_with_len 1 n) ++ name_of n ∷ []
+tokens_of n = flat_map binding_of (range_with_len 1 n) ++ numbered_name n ∷ []
 
 -- the lines of the module's file, the body with one blank between its tokens
 abbrev pub lines_of : ℕ → List (List ℕ)
@@ -25,5 +25,5 @@ lines_of n = codes "module Sample" ∷ codes "language Lam" ∷ codes "use Let" 
     ∷ join_with_byte 32 (tokens_of n) ∷ []
 
 -- the text of the module's file
-abbrev pub text_of : ℕ → List ℕ
-text_of n = flat_map (λ line. line ++ 10 ∷ []) (lines_of n)
+abbrev pub sample_text : ℕ → List ℕ
+sample_text n = flat_map (λ line. line ++ 10 ∷ []) (lines_of n)

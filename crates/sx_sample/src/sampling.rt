@@ -2,14 +2,14 @@
 
 ghost use Rattle.std.specs.Prelude.{◌≡◌, ◌≤◌, ◌++◌, ◌∷◌, [], map, IfOk, OnOk};
 ghost use Rattle.std.specs.List.{flat_map};
-ghost use Rattle.sx_sample.specs.Samples.{name_of, bound_of, binding_of, text_of};
+ghost use Rattle.sx_sample.specs.Samples.{numbered_name, bound_of, binding_of, sample_text};
 
 use std::alloc::Global;
 use sx_term::NoMemory;
 
 /// The name with this number.
 fn name(alloc: Global, number: u32) -> Result<Vec<u8>, NoMemory>
-    ensures { IfOk result (λ v. v.items ≡ name_of number) }
+    ensures { IfOk result (λ v. v.items ≡ numbered_name number) }
 {
     let digits = number.to_string(alloc)?;
     let mut name = Vec::from_slice(alloc, b"v")?;
@@ -55,7 +55,7 @@ fn put_binding(alloc: Global, number: u32, into: &mut Vec<u8>) -> Result<(), NoM
 pub fn sample(alloc: Global, number: u32) -> Result<Vec<u8>, NoMemory>
     requires some { 1 ≤ number }
     requires most { number ≤ 300 }
-    ensures { IfOk result (λ v. v.items ≡ text_of number) }
+    ensures { IfOk result (λ v. v.items ≡ sample_text number) }
 {
     let mut text = Vec::from_slice(alloc, b"module Sample\nlanguage Lam\nuse Let\n---\n")?;
     for bound in 0..number {

@@ -2,7 +2,7 @@
 
 ghost use Rattle.std.specs.Prelude.{◌≡◌, ◌≤◌, IfOk};
 ghost use Rattle.sx_outside.specs.Views.{clean_files_of};
-ghost use Rattle.sx_sample.specs.Holding.{files_of};
+ghost use Rattle.sx_sample.specs.Holding.{sample_files};
 
 use crate::sampling::sample;
 use crate::texts::{LAM_LANG, LET_EXT};
@@ -15,7 +15,7 @@ use sx_term::{NoMemory, Text};
 pub fn sample_shelf(alloc: Global, number: u32) -> Result<CleanShelf, NoMemory>
     requires some { 1 ≤ number }
     requires most { number ≤ 300 }
-    ensures { IfOk result (λ shelf. clean_files_of shelf ≡ files_of number) }
+    ensures { IfOk result (λ shelf. clean_files_of shelf ≡ sample_files number) }
 {
     let mut shelf = CleanShelf::new(alloc);
     let language = Vec::from_slice(alloc, LAM_LANG)?;

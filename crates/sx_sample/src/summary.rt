@@ -2,7 +2,7 @@
 
 ghost use Rattle.std.specs.Prelude.{◌≡◌, ◌++◌, IfOk, OnOk};
 ghost use Rattle.std.specs.Fmt.{decimal};
-ghost use Rattle.sx_sample.specs.Summaries.{line_of};
+ghost use Rattle.sx_sample.specs.Summaries.{summary_line};
 
 use std::alloc::Global;
 use sx_term::NoMemory;
@@ -29,7 +29,7 @@ fn put(alloc: Global, word: &[u8], number: u64, into: &mut Vec<u8>) -> Result<()
 
 /// The line of the summary, with its line feed.
 pub fn summary_line(alloc: Global, summary: &Summary) -> Result<Vec<u8>, NoMemory>
-    ensures { IfOk result (λ bytes. bytes.items ≡ line_of summary.now) }
+    ensures { IfOk result (λ bytes. bytes.items ≡ summary_line summary.now) }
 {
     let mut line = Vec::new(alloc);
     put(alloc, b"sample ", u64::from(summary.number), &mut line)?;

@@ -19,10 +19,10 @@ use Rattle.sx_importing.proofs.OneImports.{reads_imports_one}
 use Rattle.sx_compiling.specs.Laws.{UnitsAgree}
 use Rattle.sx_compiling.specs.Laws.{SameButShown as UnitShown}
 use Rattle.sx_compiling.specs.MakeUnit.{MakesUnit}
-use Rattle.sx_sample.specs.Holding.{files_of}
+use Rattle.sx_sample.specs.Holding.{sample_files}
 use Rattle.sx_sampling.specs.SampleSteps.{sample_name, sample_file, sample_budgets, given_in}
 use Rattle.sx_sampling.specs.SampleSteps.{MakesOver, MakesRead, MakesSample, PlansSample}
-use Rattle.sx_sampling.specs.Found.{IsFound, given_from}
+use Rattle.sx_sampling.specs.Found.{IsSampleFound, given_from}
 use Rattle.sx_sampling.specs.Laws.{SameButShown, SamplesAgree}
 use Rattle.sx_sampling.proofs.FoundModules.{language_of}
 
@@ -31,7 +31,7 @@ plans_one number unit x y h k f g = h ∙ sym k
 
 module _ (units : UnitsAgree) (number : ℕ) where
   abbrev files : Files
-  files = files_of number
+  files = sample_files number
 
   abbrev Related : Stop → Stop → Type 0
   Related = SameButShown number
@@ -43,7 +43,7 @@ module _ (units : UnitsAgree) (number : ℕ) where
   alike s = same_alike s s refl
 
   -- the unit
-  module _ (f : IsFound number) where
+  module _ (f : IsSampleFound number) where
     of_unit : (s t : Stop) → UnitShown sample_budgets files (given_from f) s t → Related s t
     of_unit s t (inl same) = inl same
     of_unit s t (inr (are, free)) = inr (are, inr (f, free))
@@ -99,7 +99,7 @@ module _ (units : UnitsAgree) (number : ℕ) where
 
 pub samples_agree : UnitsAgree → SamplesAgree
 samples_agree units number =
-    and_then_by (SameButShown number) (MakesSample (files_of number))
+    and_then_by (SameButShown number) (MakesSample (sample_files number))
     (λ unit. Untried (PlansSample number unit)) (sample_by units number)
     (λ unit before made. trying_same (SameButShown number) (alike units number) NoTries
     (PlansSample number unit) no_tries_one (plans_one number unit))

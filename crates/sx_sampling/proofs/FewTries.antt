@@ -6,26 +6,26 @@ use Rattle.sx_steps.specs.Work.{Plan}
 use Rattle.sx_accepting.specs.ReadLanguage.{ReadsLanguage}
 use Rattle.sx_headers.specs.ReadModule.{ReadsModule}
 use Rattle.sx_importing.specs.ReadImports.{ReadsImports}
-use Rattle.sx_compiling.specs.Laws.{WalksAreWithin as UnitsWithin}
+use Rattle.sx_compiling.specs.Laws.{UnitsWalksAreWithin as UnitsWithin}
 use Rattle.sx_compiling.specs.MakeUnit.{MakesUnit}
 use Rattle.sx_compiling.specs.Reached.{HasDialect}
 use Rattle.sx_compiling.proofs.StepTries.{Most, untried_most, most_untried}
-use Rattle.sx_sample.specs.Holding.{files_of}
+use Rattle.sx_sample.specs.Holding.{sample_files}
 use Rattle.sx_sampling.specs.SampleSteps.{sample_name, sample_file, sample_budgets, given_in}
 use Rattle.sx_sampling.specs.SampleSteps.{MakesOver, MakesRead, MakesSample, PlansSample, Samples}
-use Rattle.sx_sampling.specs.Found.{IsFound, given_from}
-use Rattle.sx_sampling.specs.Laws.{WalksAreWithin}
+use Rattle.sx_sampling.specs.Found.{IsSampleFound, given_from}
+use Rattle.sx_sampling.specs.Laws.{SampleWalksAreWithin}
 use Rattle.sx_sampling.proofs.FoundModules.{language_of}
 use Rattle.sx_sampling.proofs.Promise.{plan_made}
 
 module _ (units : UnitsWithin) (number : ℕ) where
   abbrev files : Files
-  files = files_of number
+  files = sample_files number
 
   abbrev most : ℕ
   most = 4097 * sample_budgets.tries
 
-  unit_most : (f : IsFound number) →
+  unit_most : (f : IsSampleFound number) →
       Most (MakesUnit sample_budgets files (given_from f)) most
   unit_most f result tries h =
       units.all sample_budgets files (given_from f) result tries (language_of number f) h
@@ -49,7 +49,7 @@ module _ (units : UnitsWithin) (number : ℕ) where
   all_most = most_untried (MakesSample files) (λ unit. PlansSample number unit) most sample_most
 
   sampled_within : (plan : Plan) (tries : ℕ) → Samples number (Ok plan) tries →
-      (f : IsFound number) × (d : HasDialect sample_budgets files (given_from f))
+      (f : IsSampleFound number) × (d : HasDialect sample_budgets files (given_from f))
       × (tries ≤ suc (length d.extended.set.kept.more) * sample_budgets.tries)
   sampled_within plan tries h =
       let planned = plan_made number plan tries h in
@@ -58,8 +58,8 @@ module _ (units : UnitsWithin) (number : ℕ) where
       (language_of number f) planned.made.makes in
       (f, within.0, within.1)
 
-pub walks_are_within : UnitsWithin → WalksAreWithin
-walks_are_within units = record {
+pub sample_walks_are_within : UnitsWithin → SampleWalksAreWithin
+sample_walks_are_within units = record {
   sampled = sampled_within units;
   all = all_most units;
 }

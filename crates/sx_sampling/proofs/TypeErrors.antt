@@ -23,14 +23,14 @@ use Rattle.sx_headers.specs.ReadModule.{Module, StatesModule, ReadsModule}
 use Rattle.sx_importing.specs.Each.{GivesNext, GivesAfter}
 use Rattle.sx_importing.specs.ReadImports.{ImportData, ReadsImport, ReadsImports}
 use Rattle.sx_compiling.specs.Laws.{HasNoType, HasUnsoundRule}
-use Rattle.sx_compiling.specs.Laws.{TypeErrorsAreFinal as UnitsFinal}
+use Rattle.sx_compiling.specs.Laws.{TypeErrorsOfUnitsAreFinal as UnitsFinal}
 use Rattle.sx_compiling.specs.MakeUnit.{MakesUnit}
-use Rattle.sx_sample.specs.Holding.{files_of}
+use Rattle.sx_sample.specs.Holding.{sample_files}
 use Rattle.sx_sampling.specs.SampleSteps.{sample_name, sample_file, sample_budgets, given_in}
 use Rattle.sx_sampling.specs.SampleSteps.{MakesOver, MakesRead, MakesSample, sample_plan}
 use Rattle.sx_sampling.specs.SampleSteps.{PlansSample}
-use Rattle.sx_sampling.specs.Found.{IsFound, given_from}
-use Rattle.sx_sampling.specs.Laws.{TypeErrorsAreFinal}
+use Rattle.sx_sampling.specs.Found.{IsSampleFound, given_from}
+use Rattle.sx_sampling.specs.Laws.{SampleTypeErrorsAreFinal}
 use Rattle.sx_sampling.proofs.FoundModules.{language_of}
 
 -- ---- steps
@@ -84,14 +84,14 @@ module _ (Q : Stop → Type 0) where
 
 module _ (units : UnitsFinal) (number : ℕ) where
   abbrev files : Files
-  files = files_of number
+  files = sample_files number
 
   abbrev Q : Stop → Type 0
-  Q stop = (f : IsFound number) ×
+  Q stop = (f : IsSampleFound number) ×
       (HasNoType sample_budgets files (given_from f) stop
       ⊎ HasUnsoundRule sample_budgets files (given_from f) stop)
 
-  unit_final : (f : IsFound number) →
+  unit_final : (f : IsSampleFound number) →
       FinalTrying Q (MakesUnit sample_budgets files (given_from f))
   unit_final f stop tries h error = (
     f,
@@ -129,9 +129,9 @@ module _ (units : UnitsFinal) (number : ℕ) where
       (reads_final Q sample_file sample_name files))
       (λ m before h. read_final m h.0)
 
-pub type_errors_are_final : UnitsFinal → TypeErrorsAreFinal
-type_errors_are_final units number =
-    and_then_final (Q units number) (MakesSample (files_of number))
+pub sample_type_errors_are_final : UnitsFinal → SampleTypeErrorsAreFinal
+sample_type_errors_are_final units number =
+    and_then_final (Q units number) (MakesSample (sample_files number))
     (λ unit. Untried (PlansSample number unit)) (sample_final units number)
     (λ unit before made. trying_final (Q units number) NoTries (PlansSample number unit)
     (plans_final (Q units number) number unit))

@@ -4,19 +4,19 @@ use Rattle.sx_accepting.specs.ReadLanguage.{Stated, ReadsLanguage}
 use Rattle.sx_headers.specs.ReadModule.{Module, ReadsModule}
 use Rattle.sx_importing.specs.ReadImports.{ImportData, ReadsImports}
 use Rattle.sx_compiling.specs.Given.{Given}
-use Rattle.sx_sample.specs.Holding.{files_of}
+use Rattle.sx_sample.specs.Holding.{sample_files}
 use Rattle.sx_sampling.specs.SampleSteps.{sample_name, sample_file, given_in}
 
 -- the module Sample in its file, the language that its header names, and the interfaces of its
 -- imports, in the order of its header
-pub record IsFound (number : ℕ) : Type 0 where
+pub record IsSampleFound (number : ℕ) : Type 0 where
   pub read : Module
-  pub reads : ReadsModule sample_file sample_name (files_of number) (Ok read)
+  pub reads : ReadsModule sample_file sample_name (sample_files number) (Ok read)
   pub language : Stated
-  pub states : ReadsLanguage read.header.language (files_of number) (Ok language)
+  pub states : ReadsLanguage read.header.language (sample_files number) (Ok language)
   pub imports : List ImportData
-  pub imported : ReadsImports (files_of number) read.header.imports (Ok imports)
+  pub imported : ReadsImports (sample_files number) read.header.imports (Ok imports)
 
 -- what its unit is made from
-abbrev pub given_from : {number : ℕ} → IsFound number → Given
+abbrev pub given_from : {number : ℕ} → IsSampleFound number → Given
 given_from f = given_in f.read f.language f.imports

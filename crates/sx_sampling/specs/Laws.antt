@@ -12,9 +12,9 @@ use Rattle.sx_headers.specs.ReadModule.{Module, ReadsModule}
 use Rattle.sx_compiling.specs.Laws.{HasNoType, HasUnsoundRule}
 use Rattle.sx_compiling.specs.Laws.{ShowsFree as ShowsFreeOfUnit}
 use Rattle.sx_compiling.specs.Reached.{HasDialect}
-use Rattle.sx_sample.specs.Holding.{files_of}
+use Rattle.sx_sample.specs.Holding.{sample_files}
 use Rattle.sx_sampling.specs.SampleSteps.{sample_name, sample_file, sample_budgets, Samples}
-use Rattle.sx_sampling.specs.Found.{IsFound, given_from}
+use Rattle.sx_sampling.specs.Found.{IsSampleFound, given_from}
 use Rattle.sx_term.specs.Limits.{most_budget}
 
 -- ---- one result
@@ -22,14 +22,15 @@ use Rattle.sx_term.specs.Limits.{most_budget}
 -- the stop is that of the file of the language, about a line that has more than two readings
 pub record IsOfLanguage (number : ℕ) (stop : Stop) : Type 0 where
   pub read : Module
-  pub reads : ReadsModule sample_file sample_name (files_of number) (Ok read)
-  pub stops : StopsAtLanguage read.header.language (files_of number) stop
+  pub reads : ReadsModule sample_file sample_name (sample_files number) (Ok read)
+  pub stops : StopsAtLanguage read.header.language (sample_files number) stop
 
 -- the text of which the stop shows two readings is one that has more than two: a line of the
 -- language's file, or a text of the sample, of its imports or of its extensions
 abbrev pub ShowsFree : (number : ℕ) → Stop → Type 0
 ShowsFree number s = IsOfLanguage number s
-    ⊎ ((f : IsFound number) × ShowsFreeOfUnit sample_budgets (files_of number) (given_from f) s)
+    ⊎ ((f : IsSampleFound number) × ShowsFreeOfUnit sample_budgets (sample_files number)
+    (given_from f) s)
 
 -- the stops give the same status and the same line, but for the two readings that they show of one
 -- such text
@@ -47,20 +48,21 @@ SamplesAgree =
 
 -- it stops with a type error only where the sample has no type by the rules of its dialect, or a
 -- rule of one of its extensions is not sound
-abbrev pub TypeErrorsAreFinal : Type 0
-TypeErrorsAreFinal =
+abbrev pub SampleTypeErrorsAreFinal : Type 0
+SampleTypeErrorsAreFinal =
     (number : ℕ) (stop : Stop) (tries : ℕ) → Samples number (Err (errors.Stopped stop)) tries →
-    IsTypeError stop → (f : IsFound number)
-    × (HasNoType sample_budgets (files_of number) (given_from f) stop
-    ⊎ HasUnsoundRule sample_budgets (files_of number) (given_from f) stop)
+    IsTypeError stop → (f : IsSampleFound number)
+    × (HasNoType sample_budgets (sample_files number) (given_from f) stop
+    ⊎ HasUnsoundRule sample_budgets (sample_files number) (given_from f) stop)
 
 -- ---- tries
 
 -- There is at most one walk for each rule of the extensions, which are with the language's rules
 -- at most 4,096, and one for the sample; and a walk makes at most 1,000,000 tries.
-pub record WalksAreWithin : Type 0 where
+pub record SampleWalksAreWithin : Type 0 where
   pub sampled : (number : ℕ) (plan : Plan) (tries : ℕ) → Samples number (Ok plan) tries →
-      (f : IsFound number) × (d : HasDialect sample_budgets (files_of number) (given_from f))
+      (f : IsSampleFound number) × (d : HasDialect sample_budgets (sample_files number)
+      (given_from f))
       × (tries ≤ suc (length d.extended.set.kept.more) * most_budget)
   pub all : (number : ℕ) (result : Result Plan StepError) (tries : ℕ) →
       Samples number result tries → tries ≤ 4097 * most_budget

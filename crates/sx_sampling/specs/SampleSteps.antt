@@ -13,8 +13,8 @@ use Rattle.sx_importing.specs.ReadImports.{ImportData, ReadsImports}
 use Rattle.sx_compiling.specs.Given.{Given}
 use Rattle.sx_compiling.specs.MakeUnit.{MakesUnit}
 use Rattle.sx_sample.specs.declared.summary.Summary.{Summary}
-use Rattle.sx_sample.specs.Holding.{files_of}
-use Rattle.sx_sample.specs.Summaries.{line_of}
+use Rattle.sx_sample.specs.Holding.{sample_files}
+use Rattle.sx_sample.specs.Summaries.{summary_line}
 use Rattle.sx_term.specs.Limits.{most_budget}
 
 -- the sample module, and its file
@@ -59,7 +59,7 @@ summary_in number unit = record {
 
 -- no file is written, and the line tells how big it is
 abbrev pub sample_plan : ℕ → UnitData → Plan
-sample_plan number unit = record { files = []; lines = line_of (summary_in number unit) }
+sample_plan number unit = record { files = []; lines = summary_line (summary_in number unit) }
 
 -- what is left to do is this
 abbrev pub PlansSample : ℕ → UnitData → Result Plan Stop → Type 0
@@ -69,4 +69,4 @@ PlansSample number unit result = result ≡ Ok (sample_plan number unit)
 -- the line
 abbrev pub Samples : ℕ → Result Plan StepError → ℕ → Type 0
 Samples number =
-    AndThen (MakesSample (files_of number)) (λ unit. Untried (PlansSample number unit))
+    AndThen (MakesSample (sample_files number)) (λ unit. Untried (PlansSample number unit))

@@ -1,6 +1,7 @@
 //! What is proved of `sample N`.
 
-ghost use Rattle.sx_sampling.specs.Laws.{SamplesAgree, TypeErrorsAreFinal, WalksAreWithin};
+ghost use Rattle.sx_sampling.specs.Laws.{SamplesAgree, SampleTypeErrorsAreFinal};
+ghost use Rattle.sx_sampling.specs.Laws.{SampleWalksAreWithin};
 ghost use Rattle.sx_sampling.specs.Sampled.{SamplesKeepPromise, SampledHaveHeadline};
 
 use sx_compiling::{
@@ -37,16 +38,16 @@ pub fn samples_agree()
 
 /// A type error comes only where the body's goal has no derivation at all, or where a rule of an
 /// extension is not sound; and it names the file of the one or of the other.
-pub fn type_errors_are_final()
-    ensures { TypeErrorsAreFinal }
+pub fn sample_type_errors_are_final()
+    ensures { SampleTypeErrorsAreFinal }
 {
     type_errors_of_units_are_final();
 }
 
 /// A sample takes at most one walk for each rule of the extensions and one for its goal, and no
 /// walk makes more tries than it may spend.
-pub fn walks_are_within()
-    ensures { WalksAreWithin }
+pub fn sample_walks_are_within()
+    ensures { SampleWalksAreWithin }
 {
     units_walks_are_within();
 }

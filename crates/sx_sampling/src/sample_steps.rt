@@ -5,7 +5,7 @@ ghost use Rattle.sx_outside.specs.Views.{clean_files_of};
 ghost use Rattle.sx_steps.specs.Stop.{Gives, IsNoFault, Does};
 ghost use Rattle.sx_steps.specs.Work.{plan_of};
 ghost use Rattle.sx_unit.specs.Written.{unit_of};
-ghost use Rattle.sx_sample.specs.Holding.{files_of};
+ghost use Rattle.sx_sample.specs.Holding.{sample_files};
 ghost use Rattle.sx_sampling.specs.SampleSteps as spec;
 
 use crate::sample_unit::make_sample;
@@ -54,7 +54,7 @@ fn plan_over<L: Ledger>(
     shelf: &mut CleanShelf,
     steps: &mut Steps<L>,
 ) -> Result<Work, StepError>
-    requires { clean_files_of shelf.old ≡ files_of number }
+    requires { clean_files_of shelf.old ≡ sample_files number }
     ensures step { Does plan_of (spec.Samples number) result steps.old steps.new }
     ensures no_fault { IsNoFault result }
 {

@@ -2,7 +2,7 @@
 use Rattle.std.proofs.Common.{◌≡◌, ℕ, suc, ◌+◌, ◌-◌, ◌^◌, ◌<◌, ◌≤◌, ◌⊎◌, inl, inr, min, List, [], ◌∷◌, ◌++◌, take, drop, length, get_or, Option, Some, None, refl, sym, ap, ◌∙◌, subst, arith}
 use Rattle.std.proofs.lemmas.Bool.{cases_eq, cases_lt}
 use Rattle.std.proofs.lemmas.List.{append-nil, drop_all, take_all, get_or_default, get_or_append_left, get_or-take, length-take, length_push}
-use Rattle.sx_slots.specs.Slots.{slot_of, slot_at, IsLast, AreLinked, IsTable, IsLastWith}
+use Rattle.sx_slots.specs.Slots.{slot_of, slot_at, IsLast, AreLinked, IsSlotTable, IsLastWith}
 
 module _ (n : ℕ) (hs links lasts : List ℕ) where
   -- no number is in a slot yet
@@ -138,7 +138,7 @@ linked_is n m hs gs links others lasts ends j k a b c d e h =
     (subst (λ (v : List ℕ). AreLinked m gs others v j) (sym d)
     (subst (λ (v : ℕ). AreLinked m gs others ends v) (sym e) h))))
 
-pub table_is : (hs gs links others lasts ends : List ℕ) → hs ≡ gs → links ≡ others → lasts ≡ ends → IsTable gs others ends → IsTable hs links lasts
+pub table_is : (hs gs links others lasts ends : List ℕ) → hs ≡ gs → links ≡ others → lasts ≡ ends → IsSlotTable gs others ends → IsSlotTable hs links lasts
 table_is hs gs links others lasts ends b c d t = record {
   many = ap length c ∙ t.many ∙ ap length (sym b);
   room = (let e = ap length b in let f = ap length d in let r = t.room in omega arith);
@@ -152,8 +152,8 @@ written_back n new old e f =
     ap (λ xs. take n (new ++ xs)) (drop_all (length new) old (omega arith)) ∙ ap (take n) (append-nil new) ∙ take_all n new (omega arith)
 
 -- the first numbers, whose hashes and links are kept
-pub table_cut : (hs links lasts new : List ℕ) (many : ℕ) → IsTable hs links lasts → AreLinked (length lasts) hs links new (min many (length hs)) → length new ≡ length lasts →
-    IsTable (take many hs) (take many links) new
+pub table_cut : (hs links lasts new : List ℕ) (many : ℕ) → IsSlotTable hs links lasts → AreLinked (length lasts) hs links new (min many (length hs)) → length new ≡ length lasts →
+    IsSlotTable (take many hs) (take many links) new
 table_cut hs links lasts new many t h e =
     let k = min many (length hs) in
     let l : length (take many hs) ≡ k = length-take many hs in
@@ -171,7 +171,7 @@ table_cut hs links lasts new many t h e =
 
 -- one more number is put in
 pub table_push : (hs links lasts : List ℕ) (hash : ℕ) → length links ≡ length hs + 1 → length hs + 1 ≤ length lasts → length lasts < 2 ^ 32 →
-    AreLinked (length lasts) (hs ++ hash ∷ []) links lasts (length hs + 1) → IsTable (hs ++ hash ∷ []) links lasts
+    AreLinked (length lasts) (hs ++ hash ∷ []) links lasts (length hs + 1) → IsSlotTable (hs ++ hash ∷ []) links lasts
 table_push hs links lasts hash m r f h =
     let l = length_push hs hash in
     let k : length (hs ++ hash ∷ []) ≡ length hs + 1 = omega arith in

@@ -23,7 +23,7 @@ pub record AreLinked (n : ℕ) (hs links lasts : List ℕ) (k : ℕ) : Type 0 wh
   pub of_number : (i : ℕ) → i < k → IsLast n hs i (slot_at n hs i) (get_or links i 0)
 
 -- all numbers are in slots, which are no fewer, and which 32 bits can count
-pub record IsTable (hashes links lasts : List ℕ) : Type 0 where
+pub record IsSlotTable (hashes links lasts : List ℕ) : Type 0 where
   pub many : length links ≡ length hashes
   pub room : length hashes ≤ length lasts
   pub few : length lasts < 2 ^ 32

@@ -25,13 +25,13 @@ pub struct Slots {
 
 impl Model for Slots {
     ghost use Rattle.std.specs.Prelude.{List, ℕ};
-    ghost use Rattle.sx_slots.specs.Slots.{IsTable};
+    ghost use Rattle.sx_slots.specs.Slots.{IsSlotTable};
 
     ghost Value = { List ℕ };
 
     ghost view = { λ s. s.hashes.items };
 
-    ghost invariant = { λ s. IsTable s.hashes.items s.links.items s.lasts.items };
+    ghost invariant = { λ s. IsSlotTable s.hashes.items s.links.items s.lasts.items };
 }
 
 /// The slot of a hash, of so many.

@@ -31,14 +31,14 @@ abbrev pub not_utf8 : List ℕ → ℕ → Stop
 not_utf8 file before = about file (defect.File (file_defect.NotUtf8 before))
 
 -- the kind of what is bad about a line, in lower case
-abbrev pub kind_text : Kind → List ℕ
-kind_text kind.Head = codes "head"
-kind_text kind.Directive = codes "directive"
-kind_text kind.Shape = codes "shape"
-kind_text kind.Order = codes "order"
-kind_text kind.Unfinished = codes "unfinished"
-kind_text kind.Main = codes "main"
-kind_text kind.Variable = codes "variable"
+abbrev pub bad_kind_text : Kind → List ℕ
+bad_kind_text kind.Head = codes "head"
+bad_kind_text kind.Directive = codes "directive"
+bad_kind_text kind.Shape = codes "shape"
+bad_kind_text kind.Order = codes "order"
+bad_kind_text kind.Unfinished = codes "unfinished"
+bad_kind_text kind.Main = codes "main"
+bad_kind_text kind.Variable = codes "variable"
 
 -- the first bad line, and the kind of what is bad, in lower case
 abbrev pub bad_line : List ℕ → ℕ → List ℕ → Stop

@@ -48,7 +48,7 @@ pub fn refused_at(
 
 /// The kind of what is bad about a line, in lower case.
 fn kind_name(kind: Kind) -> &'static str
-    ensures { result.now ≡ stops.kind_text kind }
+    ensures { result.now ≡ stops.bad_kind_text kind }
 {
     match kind {
         Kind::Head => "head",
@@ -63,7 +63,7 @@ fn kind_name(kind: Kind) -> &'static str
 
 /// The refusal of a bad line.
 pub fn bad_line(alloc: Global, file: &Text, line: u32, kind: Kind) -> Result<Stop, NoMemory>
-    ensures { IfOk result (λ stop. stop ≡ stops.bad_line file.now line (stops.kind_text kind)) }
+    ensures { IfOk result (λ stop. stop ≡ stops.bad_line file.now line (stops.bad_kind_text kind)) }
 {
     let kind = Text::of_str(alloc, kind_name(kind))?;
     let defect = Defect::File(FileDefect::Notation(kind));

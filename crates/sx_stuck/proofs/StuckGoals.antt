@@ -6,19 +6,23 @@ use Rattle.sx_term.specs.Tree.{Tree}
 use Rattle.sx_term.specs.declared.sort.Sort.{Sort}
 use Rattle.sx_term.specs.Sorts.{Shape, HasSort, HaveSorts}
 use Rattle.sx_rules.specs.Instances.{instance, StandsAmong}
-use Rattle.sx_rules.specs.Rules.{Judgement, Premise, holds, apart, Rule, Hypotheses, judgement_instance, judgements_of}
-use Rattle.sx_rules.specs.Modes.{inputs, outputs, inputs_of, outputs_of, Goal, goal_of, AreModed, IsModed}
+use Rattle.sx_rules.specs.Rules.{Judgement, Premise, holds, apart, Rule, Hypotheses}
+use Rattle.sx_rules.specs.Rules.{judgement_instance, judgements_of}
+use Rattle.sx_rules.specs.Modes.{inputs, outputs, inputs_of, outputs_of, Goal, goal_of, AreModed}
+use Rattle.sx_rules.specs.Modes.{IsModed}
 use Rattle.sx_rules.specs.First.{Answer, DerivesGoal}
 use Rattle.sx_rules.specs.Sorts.{GoalIsSorted, JudgementsAreSorted, RulesAreSorted}
 use Rattle.sx_rules.specs.Discipline.{IsDisciplined, IsBareSubject, AreBareSubjects}
-use Rattle.sx_rules.specs.Views.{FormData, NamedRule, modes_of, subjects_in, sorts_of, places_or_none}
+use Rattle.sx_rules.specs.Views.{FormData, NamedRule, modes_of, subjects_in, sorts_of}
+use Rattle.sx_rules.specs.Views.{places_or_none}
 use Rattle.sx_rules.specs.Fits.{JudgementFits, PremisesFit, RuleFits}
 use Rattle.sx_rules.specs.Good.{AllGood, IsRuleSet}
 use Rattle.sx_rules.proofs.Moded.{inputs-map, outputs-map}
 use Rattle.sx_rules.proofs.Refusals.{good_moded}
 use Rattle.sx_rules.proofs.SetLaws.{fitting_sorted}
 use Rattle.sx_rules.proofs.Sorted.{IsSortedAt, map_instance-sorted, map_sorted-variables, inputs-sorted, outputs-sorted, derivations_are_sorted}
-use Rattle.sx_arena.specs.Matching.{Assignment, unbound, match_all, value_or, filled, IsBound, Agrees}
+use Rattle.sx_arena.specs.Matching.{Assignment, nothing_bound, match_all, value_or, filled, IsBound}
+use Rattle.sx_arena.specs.Matching.{Agrees}
 use Rattle.sx_arena.proofs.Exact.{filled_agrees}
 use Rattle.sx_arena.proofs.Matchings.{MatchesAll, match_all-matches, when_true, stays-bound, stays-agreed}
 use Rattle.sx_arena.proofs.Sameness.{nat_same}
@@ -53,7 +57,7 @@ module _ (shapes : List Shape) (forms : List FormData) (vars : List Sort) where
   abbrev HasSortedValues : List Sort → Assignment → Type 0
   HasSortedValues own env = (v : ℕ) (u : Tree) → env v ≡ Some u → (sort : Sort) → slice_get own v ≡ Some sort → HasSort shapes vars u sort
 
-  unbound_sorted : (own : List Sort) → HasSortedValues own unbound
+  unbound_sorted : (own : List Sort) → HasSortedValues own nothing_bound
   unbound_sorted own v u e = cc
 
   match_sorted : (own : List Sort) (ps ts : List Tree) (sorts : List Sort) (env more : Assignment) → match_all ps ts env ≡ Some more →
@@ -180,24 +184,24 @@ module _ (shapes : List Shape) (forms : List FormData) (vars : List Sort) where
           (under_more env more Bound u j a.1 fits.0 e got) m.1 fits.1 only.1 s
 
     first_under : (rule : Rule) (goal : Goal) (env : Assignment) → RuleFits shapes forms rule → rule.conclusion.form ≡ goal.form →
-        GoalIsSorted shapes (sorts_of forms) (modes_of forms) vars goal → match_all (inputs_of (modes_of forms) rule.conclusion) goal.terms unbound ≡ Some env →
+        GoalIsSorted shapes (sorts_of forms) (modes_of forms) vars goal → match_all (inputs_of (modes_of forms) rule.conclusion) goal.terms nothing_bound ≡ Some env →
         IsUnder rule goal env (λ v. StandsAmong v (inputs_of (modes_of forms) rule.conclusion))
     first_under rule goal env fits of_form sorted e = record {
       begun = λ s agrees. m.instance_is s agrees;
-      values = match_sorted rule.sorts (inputs_of (modes_of forms) rule.conclusion) goal.terms (inputs (modes_of forms rule.conclusion.form) (sorts_of forms rule.conclusion.form)) unbound env e
+      values = match_sorted rule.sorts (inputs_of (modes_of forms) rule.conclusion) goal.terms (inputs (modes_of forms rule.conclusion.form) (sorts_of forms rule.conclusion.form)) nothing_bound env e
           (inputs-sorted shapes rule.sorts (modes_of forms rule.conclusion.form) rule.conclusion.places (sorts_of forms rule.conclusion.form) (judgement_sorted rule.sorts rule.conclusion fits.0))
           (subst (λ (f : ℕ). HaveSorts shapes vars goal.terms (inputs (modes_of forms f) (sorts_of forms f))) (sym of_form) sorted) (unbound_sorted rule.sorts);
       bound = λ v k. m.every v k;
     }
       where
-        m : MatchesAll (inputs_of (modes_of forms) rule.conclusion) goal.terms unbound env
-        m = match_all-matches (inputs_of (modes_of forms) rule.conclusion) goal.terms unbound env e
+        m : MatchesAll (inputs_of (modes_of forms) rule.conclusion) goal.terms nothing_bound env
+        m = match_all-matches (inputs_of (modes_of forms) rule.conclusion) goal.terms nothing_bound env e
 
     among_in : (r : ℕ) (rs : List Rule) (goal : Goal) (path : List ℕ) (blame : Blame) → AllByRecursion IsUsable rs → IsGoalIn Leads goal path →
         RulesStuck (modes_of forms) (subjects_in forms) (bare rules) hyps Below r rs goal path blame → IsBlameIn Leads blame
     among_in r [] goal path blame good here s = subst (λ (b : Blame). IsBlameIn Leads b) (sym s) (blame_in Leads _ here tt)
     among_in r (rule ∷ rs) goal path blame good here (inl (env, e, s)) =
-        let m = when_true (nat_eq rule.conclusion.form goal.form) (match_all (inputs_of (modes_of forms) rule.conclusion) goal.terms unbound) env e in
+        let m = when_true (nat_eq rule.conclusion.form goal.form) (match_all (inputs_of (modes_of forms) rule.conclusion) goal.terms nothing_bound) env e in
         let of_form = nat_same rule.conclusion.form goal.form m.0 in
         premises_in r rule good.0 goal path here of_form 0 rule.premises env (λ v. StandsAmong v (inputs_of (modes_of forms) rule.conclusion)) [] blame
         (first_under rule goal env good.0.fits of_form here.sorted m.1) good.0.moded good.0.fits.1 good.0.disciplined.bare s

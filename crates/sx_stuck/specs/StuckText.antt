@@ -32,17 +32,17 @@ telling_of t = record {
 }
 
 -- the text of a goal, with the outputs that were got, where some were
-abbrev pub shown : Telling → Goal → Option (List Tree) → List ℕ
-shown t goal got = goal_text t.parts t.names t.forms goal got
+abbrev pub shown_goal : Telling → Goal → Option (List Tree) → List ℕ
+shown_goal t goal got = goal_text t.parts t.names t.forms goal got
 
 -- why a goal is stuck, as it is told; premises are counted from 1, and outputs got are shown
 abbrev pub stuck_text : Telling → Goal → Reason → GoalDefect
-stuck_text t goal no_rule = stuck.NoRule (shown t goal None)
+stuck_text t goal no_rule = stuck.NoRule (shown_goal t goal None)
 stuck_text t goal (unequal rule premise) =
-    stuck.Equal (shown t goal None) (premise + 1) (rule_name t.rules rule)
+    stuck.Equal (shown_goal t goal None) (premise + 1) (rule_name t.rules rule)
 stuck_text t goal (mismatch (Some by) got) =
-    stuck.Mismatch (shown t goal (Some got)) (by.1 + 1) (rule_name t.rules by.0)
-stuck_text t goal (mismatch None got) = stuck.NotStated (shown t goal (Some got))
+    stuck.Mismatch (shown_goal t goal (Some got)) (by.1 + 1) (rule_name t.rules by.0)
+stuck_text t goal (mismatch None got) = stuck.NotStated (shown_goal t goal (Some got))
 
 -- the outputs that are shown with the goal
 abbrev pub shown_got : Reason → Option (List Tree)

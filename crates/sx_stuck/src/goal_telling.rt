@@ -7,7 +7,7 @@ ghost use Rattle.sx_rules.specs.Views.{goal as goal_of};
 ghost use Rattle.sx_derive.specs.Blames.{blame_of};
 ghost use Rattle.sx_derive.specs.Stuck.{mismatch};
 ghost use Rattle.sx_stuck.specs.StuckText as known;
-ghost use Rattle.sx_stuck.specs.StuckText.{telling_of, shown, CanShow, CanTell};
+ghost use Rattle.sx_stuck.specs.StuckText.{telling_of, shown_goal, CanShow, CanTell};
 
 use crate::telling::Telling;
 use std::alloc::Global;
@@ -37,7 +37,7 @@ fn shown_goal(
 ) -> Result<Text, NoMemory>
     requires { CanShow (telling_of telling.now) (goal_of goal.now)
         (option_map (λ w. map tree w.now.items) got) }
-    ensures { IfOk result (λ text. text ≡ shown (telling_of telling.now) (goal_of goal.now)
+    ensures { IfOk result (λ text. text ≡ shown_goal (telling_of telling.now) (goal_of goal.now)
         (option_map (λ w. map tree w.now.items) got.entry)) }
 {
     let mut bytes = Vec::new(alloc);

@@ -6,7 +6,8 @@ use Rattle.std.specs.List.{AllByRecursion}
 use Rattle.std.proofs.lemmas.Str.{encode_same, encode_ascii}
 use Rattle.std.proofs.lemmas.Bool.Decides.{nat_tests}
 use Rattle.unicode_ident.proofs.IdentLemmas.{is_xid_start-ascii}
-use Rattle.sx_term.specs.Cutting.{is_blank, is_symbol, begins_word, IsMaximalRun, IsWord, IsString, AreSymbols}
+use Rattle.sx_term.specs.Cutting.{is_blank_or_feed, is_symbol, begins_word, IsMaximalRun, IsWord}
+use Rattle.sx_term.specs.Cutting.{IsString, AreSymbols}
 
 -- the kinds of first characters
 pub data Class : Type 0 where
@@ -19,7 +20,7 @@ pub data Class : Type 0 where
   Other : Class
 
 unfoldable pub class_of : ℕ → Class
-class_of c = cond (begins_word c) Word (cond (is_ascii_digit c) Digit (cond (c == 34) Quote (cond (c == 126) Tilde (cond (is_blank c) Blank (cond (is_symbol c) Symbol Other)))))
+class_of c = cond (begins_word c) Word (cond (is_ascii_digit c) Digit (cond (c == 34) Quote (cond (c == 126) Tilde (cond (is_blank_or_feed c) Blank (cond (is_symbol c) Symbol Other)))))
 
 -- the text begins with a character of the class
 abbrev pub HasClass : Class → List ℕ → Type 0
@@ -53,20 +54,20 @@ pub class_of-tilde : class_of 126 ≡ Tilde
 unfolding class_of
 class_of-tilde = rw (no_word 126 (lit< tt) refl) refl
 
-pub blank_low : (c : ℕ) → is_blank c ≡ true → c < 128
+pub blank_low : (c : ℕ) → is_blank_or_feed c ≡ true → c < 128
 blank_low c h = grind (arith, nat_tests)
 
-pub blank_others : (c : ℕ) → is_blank c ≡ true → ((is_ascii_alphabetic c || (c == 95)) ≡ false) × (is_ascii_digit c ≡ false) × ((c == 34) ≡ false) × ((c == 126) ≡ false)
+pub blank_others : (c : ℕ) → is_blank_or_feed c ≡ true → ((is_ascii_alphabetic c || (c == 95)) ≡ false) × (is_ascii_digit c ≡ false) × ((c == 34) ≡ false) × ((c == 126) ≡ false)
 blank_others c h = (grind (arith, nat_tests), grind (arith, nat_tests), grind (arith, nat_tests), grind (arith, nat_tests))
 
-pub class_of-blank : (c : ℕ) → is_blank c ≡ true → class_of c ≡ Blank
+pub class_of-blank : (c : ℕ) → is_blank_or_feed c ≡ true → class_of c ≡ Blank
 unfolding class_of
 class_of-blank c h = let o = blank_others c h in rw (no_word c (blank_low c h) o.0, o.1, o.2, o.3, h) refl
 
 pub symbol_low : (c : ℕ) → is_symbol c ≡ true → c < 128
 symbol_low c h = grind (arith, nat_tests)
 
-pub symbol_others : (c : ℕ) → is_symbol c ≡ true → ((is_ascii_alphabetic c || (c == 95)) ≡ false) × (is_ascii_digit c ≡ false) × ((c == 34) ≡ false) × ((c == 126) ≡ false) × (is_blank c ≡ false)
+pub symbol_others : (c : ℕ) → is_symbol c ≡ true → ((is_ascii_alphabetic c || (c == 95)) ≡ false) × (is_ascii_digit c ≡ false) × ((c == 34) ≡ false) × ((c == 126) ≡ false) × (is_blank_or_feed c ≡ false)
 symbol_others c h = (grind (arith, nat_tests), grind (arith, nat_tests), grind (arith, nat_tests), grind (arith, nat_tests), grind (arith, nat_tests))
 
 pub class_of-symbol : (c : ℕ) → is_symbol c ≡ true → class_of c ≡ Symbol
@@ -77,7 +78,7 @@ class_of-symbol c h = let o = symbol_others c h in rw (no_word c (symbol_low c h
 HasClass-byte : (k : Class) (b : ℕ) (rest : List ℕ) → b < 128 → class_of b ≡ k → HasClass k (b ∷ rest)
 HasClass-byte k b rest h e = (b, rest, ap (λ t. t ++ rest) (sym (encode_ascii b h)), e)
 
-pub HasClass-blank : (b : ℕ) (rest : List ℕ) → is_blank b ≡ true → HasClass Blank (b ∷ rest)
+pub HasClass-blank : (b : ℕ) (rest : List ℕ) → is_blank_or_feed b ≡ true → HasClass Blank (b ∷ rest)
 HasClass-blank b rest h = HasClass-byte Blank b rest (blank_low b h) (class_of-blank b h)
 
 pub HasClass-quote : (rest : List ℕ) → HasClass Quote (34 ∷ rest)

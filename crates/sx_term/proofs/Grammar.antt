@@ -7,7 +7,8 @@ use Rattle.sx_term.specs.declared.lex_kind.LexKind.{LexKind}
 use Rattle.sx_term.specs.declared.lex_kind.LexKind.TheVariants.{Id, Num as NumKind, Str}
 use Rattle.sx_term.specs.Tree.{Tree, Trees, node, lexeme, hole, none, ◌▹◌}
 use Rattle.sx_term.specs.Core.{core, cores, kind_byte, HasCore, HaveCore}
-use Rattle.sx_term.specs.Reading.{IsFront, IsStuck, IsLongest, IsNumber, IsNoNumber, Rest, Want, Text}
+use Rattle.sx_term.specs.Reading.{IsFront, IsStuck, IsLongest, IsNumber, IsNoNumber, Rest, Want}
+use Rattle.sx_term.specs.Reading.{TextOfLength}
 use Rattle.sx_term.proofs.Languages.{head_of, tail_of, stuck_step, stuck_here, longest_step, longest_here}
 use Rattle.sx_term.proofs.Numbers.{Num, no_number, number_stuck, number_longest}
 
@@ -71,10 +72,10 @@ want_nil n w = core_nil w.0 w.2 w.3
 
 -- what follows the number of bytes of a lexeme
 abbrev pub Lexeme : ℕ → ℕ → List ℕ → Type 0
-Lexeme n len z = (t : List ℕ) × Text len t × (y : List ℕ) × (z ≡ 58 ∷ (t ++ y)) × Rest n y
+Lexeme n len z = (t : List ℕ) × TextOfLength len t × (y : List ℕ) × (z ≡ 58 ∷ (t ++ y)) × Rest n y
 
 abbrev pub TextRest : ℕ → ℕ → List ℕ → Type 0
-TextRest n len z = (t : List ℕ) × Text len t × (y : List ℕ) × (z ≡ t ++ y) × Rest n y
+TextRest n len z = (t : List ℕ) × TextOfLength len t × (y : List ℕ) × (z ≡ t ++ y) × Rest n y
 
 pub kind_range : (k : LexKind) → (105 ≤ kind_byte k) × (kind_byte k ≤ 115)
 kind_range Id = (omega arith, omega arith)
@@ -216,7 +217,7 @@ fill_length : (n : ℕ) → length (fill n) ≡ n
 fill_length zero = refl
 fill_length (suc n) = omega (arith, fill_length n)
 
-pub fill_text : (n : ℕ) → Text n (fill n)
+pub fill_text : (n : ℕ) → TextOfLength n (fill n)
 fill_text n = (fill_length n, fill_utf8 n)
 
 text_rest_some : (n v : ℕ) → (y : List ℕ) × TextRest n v y
@@ -280,7 +281,7 @@ text_here n v k t s h g f =
     g (f.0, subst (Rest n) (sym p.1) l.4)
 
 -- past the bytes of a lexeme
-pub text_stuck : (n v k : ℕ) (t s : List ℕ) → Text v t → IsStuck (Rest n) s k → IsStuck (TextRest n v) (t ++ s) (k + length t)
+pub text_stuck : (n v k : ℕ) (t s : List ℕ) → TextOfLength v t → IsStuck (Rest n) s k → IsStuck (TextRest n v) (t ++ s) (k + length t)
 text_stuck n v k t s h m = record {
   within = let w = m.within in omega (arith, length-append t s);
   front = (m.front.0, (t, h, take k s ++ m.front.0, ap (λ x. x ++ m.front.0) (take_past t s k) ∙ append_assoc t (take k s) m.front.0, m.front.1));
@@ -288,7 +289,7 @@ text_stuck n v k t s h m = record {
   here = λ g f. text_here n v k t s h.0 (m.here (omega (arith, length-append t s))) f;
 }
 
-pub text_longest : (n v k : ℕ) (t s : List ℕ) → Text v t → IsLongest (Rest n) s k → IsLongest (TextRest n v) (t ++ s) (k + length t)
+pub text_longest : (n v k : ℕ) (t s : List ℕ) → TextOfLength v t → IsLongest (Rest n) s k → IsLongest (TextRest n v) (t ++ s) (k + length t)
 text_longest n v k t s h m = record {
   within = let w = m.within in omega (arith, length-append t s);
   text = (t, h, take k s, take_past t s k, m.text);
@@ -304,19 +305,19 @@ front_of (c ∷ a) z (d ∷ t) y e h =
     (r.0, let p = r.1 in cc)
 
 -- the bytes so far are fewer than the lexeme's
-not_all : (v k : ℕ) (s z : List ℕ) → k < length s → ((t r : List ℕ) → Text v t → s ≡ t ++ r → ⊥) → Text v (take k s ++ z) → k + 1 ≤ v
+not_all : (v k : ℕ) (s z : List ℕ) → k < length s → ((t r : List ℕ) → TextOfLength v t → s ≡ t ++ r → ⊥) → TextOfLength v (take k s ++ z) → k + 1 ≤ v
 not_all v k s [] h n t = absurd (n (take k s ++ []) (drop k s) t (sym (take-append-drop k s) ∙ ap (λ x. x ++ drop k s) (sym (append-nil (take k s)))))
 not_all v k s (c ∷ z) h n t = let e = t.0 in omega (arith, length-append (take k s) (c ∷ z), length-take-le k s (omega arith))
 
-text_bad_here : (v k : ℕ) (s t z y : List ℕ) → k < length s → ((t r : List ℕ) → Text v t → s ≡ t ++ r → ⊥) → (z0 : List ℕ) → Text v (take k s ++ z0) → (k < length s → IsFront (Text v) (take (k + 1) s) → ⊥) → Text v t → take (k + 1) s ++ z ≡ t ++ y → ⊥
+text_bad_here : (v k : ℕ) (s t z y : List ℕ) → k < length s → ((t r : List ℕ) → TextOfLength v t → s ≡ t ++ r → ⊥) → (z0 : List ℕ) → TextOfLength v (take k s ++ z0) → (k < length s → IsFront (TextOfLength v) (take (k + 1) s) → ⊥) → TextOfLength v t → take (k + 1) s ++ z ≡ t ++ y → ⊥
 text_bad_here v k s t z y h n z0 m here x e =
     let a = not_all v k s z0 h n m in
     let l = x.0 in
     let r = front_of (take (k + 1) s) z t y e (omega (arith, length-take-le (k + 1) s (omega arith))) in
-    here h (r.0, subst (Text v) r.1 x)
+    here h (r.0, subst (TextOfLength v) r.1 x)
 
 -- within the bytes of a lexeme
-pub text_bad : (n v k : ℕ) (s : List ℕ) → IsStuck (Text v) s k → IsStuck (TextRest n v) s k
+pub text_bad : (n v k : ℕ) (s : List ℕ) → IsStuck (TextOfLength v) s k → IsStuck (TextRest n v) s k
 text_bad n v k s m = record {
   within = m.within;
   front = (let r = rest_some n in (m.front.0 ++ r.0, (take k s ++ m.front.0, m.front.1, r.0, sym (append_assoc (take k s) m.front.0 r.0), r.1)));

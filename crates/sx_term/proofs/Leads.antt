@@ -4,7 +4,8 @@ use Rattle.std.proofs.lemmas.List.{drop_more, drop-drop}
 use Rattle.sx_term.specs.declared.lex_kind.LexKind.{LexKind}
 use Rattle.sx_term.specs.declared.lex_kind.LexKind.TheVariants.{Id, Num as NumKind, Str}
 use Rattle.sx_term.specs.Core.{kind_byte}
-use Rattle.sx_term.specs.Reading.{IsStuck, IsLongest, IsNumber, IsNoNumber, Rest, Want, Text, LeadsTo, inside, WantOf}
+use Rattle.sx_term.specs.Reading.{IsStuck, IsLongest, IsNumber, IsNoNumber, Rest, Want}
+use Rattle.sx_term.specs.Reading.{TextOfLength, LeadsTo, inside, WantOf}
 use Rattle.sx_term.proofs.Deep.{open_deep, hole_deep, lexeme_deep}
 use Rattle.sx_term.proofs.Grammar.{open_stuck, open_longest, open_none, hole_stuck, hole_longest, hole_none, lexeme_stuck, lexeme_longest, lexeme_none, colon_none, colon_stuck, colon_longest, text_stuck, text_longest, text_bad, want_none, TextRest, Lexeme, close_stuck, close_longest, blank_stuck, blank_longest, rest_none, rest_ends}
 
@@ -45,7 +46,7 @@ hole_leads bs at next v b h e f p q m =
 text_split : (bs : List ℕ) (start v : ℕ) → drop start bs ≡ take v (drop start bs) ++ drop (start + v) bs
 text_split bs start v = sym (take-append-drop v (drop start bs)) ∙ ap (λ x. take v (drop start bs) ++ x) (drop-drop v start bs)
 
-pub lexeme_leads : (bs : List ℕ) (at colon v b c : ℕ) (j : LexKind) → at < length bs → b ≡ get_or bs at 0 → b ≡ kind_byte j → at + 1 < colon → colon < length bs → c ≡ get_or bs colon 0 → c ≡ 58 → colon + 1 + v ≤ length bs → IsNumber (drop (at + 1) bs) 1 65535 v (drop colon bs) → Text v (take v (drop (colon + 1) bs)) → LeadsTo (drop at bs) (drop (colon + 1 + v) bs) (colon + 1 + v - at) false
+pub lexeme_leads : (bs : List ℕ) (at colon v b c : ℕ) (j : LexKind) → at < length bs → b ≡ get_or bs at 0 → b ≡ kind_byte j → at + 1 < colon → colon < length bs → c ≡ get_or bs colon 0 → c ≡ 58 → colon + 1 + v ≤ length bs → IsNumber (drop (at + 1) bs) 1 65535 v (drop colon bs) → TextOfLength v (take v (drop (colon + 1) bs)) → LeadsTo (drop at bs) (drop (colon + 1 + v) bs) (colon + 1 + v - at) false
 lexeme_leads bs at colon v b c j h e f p q g i w m t =
     let s : drop at bs ≡ kind_byte j ∷ drop (at + 1) bs = byte_at bs at b h e ∙ ap (λ x. x ∷ drop (at + 1) bs) f in
     let d : drop colon bs ≡ 58 ∷ drop (colon + 1) bs = byte_at bs colon c q g ∙ ap (λ x. x ∷ drop (colon + 1) bs) i in
@@ -73,7 +74,7 @@ colon_bad bs at colon v b j h e f p q m g n =
     let l = digits_len bs (at + 1) colon v (omega arith) (omega arith) m.spelled in
     moved_stuck (Want n) _ _ _ _ (byte_at bs at b h e ∙ ap (λ x. x ∷ drop (at + 1) bs) f) (omega arith) (lexeme_stuck n v _ j _ _ m (colon_none n v _ g))
 
-pub text_is_bad : (bs : List ℕ) (at colon v b c place : ℕ) (j : LexKind) → at < length bs → b ≡ get_or bs at 0 → b ≡ kind_byte j → at + 1 < colon → colon < length bs → c ≡ get_or bs colon 0 → c ≡ 58 → IsNumber (drop (at + 1) bs) 1 65535 v (drop colon bs) → colon + 1 ≤ place → IsStuck (Text v) (drop (colon + 1) bs) (place - (colon + 1)) → (n : ℕ) → IsStuck (Want n) (drop at bs) (place - at)
+pub text_is_bad : (bs : List ℕ) (at colon v b c place : ℕ) (j : LexKind) → at < length bs → b ≡ get_or bs at 0 → b ≡ kind_byte j → at + 1 < colon → colon < length bs → c ≡ get_or bs colon 0 → c ≡ 58 → IsNumber (drop (at + 1) bs) 1 65535 v (drop colon bs) → colon + 1 ≤ place → IsStuck (TextOfLength v) (drop (colon + 1) bs) (place - (colon + 1)) → (n : ℕ) → IsStuck (Want n) (drop at bs) (place - at)
 text_is_bad bs at colon v b c place j h e f p q g i m w t n =
     let d : drop colon bs ≡ 58 ∷ drop (colon + 1) bs = byte_at bs colon c q g ∙ ap (λ x. x ∷ drop (colon + 1) bs) i in
     let l = digits_len bs (at + 1) colon v (omega arith) (omega arith) m.spelled in
@@ -105,7 +106,7 @@ no_colon_end bs colon h r e = let q = ap length e in omega (arith, length-drop c
 pub no_colon : (bs : List ℕ) (colon c : ℕ) → colon < length bs → c ≡ get_or bs colon 0 → (c ≡ 58 → ⊥) → (r : List ℕ) → drop colon bs ≡ 58 ∷ r → ⊥
 no_colon bs colon c h e f r q = f (let x = sym (byte_at bs colon c h e) ∙ q in let p : c ≡ 58 = cc in p)
 
-pub lexeme_leads_at : (bs : List ℕ) (at colon v b c end : ℕ) (j : LexKind) → end ≡ colon + 1 + v → at < length bs → b ≡ get_or bs at 0 → b ≡ kind_byte j → at + 1 < colon → colon < length bs → c ≡ get_or bs colon 0 → c ≡ 58 → colon + 1 + v ≤ length bs → IsNumber (drop (at + 1) bs) 1 65535 v (drop colon bs) → Text v (take v (drop (colon + 1) bs)) → LeadsTo (drop at bs) (drop end bs) (end - at) false
+pub lexeme_leads_at : (bs : List ℕ) (at colon v b c end : ℕ) (j : LexKind) → end ≡ colon + 1 + v → at < length bs → b ≡ get_or bs at 0 → b ≡ kind_byte j → at + 1 < colon → colon < length bs → c ≡ get_or bs colon 0 → c ≡ 58 → colon + 1 + v ≤ length bs → IsNumber (drop (at + 1) bs) 1 65535 v (drop colon bs) → TextOfLength v (take v (drop (colon + 1) bs)) → LeadsTo (drop at bs) (drop end bs) (end - at) false
 lexeme_leads_at bs at colon v b c end j x h e f p q g i w m t =
     subst (λ (y : ℕ). LeadsTo (drop at bs) (drop y bs) (y - at) false) (sym x) (lexeme_leads bs at colon v b c j h e f p q g i w m t)
 

@@ -7,7 +7,8 @@ use Rattle.sx_term.specs.declared.term.Term.{Term, Node, Node', Lex, Var}
 use Rattle.sx_term.specs.declared.term.Term.TheBlock.{shown-the_row-Term-0, backs-Term}
 use Rattle.sx_term.specs.Tree.{Tree, Trees, node, lexeme, hole, none, ◌▹◌}
 use Rattle.sx_term.specs.Term.{tree}
-use Rattle.sx_term.specs.Bindings.{lookup, instance, instances, Occurs, OccursIn, Extends, MakesEqual, MakesAllEqual}
+use Rattle.sx_term.specs.Bindings.{lookup, instance, instances, Occurs, OccursIn, ExtendsBindings}
+use Rattle.sx_term.specs.Bindings.{MakesEqual, MakesAllEqual}
 use Rattle.sx_term.specs.Matching.{AddsOnlyOf, NoneMakesEqual, IsLeast, Appends}
 use Rattle.sx_term.proofs.Kids.{trees, tree-at_node, trees-drop, trees-drop_all}
 use Rattle.sx_term.proofs.Lookups.{lookup-here, lookup-append, lookup-append_some, lookup-push}
@@ -124,7 +125,7 @@ all_step b c p u ps us least d = (
 pub all_clash : (b : List (ℕ × Tree)) (p u : Tree) (ps us : Trees) → NoneMakesEqual b p u → (d : List (ℕ × Tree)) → MakesAllEqual b d (p ▹ ps) (u ▹ us) → ⊥
 all_clash b p u ps us n d h = n d (record { extends = h.extends; binds = λ v o. h.binds v (inl o); equal = let e = h.equal in cc })
 
-pub all_done : (b d : List (ℕ × Tree)) → MakesAllEqual b d none none ↔ Extends b d
+pub all_done : (b d : List (ℕ × Tree)) → MakesAllEqual b d none none ↔ ExtendsBindings b d
 all_done b d = (λ h. h.extends, λ e. record { extends = e; binds = λ v o. absurd o; equal = refl })
 
 pub node_all : (b : List (ℕ × Tree)) (p u : Tree) (l m : ℕ) (ps us : Trees) → p ≡ node l ps → u ≡ node m us → l ≡ m → (d : List (ℕ × Tree)) → MakesEqual b d p u ↔ MakesAllEqual b d ps us
@@ -171,8 +172,8 @@ SameFrom-clash start now pattern term label other kids others i p u a c g h l e 
 pub SameFrom-done : (start now : List (ℕ × Tree)) (pattern term : Term) (label other : ℕ) (kids others : Vec Term Global) (i : ℕ) → pattern ≡ Node label kids → term ≡ Node other others → label ≡ other → length kids.items ≤ i → length kids.items ≡ length others.items → SameFrom start now kids.items others.items i → IsLeast start now (tree pattern) (tree term)
 SameFrom-done start now pattern term label other kids others i a c g h l s b =
     let k : length others.items ≤ i = omega arith in
-    let P : Trees → Type 0 = λ t. MakesAllEqual now b t (trees (drop i others.items)) ↔ Extends now b in
-    let Q : Trees → Type 0 = λ t. MakesAllEqual now b none t ↔ Extends now b in
+    let P : Trees → Type 0 = λ t. MakesAllEqual now b t (trees (drop i others.items)) ↔ ExtendsBindings now b in
+    let Q : Trees → Type 0 = λ t. MakesAllEqual now b none t ↔ ExtendsBindings now b in
     let done = subst P (sym (trees-drop_all kids.items i h)) (subst Q (sym (trees-drop_all others.items i k)) (all_done now b)) in
     let whole = node_all start (tree pattern) (tree term) label other _ _ (tree-at_node pattern label kids a) (tree-at_node term other others c) g b in
     (λ m. done.0 ((s b).0 (whole.0 m)), λ x. whole.1 ((s b).1 (done.1 x)))

@@ -8,7 +8,7 @@ use Rattle.sx_term.specs.Tree.{Tree, depth_of}
 use Rattle.sx_term.specs.Term.{tree}
 use Rattle.sx_term.specs.Core.{core, HasCore, NoDigit}
 use Rattle.sx_term.specs.Reading.{IsLongest, Want}
-use Rattle.sx_term.specs.Read.{IsRead, StandsAt}
+use Rattle.sx_term.specs.Read.{IsTermRead, StandsAt}
 use Rattle.sx_term.proofs.OneReading.{one_reading, read_again}
 
 -- the longest text at a place has one length
@@ -34,7 +34,7 @@ stands_again before t u rest to h n s =
     let past = s.past in
     ((one_reading u t [] [] s.has_core h nothing_no_digit nothing_no_digit (ap (λ z. z ++ []) e)).0, omega arith)
 
-pub written_core_is_read : (before : List ℕ) (t : Tree) (rest : List ℕ) (read : Result (Term × ℕ) CoreError) → HasCore t → depth_of t ≤ 1000 → NoDigit rest → IsRead (before ++ (core t ++ rest)) (length before) read
+pub written_core_is_read : (before : List ℕ) (t : Tree) (rest : List ℕ) (read : Result (Term × ℕ) CoreError) → HasCore t → depth_of t ≤ 1000 → NoDigit rest → IsTermRead (before ++ (core t ++ rest)) (length before) read
     → MatchResult read (λ r. (tree r.0 ≡ t) × (r.1 ≡ length before + length (core t))) (λ e. e ≡ Memory)
 written_core_is_read before t rest (Ok r) h l n s = stands_again before t (tree r.0) rest r.1 h n s.0
 written_core_is_read before t rest (Err (BadCore place)) h l n s =

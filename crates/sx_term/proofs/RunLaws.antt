@@ -4,10 +4,10 @@ use Rattle.std.specs.Char.{encode_utf8}
 use Rattle.std.specs.Str.{encode_utf8_all}
 use Rattle.std.specs.List.{AllByRecursion}
 use Rattle.std.proofs.lemmas.Str.{encode_same}
-use Rattle.sx_term.specs.Cutting.{BeginsWith, IsMaximalRun, IsWord, IsString}
+use Rattle.sx_term.specs.Cutting.{BeginsWhere, IsMaximalRun, IsWord, IsString}
 
 -- a text that is the characters cs before x, with no such character at the front of x, is it in one way
-run_same : (p : ℕ → Bool) (cs ds x y : List ℕ) → AllByRecursion (λ c. IsTrue (p c)) cs → AllByRecursion (λ c. IsTrue (p c)) ds → ¬ (BeginsWith p x) → ¬ (BeginsWith p y)
+run_same : (p : ℕ → Bool) (cs ds x y : List ℕ) → AllByRecursion (λ c. IsTrue (p c)) cs → AllByRecursion (λ c. IsTrue (p c)) ds → ¬ (BeginsWhere p x) → ¬ (BeginsWhere p y)
     → encode_utf8_all cs ++ x ≡ encode_utf8_all ds ++ y → (cs ≡ ds) × (x ≡ y)
 run_same p [] [] x y hc hd nx ny e = (refl, e)
 run_same p [] (d ∷ ds) x y hc hd nx ny e = absurd (nx (d, encode_utf8_all ds ++ y, hd.0, e ∙ append_assoc (encode_utf8 d) (encode_utf8_all ds) y))

@@ -9,7 +9,7 @@ use Rattle.std.proofs.Math.Seq.{take-length, drop-length, take-append_seam, drop
 use Rattle.std.proofs.lemmas.Str.{encode_same, length-encode, len_utf8_bounds, drop_past_char, IsCharBoundary-past_char}
 use Rattle.std.proofs.lemmas.Bool.{false≢true}
 use Rattle.unicode_ident.specs.Ident.{is_xid_continue}
-use Rattle.sx_term.specs.Cutting.{BeginsWith, AreCharacters, IsMaximalRun, IsWord, begins_word}
+use Rattle.sx_term.specs.Cutting.{BeginsWhere, AreCharacters, IsMaximalRun, IsWord, begins_word}
 
 not_false : (b : Bool) → not b ≡ false → b ≡ true
 not_false true e = refl
@@ -26,10 +26,10 @@ all_pass p (c ∷ cs) h = (not_false (p c) h.0, all_pass p cs h.1)
 are_characters : (p : ℕ → Bool) (run : List ℕ) → NoCharPasses (λ c. not (p c)) run → AreCharacters p run
 are_characters p run (cs, e, none) = (cs, all_pass p cs none, sym e)
 
-pub empty_begins : (p : ℕ → Bool) → ¬ (BeginsWith p [])
+pub empty_begins : (p : ℕ → Bool) → ¬ (BeginsWhere p [])
 empty_begins p (c, tail, pass, e) = absurd (omega (arith, ap length e, length-append (encode_utf8 c) tail, length-encode c, (len_utf8_bounds c).0))
 
-stops : (p : ℕ → Bool) (c : ℕ) (text rest : List ℕ) → not (p c) ≡ true → text ≡ encode_utf8 c ++ rest → ¬ (BeginsWith p text)
+stops : (p : ℕ → Bool) (c : ℕ) (text rest : List ℕ) → not (p c) ≡ true → text ≡ encode_utf8 c ++ rest → ¬ (BeginsWhere p text)
 stops p c text rest fails e (d, tail, pass, f) = not_true (p c) fails (ap p (encode_same c d rest tail (sym e ∙ f)).0 ∙ pass)
 
 pub found : (p : ℕ → Bool) (M : (ℕ → Bool) → Type 0) (text : List ℕ) (r : Option ℕ) (n : ℕ) → M (λ c. not (p c))
@@ -40,13 +40,13 @@ found p M text None n answers h e =
     let nothing : drop n text ≡ [] = ap (λ k. drop k text) e ∙ drop-length text in
     record {
       characters = subst (AreCharacters p) (sym all) (are_characters p text (h (λ c. not (p c)) answers));
-      maximal = subst (λ t. ¬ (BeginsWith p t)) (sym nothing) (empty_begins p);
+      maximal = subst (λ t. ¬ (BeginsWhere p t)) (sym nothing) (empty_begins p);
     }
 found p M text (Some i) n answers h e =
     let at = h.1 (λ c. not (p c)) answers in
     record {
       characters = subst (λ k. AreCharacters p (take k text)) (sym e) (are_characters p (take i text) at.0);
-      maximal = subst (λ k. ¬ (BeginsWith p (drop k text))) (sym e) (stops p at.1.0 (drop i text) (drop h.0 text) at.1.1 at.1.2.split);
+      maximal = subst (λ k. ¬ (BeginsWhere p (drop k text))) (sym e) (stops p at.1.0 (drop i text) (drop h.0 text) at.1.1 at.1.2.split);
     }
 
 -- a text that begins with a character c
@@ -56,10 +56,10 @@ past_char text rest c e = e ∙ ap (λ t. encode_utf8 c ++ t) (sym (rw zero-add 
 pub past_char_boundary : (text rest : List ℕ) (c : ℕ) → IsUtf8 text → text ≡ encode_utf8 c ++ rest → IsCharBoundary text (len_utf8 c)
 past_char_boundary text rest c utf8 e = rw zero-add at (IsCharBoundary-past_char text rest 0 c (omega arith) utf8 e)
 
-pub no_begin_in_empty : (p : ℕ → Bool) (text : List ℕ) → text ≡ [] → ¬ (BeginsWith p text)
-no_begin_in_empty p text nothing = subst (λ t. ¬ (BeginsWith p t)) (sym nothing) (empty_begins p)
+pub no_begin_in_empty : (p : ℕ → Bool) (text : List ℕ) → text ≡ [] → ¬ (BeginsWhere p text)
+no_begin_in_empty p text nothing = subst (λ t. ¬ (BeginsWhere p t)) (sym nothing) (empty_begins p)
 
-pub no_begin_here : (p : ℕ → Bool) (text rest : List ℕ) (c : ℕ) → p c ≡ false → text ≡ encode_utf8 c ++ rest → ¬ (BeginsWith p text)
+pub no_begin_here : (p : ℕ → Bool) (text rest : List ℕ) (c : ℕ) → p c ≡ false → text ≡ encode_utf8 c ++ rest → ¬ (BeginsWhere p text)
 no_begin_here p text rest c fails e (d, tail, pass, f) = absurd (false≢true (sym fails ∙ ap p (encode_same c d rest tail (sym e ∙ f)).0 ∙ pass))
 
 pub word_here : (text others : List ℕ) (c n k : ℕ) → begins_word c ≡ true → text ≡ encode_utf8 c ++ others → n ≡ length (encode_utf8 c) → IsMaximalRun is_xid_continue (take k others) (drop k others)

@@ -11,31 +11,32 @@ use Rattle.unicode_ident.proofs.IdentLemmas.{is_xid_continue-ascii}
 use Rattle.sx_term.specs.declared.lex_kind.LexKind.TheVariants.{Id, Num, Str}
 use Rattle.sx_term.specs.declared.mark.Mark.{Mark}
 use Rattle.sx_term.specs.declared.mark.Mark.TheVariants.{Lit, Lex, Meta}
-use Rattle.sx_term.specs.Cutting.{is_blank, is_symbol, is_in_string, BeginsWith, IsWord, BeginsComment, Stands, Cuts, done, skip, piece, IsOutcome, tokens}
+use Rattle.sx_term.specs.Cutting.{is_blank_or_feed, is_symbol, is_in_string, BeginsWhere, IsWord}
+use Rattle.sx_term.specs.Cutting.{BeginsComment, Stands, Cuts, done, skip, piece, IsOutcome, tokens}
 use Rattle.sx_term.specs.Spaced.{IsSymbolLiteral, IsTokenText, spaced, placed, AreBlanks}
 use Rattle.sx_term.proofs.Firsts.{blank_low, blank_others, symbol_others}
 
 -- a text that is empty or begins with a blank
 data Ends : List ℕ → Type 0 where
   empty : Ends []
-  blank : {b : ℕ} {more : List ℕ} → is_blank b ≡ true → Ends (b ∷ more)
+  blank : {b : ℕ} {more : List ℕ} → is_blank_or_feed b ≡ true → Ends (b ∷ more)
 
-no_begin : (p : ℕ → Bool) (rest : List ℕ) → ((b : ℕ) → is_blank b ≡ true → p b ≡ false) → Ends rest → ¬ (BeginsWith p rest)
+no_begin : (p : ℕ → Bool) (rest : List ℕ) → ((b : ℕ) → is_blank_or_feed b ≡ true → p b ≡ false) → Ends rest → ¬ (BeginsWhere p rest)
 no_begin p [] fails empty (c, tail, pass, e) = absurd (omega (arith, ap length e, length-append (encode_utf8 c) tail, length-encode c, (len_utf8_bounds c).0))
 no_begin p (b ∷ more) fails (blank h) (c, tail, pass, e) =
     let same = (encode_same b c more tail (ap (λ t. t ++ more) (encode_ascii b (blank_low b h)) ∙ e)).0 in
     absurd (false≢true (sym (fails b h) ∙ ap p same ∙ pass))
 
-blank_no_digit : (b : ℕ) → is_blank b ≡ true → is_ascii_digit b ≡ false
+blank_no_digit : (b : ℕ) → is_blank_or_feed b ≡ true → is_ascii_digit b ≡ false
 blank_no_digit b h = (blank_others b h).1
 
-blank_no_alphanumeric : (b : ℕ) → is_blank b ≡ true → (is_ascii_alphanumeric b || (b == 95)) ≡ false
+blank_no_alphanumeric : (b : ℕ) → is_blank_or_feed b ≡ true → (is_ascii_alphanumeric b || (b == 95)) ≡ false
 blank_no_alphanumeric b h = grind (arith, nat_tests)
 
-blank_no_continue : (b : ℕ) → is_blank b ≡ true → is_xid_continue b ≡ false
+blank_no_continue : (b : ℕ) → is_blank_or_feed b ≡ true → is_xid_continue b ≡ false
 blank_no_continue b h = is_xid_continue-ascii b (blank_low b h) ∙ blank_no_alphanumeric b h
 
-quote_no_begin : (rest : List ℕ) → ¬ (BeginsWith is_in_string (34 ∷ rest))
+quote_no_begin : (rest : List ℕ) → ¬ (BeginsWhere is_in_string (34 ∷ rest))
 quote_no_begin rest (c, tail, pass, e) =
     let same = (encode_same 34 c rest tail (ap (λ t. t ++ rest) (encode_ascii 34 (lit< tt)) ∙ e)).0 in
     absurd (false≢true (ap is_in_string same ∙ pass))
@@ -55,7 +56,7 @@ no_further text rest [] more ends all e = omega arith
 no_further [] [] (o ∷ other) more empty all e = absurd (omega (arith, ap length e))
 no_further [] (b ∷ rest) (o ∷ other) more (blank h) all e =
     let same : b ≡ o = cc in
-    absurd (false≢true (sym (symbol_others o all.0).4 ∙ ap is_blank (sym same) ∙ h))
+    absurd (false≢true (sym (symbol_others o all.0).4 ∙ ap is_blank_or_feed (sym same) ∙ h))
 no_further (t ∷ text) rest (o ∷ other) more ends all e =
     let tails : text ++ rest ≡ other ++ more = cc in
     omega (arith, no_further text rest other more ends all.1 tails)
@@ -65,7 +66,7 @@ no_comment_here [] rest ends h (more, e) = absurd (omega (arith, h.0.0))
 no_comment_here (x ∷ []) [] empty h (more, e) = absurd (omega (arith, ap length e))
 no_comment_here (x ∷ []) (b ∷ rest) (blank h) s (more, e) =
     let same : b ≡ 47 = cc in
-    absurd (false≢true (ap is_blank (sym same) ∙ h))
+    absurd (false≢true (ap is_blank_or_feed (sym same) ∙ h))
 no_comment_here (x ∷ y ∷ text) rest ends h (more, e) =
     let one : x ≡ 47 = cc in
     let two : y ≡ 47 = cc in
@@ -116,7 +117,7 @@ spaced_cut literals metas size from (t ∷ u ∷ ts) ending all blanks at =
       to = omega (arith, long);
     }) (skip (inl (32, refl, refl)) (spaced_cut literals metas size (from + length t.1 + 1) (u ∷ ts) ending all.1 blanks long))
 
-blank_utf8 : (b : ℕ) → is_blank b ≡ true → IsUtf8 (b ∷ [])
+blank_utf8 : (b : ℕ) → is_blank_or_feed b ≡ true → IsUtf8 (b ∷ [])
 blank_utf8 b h = IsUtf8-from_ascii (b ∷ []) (λ i. one_low b (blank_low b h) i)
   where
     one_low : (b : ℕ) → b < 128 → (i : ℕ) → get_or (b ∷ []) i 0 < 128

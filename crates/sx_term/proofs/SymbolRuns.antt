@@ -8,7 +8,8 @@ use Rattle.std.proofs.Math.Seq.{take-length, drop-length}
 use Rattle.std.proofs.lemmas.List.{append-nil}
 use Rattle.std.proofs.lemmas.Bool.Decides.{nat_tests}
 use Rattle.std.proofs.lemmas.Str.{encode_ascii}
-use Rattle.sx_term.specs.Cutting.{is_symbol, begins_word, BeginsWith, AreCharacters, IsMaximalRun, IsWord, AreSymbols}
+use Rattle.sx_term.specs.Cutting.{is_symbol, begins_word, BeginsWhere, AreCharacters, IsMaximalRun}
+use Rattle.sx_term.specs.Cutting.{IsWord, AreSymbols}
 use Rattle.sx_term.specs.Spaced.{IsWordLiteral, IsSymbolLiteral}
 use Rattle.sx_term.proofs.RunLaws.{IsWord-same}
 use Rattle.sx_term.proofs.Firsts.{Word, Symbol, HasClass-same, HasClass-word, HasClass-symbols}
@@ -28,7 +29,7 @@ pub Symbols-run : (run : List ℕ) → AreCharacters is_symbol run → Symbols r
 Symbols-run run (cs, all, e) = subst Symbols (sym (e ∙ encoded cs all)) all
 
 -- symbol characters at the front reach no further than the run
-pub reaches : (run rest other more : List ℕ) → ¬ (BeginsWith is_symbol rest) → Symbols other → run ++ rest ≡ other ++ more → length other ≤ length run
+pub reaches : (run rest other more : List ℕ) → ¬ (BeginsWhere is_symbol rest) → Symbols other → run ++ rest ≡ other ++ more → length other ≤ length run
 reaches run rest [] more stops all e = omega arith
 reaches [] rest (o ∷ other) more stops all e = absurd (stops (o, other ++ more, all.0, e ∙ ap (λ t. t ++ (other ++ more)) (sym (encode_ascii o (symbol_low o all.0)))))
 reaches (r ∷ run) rest (o ∷ other) more stops all e =
@@ -47,7 +48,7 @@ word_len_whole text n fits literal w =
     let same = IsWord-same (take n text) text (drop n text) [] w literal (take-append-drop n text ∙ sym (append-nil text)) in
     omega (arith, fits, ap length same.1, length-drop n text)
 
-pub word_begins : (text : List ℕ) → IsWordLiteral text → BeginsWith begins_word text
+pub word_begins : (text : List ℕ) → IsWordLiteral text → BeginsWhere begins_word text
 word_begins text w = (w.first, w.others, w.begins, w.split)
 
 -- a text that is one run of symbol characters

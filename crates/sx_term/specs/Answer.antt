@@ -4,7 +4,7 @@ use Rattle.std.specs.Prelude.{◌≡◌, Result, Ok, Err}
 -- What a call returned is the answer: its value, as view shows it, is the answer's value, and its
 -- refusal stands to the answer as Refuses says. Where memory may run out, Refuses holds of that
 -- error and every answer.
-abbrev pub Gives : {X Y E F : Type 0} → (X → Y) → (E → Result Y F → Type 0) → Result X E →
+abbrev pub GivesAnswer : {X Y E F : Type 0} → (X → Y) → (E → Result Y F → Type 0) → Result X E →
     Result Y F → Type 0
-Gives view Refuses (Ok x) answer = answer ≡ Ok (view x)
-Gives view Refuses (Err e) answer = Refuses e answer
+GivesAnswer view Refuses (Ok x) answer = answer ≡ Ok (view x)
+GivesAnswer view Refuses (Err e) answer = Refuses e answer

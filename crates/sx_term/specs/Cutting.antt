@@ -11,8 +11,8 @@ use Rattle.sx_term.specs.declared.mark.Mark.TheVariants.{Lit, Lex, Meta}
 use Rattle.sx_term.specs.Limits.{most_tokens}
 
 -- space, tab, line feed and carriage return
-abbrev pub is_blank : ℕ → Bool
-is_blank c = ((c == 32) || (c == 9)) || ((c == 10) || (c == 13))
+abbrev pub is_blank_or_feed : ℕ → Bool
+is_blank_or_feed c = ((c == 32) || (c == 9)) || ((c == 10) || (c == 13))
 
 -- ASCII punctuation other than `"`, `_` and `~`
 abbrev pub is_symbol : ℕ → Bool
@@ -31,8 +31,8 @@ abbrev pub is_in_string : ℕ → Bool
 is_in_string c = not ((c == 34) || (c == 10))
 
 -- the text begins with a character that passes the test
-abbrev pub BeginsWith : (ℕ → Bool) → List ℕ → Type 0
-BeginsWith p text = (c : ℕ) × (rest : List ℕ) × IsTrue (p c) × (text ≡ encode_utf8 c ++ rest)
+abbrev pub BeginsWhere : (ℕ → Bool) → List ℕ → Type 0
+BeginsWhere p text = (c : ℕ) × (rest : List ℕ) × IsTrue (p c) × (text ≡ encode_utf8 c ++ rest)
 
 -- the bytes are characters that pass the test
 abbrev pub AreCharacters : (ℕ → Bool) → List ℕ → Type 0
@@ -42,7 +42,7 @@ AreCharacters p run = (cs : List ℕ) × AllByRecursion (λ c. IsTrue (p c)) cs 
 -- a maximal run of such characters, before the rest
 pub record IsMaximalRun (p : ℕ → Bool) (run rest : List ℕ) : Type 0 where
   pub characters : AreCharacters p run
-  pub maximal : ¬ (BeginsWith p rest)
+  pub maximal : ¬ (BeginsWhere p rest)
 
 -- a maximal word, before the rest
 pub record IsWord (text rest : List ℕ) : Type 0 where
@@ -85,7 +85,7 @@ Stands literals metas Meta text rest = IsTrue metas ×
 
 -- the text is a blank, or a comment up to its line's end, and then the rest
 abbrev pub Skips : List ℕ → List ℕ → Type 0
-Skips text rest = ((b : ℕ) × IsTrue (is_blank b) × (text ≡ b ∷ rest))
+Skips text rest = ((b : ℕ) × IsTrue (is_blank_or_feed b) × (text ≡ b ∷ rest))
     ⊎ ((line : List ℕ) × (text ≡ 47 ∷ 47 ∷ line ++ rest) × IsMaximalRun is_in_line line rest)
 
 -- a token as plain data, with the places of its first byte and of the byte after it

@@ -3,7 +3,7 @@ use Rattle.std.specs.Prelude.{◌≡◌, ◌↔◌, ℕ, List, ◌++◌, ◌⊎�
 use Rattle.sx_term.specs.declared.fit.Fit.{Fit}
 use Rattle.sx_term.specs.declared.fit.Fit.TheVariants.{Matched, Clash}
 use Rattle.sx_term.specs.Tree.{Tree}
-use Rattle.sx_term.specs.Bindings.{lookup, Occurs, Extends, MakesEqual}
+use Rattle.sx_term.specs.Bindings.{lookup, Occurs, ExtendsBindings, MakesEqual}
 
 -- what is bound besides are variables of the pattern
 abbrev pub AddsOnlyOf : List (ℕ × Tree) → List (ℕ × Tree) → Tree → Type 0
@@ -24,7 +24,7 @@ IsFit earlier later pattern term Clash = NoneMakesEqual earlier pattern term × 
 -- the bindings that make the pattern's instance the term are just those that extend the later ones
 abbrev pub IsLeast : List (ℕ × Tree) → List (ℕ × Tree) → Tree → Tree → Type 0
 IsLeast earlier later pattern term = (b : List (ℕ × Tree)) →
-    MakesEqual earlier b pattern term ↔ Extends later b
+    MakesEqual earlier b pattern term ↔ ExtendsBindings later b
 
 -- the later bindings are the earlier ones with more entries behind them
 abbrev pub Appends : List (ℕ × Tree) → List (ℕ × Tree) → Type 0

@@ -35,8 +35,8 @@ abbrev pub Want : ℕ → List ℕ → Type 0
 Want n x = (t : Tree) × HasCore t × (y : List ℕ) × (x ≡ core t ++ y) × Rest n y
 
 -- a text of so many bytes
-abbrev pub Text : ℕ → List ℕ → Type 0
-Text len t = (length t ≡ len) × IsUtf8 t
+abbrev pub TextOfLength : ℕ → List ℕ → Type 0
+TextOfLength len t = (length t ≡ len) × IsUtf8 t
 
 -- s begins with the longest number from least to most
 pub record IsNumber (s : List ℕ) (least most number : ℕ) (rest : List ℕ) : Type 0 where
@@ -95,19 +95,21 @@ high x = if x == 237 then 159 else (if x == 244 then 143 else 191)
 -- so many more bytes of a character, the first from least to most, and a text of len bytes behind
 -- them
 abbrev pub Run : ℕ → ℕ → ℕ → ℕ → List ℕ → Type 0
-Run len zero least most z = Text len z
+Run len zero least most z = TextOfLength len z
 Run len (suc n) least most z = (y : ℕ) × (rest : List ℕ) × (z ≡ y ∷ rest) × (least ≤ y) ×
     (y ≤ most) × Run len n 128 191 rest
 
 -- the bytes so far pass for so many more bytes of a character
 pub record RunsTo (s after : List ℕ) (n least most : ℕ) : Type 0 where
-  pub stuck : (len k : ℕ) → IsStuck (Text len) after k → IsStuck (Run len n least most) s (k + n)
-  pub text : (len : ℕ) (t : List ℕ) → Text len t → Run len n least most (take n s ++ t)
+  pub stuck : (len k : ℕ) → IsStuck (TextOfLength len) after k → IsStuck (Run len n least most) s
+      (k + n)
+  pub text : (len : ℕ) (t : List ℕ) → TextOfLength len t → Run len n least most (take n s ++ t)
 
 -- the bytes so far pass for a front of a text of len bytes
 pub record PassesText (s after : List ℕ) (len size : ℕ) : Type 0 where
-  pub stuck : (k : ℕ) → IsStuck (Text (len - size)) after k → IsStuck (Text len) s (k + size)
-  pub text : (t : List ℕ) → Text (len - size) t → Text len (take size s ++ t)
+  pub stuck : (k : ℕ) → IsStuck (TextOfLength (len - size)) after k → IsStuck (TextOfLength len) s
+      (k + size)
+  pub text : (t : List ℕ) → TextOfLength (len - size) t → TextOfLength len (take size s ++ t)
 
 -- the core text of the term stands at the front of s, and no digit behind it
 abbrev pub Starts : List ℕ → Tree → Type 0

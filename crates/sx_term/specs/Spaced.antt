@@ -6,7 +6,8 @@ use Rattle.std.specs.List.{AllByRecursion, join_with_byte}
 use Rattle.sx_term.specs.declared.lex_kind.LexKind.TheVariants.{Id, Num, Str}
 use Rattle.sx_term.specs.declared.mark.Mark.{Mark}
 use Rattle.sx_term.specs.declared.mark.Mark.TheVariants.{Lit, Lex, Meta}
-use Rattle.sx_term.specs.Cutting.{is_blank, AreCharacters, IsWord, AreSymbols, IsString, Piece}
+use Rattle.sx_term.specs.Cutting.{is_blank_or_feed, AreCharacters, IsWord, AreSymbols, IsString}
+use Rattle.sx_term.specs.Cutting.{Piece}
 
 -- a literal that is a word
 abbrev pub IsWordLiteral : List ℕ → Type 0
@@ -43,4 +44,4 @@ placed from (t ∷ ts) = record {
 
 -- each byte is a blank
 abbrev pub AreBlanks : List ℕ → Type 0
-AreBlanks text = AllByRecursion (λ b. IsTrue (is_blank b)) text
+AreBlanks text = AllByRecursion (λ b. IsTrue (is_blank_or_feed b)) text

@@ -8,9 +8,9 @@ use Rattle.sx_term.specs.Term.{tree}
 use Rattle.sx_term.specs.Limits.{most_depth, most_size}
 
 -- the instance within the limits, or the first limit that it passes
-abbrev pub IsWithinLimits : Tree → Result Term TermError → Type 0
-IsWithinLimits t (Ok made) = (tree made ≡ t) × (depth_of t ≤ most_depth) × (size_of t ≤ most_size)
-IsWithinLimits t (Err (TooDeep depth)) = (most_depth < depth_of t) × (depth ≡ depth_of t)
-IsWithinLimits t (Err (TooBig nodes)) = (depth_of t ≤ most_depth) × (most_size < size_of t) ×
+abbrev pub IsInstanceWithin : Tree → Result Term TermError → Type 0
+IsInstanceWithin t (Ok made) = (tree made ≡ t) × (depth_of t ≤ most_depth) × (size_of t ≤ most_size)
+IsInstanceWithin t (Err (TooDeep depth)) = (most_depth < depth_of t) × (depth ≡ depth_of t)
+IsInstanceWithin t (Err (TooBig nodes)) = (depth_of t ≤ most_depth) × (most_size < size_of t) ×
     (nodes ≡ min (size_of t) (2 ^ 64 - 1))
-IsWithinLimits t (Err Memory) = Unit {0}
+IsInstanceWithin t (Err Memory) = Unit {0}

@@ -6,7 +6,7 @@ use Rattle.sx_term.specs.declared.text_error.TextError.{TextError}
 use Rattle.sx_term.specs.declared.text_error.TextError.TheVariants.{NotUtf8, Memory}
 
 -- the text, or how many bytes stand before the first that are not UTF-8
-abbrev pub IsMade : List ℕ → Result (List ℕ) TextError → Type 0
-IsMade bytes (Ok text) = (text ≡ bytes) × IsUtf8 bytes
-IsMade bytes (Err (NotUtf8 place)) = (IsUtf8 bytes → ⊥) × (place ≡ utf8_valid_len bytes)
-IsMade bytes (Err Memory) = Unit {0}
+abbrev pub IsTextMade : List ℕ → Result (List ℕ) TextError → Type 0
+IsTextMade bytes (Ok text) = (text ≡ bytes) × IsUtf8 bytes
+IsTextMade bytes (Err (NotUtf8 place)) = (IsUtf8 bytes → ⊥) × (place ≡ utf8_valid_len bytes)
+IsTextMade bytes (Err Memory) = Unit {0}

@@ -6,7 +6,7 @@ ghost use Rattle.std.specs.Prelude.{if◌then◌else◌, slice_get, length, take
 ghost use Rattle.sx_term.specs.Tree.{depth_of};
 ghost use Rattle.sx_term.specs.Term.{tree};
 ghost use Rattle.sx_term.specs.Bindings.{lookup};
-ghost use Rattle.sx_term.specs.Bound.{bindings, entry, IsFirstAt};
+ghost use Rattle.sx_term.specs.Bound.{bindings, bound_entry, IsFirstAt};
 ghost use Rattle.sx_term.specs.Limits.{most_depth};
 
 use crate::binding::Binding;

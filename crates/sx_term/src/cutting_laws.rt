@@ -9,7 +9,7 @@ ghost use Rattle.sx_term.specs.Spaced.{IsTokenText, spaced, placed, AreBlanks};
 ghost use Rattle.sx_term.specs.Limits.{most_tokens};
 
 /// The cutting of a text is one: it has its tokens or its first defect, and no two of them.
-pub fn one_outcome()
+pub fn one_cutting()
     ensures { (literals : List (List ℕ)) (metas : Bool) (bytes : List ℕ) (one other : Outcome) →
         AreDistinct literals → IsOutcome literals metas bytes one →
         IsOutcome literals metas bytes other → one ≡ other }

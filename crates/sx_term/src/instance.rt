@@ -5,7 +5,7 @@ ghost use Rattle.sx_term.specs.Tree.{depth_of, size_of};
 ghost use Rattle.sx_term.specs.Term.{tree};
 ghost use Rattle.sx_term.specs.Bindings.{instance};
 ghost use Rattle.sx_term.specs.Bound.{bindings};
-ghost use Rattle.sx_term.specs.Subst.{IsWithinLimits};
+ghost use Rattle.sx_term.specs.Subst.{IsInstanceWithin};
 ghost use Rattle.sx_term.specs.Limits.{most_depth};
 
 use crate::bindings::Bindings;
@@ -22,7 +22,7 @@ use std::alloc::Global;
 /// than 1,000, and else as TooBig where it has more than 1,000,000 nodes, lexemes and variables.
 pub fn subst(alloc: Global, term: &Term, with: &Bindings) -> Result<Term, TermError>
     requires { depth_of (tree term.now) ≤ most_depth }
-    ensures { IsWithinLimits (instance (bindings with.now) (tree term.now)) result }
+    ensures { IsInstanceWithin (instance (bindings with.now) (tree term.now)) result }
 {
     let depth = instance_depth(term, with);
     if depth > MOST_DEPTH {

@@ -52,7 +52,7 @@ pub use bindings::Bindings;
 pub use con::Con;
 pub use core_error::CoreError;
 pub use core_text::write_core;
-pub use cutting_laws::{one_outcome, spaced_is_cut};
+pub use cutting_laws::{one_cutting, spaced_is_cut};
 pub use fit::Fit;
 pub use instance::subst;
 pub use laws::{one_reading, read_again, written_core_is_read};

@@ -3,7 +3,7 @@
 ghost use Rattle.std.specs.Prelude.{◌≡◌, ◌<◌, ◌≤◌, ◌++◌, length, take, drop, [], IfNone, IfSome};
 ghost use Rattle.std.specs.Char.{encode_utf8, len_utf8};
 ghost use Rattle.std.specs.Str.{IsCharBoundary};
-ghost use Rattle.sx_term.specs.Cutting.{is_symbol, begins_word, BeginsWith, IsMaximalRun, IsWord};
+ghost use Rattle.sx_term.specs.Cutting.{is_symbol, begins_word, BeginsWhere, IsMaximalRun, IsWord};
 ghost use Rattle.sx_term.specs.Run.{passes};
 
 use unicode_ident::{is_xid_continue, is_xid_start};
@@ -71,7 +71,7 @@ pub fn first_char(text: &str) -> Option<char>
 /// How many bytes the word at the front of the text takes, or 0 where none begins there.
 pub fn word_len(text: &str) -> usize
     ensures word { 0 < result → IsWord (take result text.now) (drop result text.now) }
-    ensures none { result ≡ 0 → ¬ (BeginsWith begins_word text.now) }
+    ensures none { result ≡ 0 → ¬ (BeginsWhere begins_word text.now) }
     ensures bound { result ≤ length text.now }
     ensures boundary { IsCharBoundary text.now result }
 {

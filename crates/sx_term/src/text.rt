@@ -2,7 +2,7 @@
 
 ghost use Rattle.std.specs.Prelude.{◌≡◌, ℕ, ◌+◌, ◌<◌, ◌≤◌, ◌↔◌, IsTrue, IfOk};
 ghost use Rattle.std.specs.Str.{IsUtf8};
-ghost use Rattle.sx_term.specs.Text.{IsMade};
+ghost use Rattle.sx_term.specs.Text.{IsTextMade};
 
 use crate::no_memory::NoMemory;
 use crate::text_error::TextError;
@@ -61,7 +61,7 @@ impl Hash for Text {
 impl Text {
     /// The text with these bytes, or NotUtf8 exactly where they are not UTF-8.
     pub fn make(alloc: Global, bytes: &[u8]) -> Result<Text, TextError>
-        ensures { IsMade bytes.now result }
+        ensures { IsTextMade bytes.now result }
     {
         match str::from_utf8(bytes) {
             Ok(s) => Ok(Text {

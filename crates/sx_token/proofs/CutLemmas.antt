@@ -3,10 +3,11 @@ use Rattle.std.proofs.Common.{◌≡◌, ℕ, ◌-◌, ◌≤◌, List, [], ◌�
 use Rattle.std.specs.Str.{IsUtf8}
 use Rattle.std.proofs.lemmas.Str.{IsUtf8-drop}
 use Rattle.sx_term.specs.declared.mark.Mark.{Mark}
-use Rattle.sx_term.specs.Cutting.{Cuts, done, skip, piece, Skips, Stands, StandsAt, Piece, Outcome, IsOutcome, AreDistinct}
+use Rattle.sx_term.specs.Cutting.{Cuts, done, skip, piece, Skips, Stands, StandsAt, Piece, Outcome}
+use Rattle.sx_term.specs.Cutting.{IsOutcome, AreDistinct}
 use Rattle.std.specs.Prelude.{IfSome}
 use Rattle.sx_term.proofs.CutLaws.{IsOutcome-same}
-use Rattle.sx_token.specs.Front.{IsCut}
+use Rattle.sx_token.specs.Front.{AreWholeCharacters}
 
 -- the text up to the rest is cut into these tokens
 pub record CutBefore (literals : List (List ℕ)) (metas : Bool) (text : List ℕ) (ts : List Piece) (rest : List ℕ) : Type 0 where
@@ -30,7 +31,7 @@ module _ (literals : List (List ℕ)) (metas : Bool) (text : List ℕ) where
   pub cut_none : IsUtf8 text → CutBefore literals metas text [] text
   cut_none utf8 = record { cuts = done; few = omega arith; fits = omega arith; utf8 = utf8 }
 
-  pub cut_skip : (ts : List Piece) (rest after : List ℕ) (n : ℕ) → CutBefore literals metas text ts rest → IsCut rest n × Skips rest (drop n rest) → after ≡ drop n rest → CutBefore literals metas text ts after
+  pub cut_skip : (ts : List Piece) (rest after : List ℕ) (n : ℕ) → CutBefore literals metas text ts rest → AreWholeCharacters rest n × Skips rest (drop n rest) → after ≡ drop n rest → CutBefore literals metas text ts after
   cut_skip ts rest after n before is e = subst (CutBefore literals metas text ts) (sym e) (record {
     cuts = Cuts-skip before.cuts is.1;
     few = before.few;
@@ -47,7 +48,7 @@ module _ (literals : List (List ℕ)) (metas : Bool) (text : List ℕ) where
     to = omega (arith, to, fits, length-drop n rest);
   }
 
-  pub cut_token : (ts us : List Piece) (rest after : List ℕ) (t : Piece) (n : ℕ) → CutBefore literals metas text ts rest → IsCut rest n × Stands literals metas t.mark (take n rest) (drop n rest)
+  pub cut_token : (ts us : List Piece) (rest after : List ℕ) (t : Piece) (n : ℕ) → CutBefore literals metas text ts rest → AreWholeCharacters rest n × Stands literals metas t.mark (take n rest) (drop n rest)
       → t.text ≡ take n rest → after ≡ drop n rest → t.from ≡ length text - length rest → t.to ≡ length text - length after → (length ts ≡ 10000 → ⊥) → us ≡ ts ++ t ∷ [] → CutBefore literals metas text us after
   cut_token ts us rest after t n before is token e from to room more =
       let ends : t.to ≡ length text - length (drop n rest) = to ∙ ap (λ a. length text - length a) e in
@@ -59,7 +60,7 @@ module _ (literals : List (List ℕ)) (metas : Bool) (text : List ℕ) where
       } in
       subst (λ v. CutBefore literals metas text v after) (sym more) (subst (CutBefore literals metas text (ts ++ t ∷ [])) (sym e) there)
 
-  pub cut_many : (ts : List Piece) (rest : List ℕ) (mark : Mark) (n : ℕ) → CutBefore literals metas text ts rest → IsCut rest n × Stands literals metas mark (take n rest) (drop n rest) → length ts ≡ 10000
+  pub cut_many : (ts : List Piece) (rest : List ℕ) (mark : Mark) (n : ℕ) → CutBefore literals metas text ts rest → AreWholeCharacters rest n × Stands literals metas mark (take n rest) (drop n rest) → length ts ≡ 10000
       → (us : List Piece) × (more : List ℕ) × (length us ≡ 10001) × Cuts literals metas (length text) text us more
   cut_many ts rest mark n before is full =
       let t : Piece = record { mark = mark; text = take n rest; from = length text - length rest; to = length text - length (drop n rest) } in

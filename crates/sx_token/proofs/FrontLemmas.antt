@@ -8,11 +8,13 @@ use Rattle.std.proofs.lemmas.Bool.Decides.{nat_tests}
 use Rattle.std.proofs.lemmas.Str.{byte_from_char, encode_ascii, length-encode, len_utf8_bounds, IsCharBoundary-at_seam, IsCharBoundary-after_ascii, IsUtf8-drop}
 use Rattle.sx_term.specs.declared.mark.Mark.{Mark}
 use Rattle.sx_term.specs.Vars.{without_tilde}
-use Rattle.sx_term.specs.Cutting.{is_blank, is_symbol, is_in_line, is_in_string, begins_word, BeginsWith, IsMaximalRun, IsWord, IsString, AreSymbols, IsLongestSymbol, Skips, IsOpenString, IsBadToken}
+use Rattle.sx_term.specs.Cutting.{is_blank_or_feed, is_symbol, is_in_line, is_in_string}
+use Rattle.sx_term.specs.Cutting.{begins_word, BeginsWhere, IsMaximalRun, IsWord, IsString}
+use Rattle.sx_term.specs.Cutting.{AreSymbols, IsLongestSymbol, Skips, IsOpenString, IsBadToken}
 use Rattle.sx_term.proofs.Firsts.{Class, Quote, Tilde, Blank, Symbol, Other, class_of, HasClass, HasClass-same, HasClass-quote, HasClass-tilde, HasClass-blank, HasClass-symbol}
 use Rattle.std.proofs.lemmas.Bool.{false_from_ne_true, eqb-true}
 use Rattle.sx_term.proofs.CutLaws.{Classed, meta, symbol, at_class, Contains-at}
-use Rattle.sx_token.specs.Front.{IsCut, IsOther}
+use Rattle.sx_token.specs.Front.{AreWholeCharacters, IsOther}
 use Rattle.sx_token.specs.Symbol.{NoneLonger}
 
 -- the text is its first byte and what follows
@@ -24,7 +26,7 @@ pub boundary_1 : (text : List ℕ) (b : ℕ) → IsUtf8 text → slice_index tex
 boundary_1 text b utf8 e h low = IsCharBoundary-after_ascii text 0 utf8 (omega (arith, ap length (first_byte text b e h))) (omega (arith, e))
 
 -- the text is cut after a front before whole characters
-pub cut_front : (P : List ℕ → List ℕ → Type 0) (text a b : List ℕ) (n : ℕ) → text ≡ a ++ b → n ≡ length a → 0 < n → IsUtf8 b → P a b → IsCut text n × P (take n text) (drop n text)
+pub cut_front : (P : List ℕ → List ℕ → Type 0) (text a b : List ℕ) (n : ℕ) → text ≡ a ++ b → n ≡ length a → 0 < n → IsUtf8 b → P a b → AreWholeCharacters text n × P (take n text) (drop n text)
 cut_front P text a b n e size some utf8 p =
     let front : take n text ≡ a = (λ i. take (size i) (e i)) ∙ take-append_seam a b in
     let back : drop n text ≡ b = (λ i. drop (size i) (e i)) ∙ drop-append_seam a b in
@@ -55,11 +57,11 @@ tail_same e = cc
 meta_token : {literals : List (List ℕ)} {metas : Bool} {m : Mark} {a x : List ℕ} → Classed literals metas Tilde m a x → IsTrue metas × ((w : List ℕ) × (a ≡ 126 ∷ w) × IsWord w x)
 meta_token (meta on w e is) = (on, (w, e, is))
 
-word_begins : (text word rest : List ℕ) → IsWord word rest → text ≡ word ++ rest → BeginsWith begins_word text
+word_begins : (text word rest : List ℕ) → IsWord word rest → text ≡ word ++ rest → BeginsWhere begins_word text
 word_begins text word rest w e = (w.first, w.others ++ rest, w.begins, e ∙ ap (λ t. t ++ rest) w.split ∙ append_assoc (encode_utf8 w.first) w.others rest)
 
 -- a tilde where no metavariable may stand, or without a word
-pub bad_tilde : (literals : List (List ℕ)) (metas : Bool) (text after : List ℕ) → text ≡ 126 ∷ after → (metas ≡ true → ¬ (BeginsWith begins_word after)) → IsBadToken literals metas text
+pub bad_tilde : (literals : List (List ℕ)) (metas : Bool) (text after : List ℕ) → text ≡ 126 ∷ after → (metas ≡ true → ¬ (BeginsWhere begins_word after)) → IsBadToken literals metas text
 bad_tilde literals metas text after e none =
     bad_here literals metas text Tilde (subst (HasClass Tilde) (sym e) (HasClass-tilde after)) (λ h. cc) (λ h. cc) (λ line rest f. omega (arith, ap (λ t. get_or t 0 0) (sym e ∙ f)))
     (λ m a x f token. let it = meta_token token in none it.0 (word_begins after it.1.0 x it.1.2 (tail_same (sym e ∙ f ∙ ap (λ t. t ++ x) it.1.1))))
@@ -74,7 +76,7 @@ bad_symbol literals metas (b ∷ text) h no_comment none =
     bad_here literals metas (b ∷ text) Symbol (HasClass-symbol b text h) (λ h. cc) (λ h. cc) (λ line rest f. no_comment (line ++ rest) f)
     (λ m a x f token. let it = symbol_token token in absurd (omega (arith, none a x (Contains-at literals it.0 a it.1) it.2 f, it.2.0)))
 
-class_of-other : (c : ℕ) → begins_word c ≡ false → is_ascii_digit c ≡ false → (c == 34) ≡ false → (c == 126) ≡ false → is_blank c ≡ false → is_symbol c ≡ false → class_of c ≡ Other
+class_of-other : (c : ℕ) → begins_word c ≡ false → is_ascii_digit c ≡ false → (c == 34) ≡ false → (c == 126) ≡ false → is_blank_or_feed c ≡ false → is_symbol c ≡ false → class_of c ≡ Other
 unfolding class_of
 class_of-other c w d q t b s = rw (s, b, w, d, q, t) refl
 
@@ -82,7 +84,7 @@ other_token : {literals : List (List ℕ)} {metas : Bool} {m : Mark} {a x : List
 other_token h = elim h [ ]
 
 -- a character that begins nothing
-pub bad_other : (literals : List (List ℕ)) (metas : Bool) (text : List ℕ) → IsOther text → ¬ (BeginsWith begins_word text) → IsBadToken literals metas text
+pub bad_other : (literals : List (List ℕ)) (metas : Bool) (text : List ℕ) → IsOther text → ¬ (BeginsWhere begins_word text) → IsBadToken literals metas text
 bad_other literals metas text o none =
     let no_word : begins_word o.first ≡ false = false_from_ne_true (begins_word o.first) (λ begins. none (o.first, o.others, begins, o.split)) in
     let has : HasClass Other text = (o.first, o.others, o.split, class_of-other o.first no_word o.no_digit o.no_quote o.no_tilde o.no_blank o.no_symbol) in
@@ -91,17 +93,17 @@ bad_other literals metas text o none =
     (λ m a x e token. other_token token)
 
 -- a blank
-blank_low : (c : ℕ) → is_blank c ≡ true → c < 128
+blank_low : (c : ℕ) → is_blank_or_feed c ≡ true → c < 128
 blank_low c h = grind (arith, nat_tests)
 
-pub blank_here : (text rest : List ℕ) (c : ℕ) → is_blank c ≡ true → IsUtf8 rest → text ≡ encode_utf8 c ++ rest → IsCut text 1 × Skips text (drop 1 text)
+pub blank_here : (text rest : List ℕ) (c : ℕ) → is_blank_or_feed c ≡ true → IsUtf8 rest → text ≡ encode_utf8 c ++ rest → AreWholeCharacters text 1 × Skips text (drop 1 text)
 blank_here text rest c h utf8 e =
     let all : text ≡ c ∷ rest = e ∙ ap (λ (front : List ℕ). front ++ rest) (encode_ascii c (blank_low c h)) in
     cut_front (λ _ more. Skips text more) text (c ∷ []) rest 1 all (omega arith) (omega arith) utf8 (inl (c, h, all))
 
 -- a string
 pub string_here : (text after : List ℕ) (n : ℕ) → IsUtf8 after → text ≡ 34 ∷ after → IsMaximalRun is_in_string (take n after) (drop n after) → n < length after → slice_index after n ≡ 34
-    → IsCut text (n + 2) × IsString (take (n + 2) text) (drop (n + 2) text)
+    → AreWholeCharacters text (n + 2) × IsString (take (n + 2) text) (drop (n + 2) text)
 string_here text after n utf8 e run lt quote =
     let rest = drop (suc n) after in
     let here : drop n after ≡ 34 ∷ rest = drop-cons after n 0 lt ∙ ap (λ b. b ∷ rest) quote in
@@ -131,7 +133,7 @@ digits_some (x ∷ text) zero h run = absurd (run.maximal (x, text, h, ap (λ t.
 digits_some (x ∷ text) (suc n) h run = omega arith
 
 -- a comment
-pub comment_here : (text after : List ℕ) (n : ℕ) → IsUtf8 (drop n after) → text ≡ 47 ∷ 47 ∷ after → n ≤ length after → IsMaximalRun is_in_line (take n after) (drop n after) → IsCut text (n + 2) × Skips text (drop (n + 2) text)
+pub comment_here : (text after : List ℕ) (n : ℕ) → IsUtf8 (drop n after) → text ≡ 47 ∷ 47 ∷ after → n ≤ length after → IsMaximalRun is_in_line (take n after) (drop n after) → AreWholeCharacters text (n + 2) × Skips text (drop (n + 2) text)
 comment_here text after n utf8 e fits run =
     let a = 47 ∷ 47 ∷ take n after in
     let all : text ≡ a ++ drop n after = e ∙ ap (λ t. 47 ∷ 47 ∷ t) (sym (take-append-drop n after)) in
@@ -139,7 +141,7 @@ comment_here text after n utf8 e fits run =
     (inr (take n after, all, run))
 
 -- a metavariable
-pub meta_here : (text after : List ℕ) (n : ℕ) → IsUtf8 (drop n after) → text ≡ 126 ∷ after → n ≤ length after → IsWord (take n after) (drop n after) → IsCut text (n + 1) × ((w : List ℕ) × (take (n + 1) text ≡ 126 ∷ w) × IsWord w (drop (n + 1) text))
+pub meta_here : (text after : List ℕ) (n : ℕ) → IsUtf8 (drop n after) → text ≡ 126 ∷ after → n ≤ length after → IsWord (take n after) (drop n after) → AreWholeCharacters text (n + 1) × ((w : List ℕ) × (take (n + 1) text ≡ 126 ∷ w) × IsWord w (drop (n + 1) text))
 meta_here text after n utf8 e fits word =
     let a = 126 ∷ take n after in
     let all : text ≡ a ++ drop n after = e ∙ ap (λ t. 126 ∷ t) (sym (take-append-drop n after)) in

@@ -8,7 +8,7 @@ use Rattle.sx_token.specs.declared.table.Table.{Table}
 
 -- the table finds each literal's place, knows each literal's length, and knows a length that no
 -- literal with the same first byte passes
-pub record IsTable (literals : List (List ℕ)) (t : Table) : Type 0 where
+pub record IsLiteralTable (literals : List (List ℕ)) (t : Table) : Type 0 where
   pub found : (text : List ℕ) (i : ℕ) → get_by (λ k. bytes_eq text k.now) t.places ≡ Some i →
       slice_get literals i ≡ Some text
   pub none : (text : List ℕ) → get_by (λ k. bytes_eq text k.now) t.places ≡ None →

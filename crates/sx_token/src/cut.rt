@@ -2,7 +2,7 @@
 
 ghost use Rattle.std.specs.Prelude.{◌≡◌, ◌≤◌, ◌++◌, [], ◌∷◌, length, IfSome, IfErr, OnOk};
 ghost use Rattle.sx_term.specs.Cutting.{IsOutcome};
-ghost use Rattle.sx_token.specs.Table.{IsTable};
+ghost use Rattle.sx_token.specs.Table.{IsLiteralTable};
 ghost use Rattle.sx_token.specs.Tokens.{pieces, outcome_of};
 ghost use Rattle.sx_term.specs.Limits.{most_bytes};
 
@@ -42,7 +42,7 @@ pub(crate) fn cut(
     text: &str,
     metas: bool,
 ) -> Result<Vec<Token>, TokenError>
-    requires table { IsTable table.now.literals.now table.now }
+    requires table { IsLiteralTable table.now.literals.now table.now }
     requires short { length text.now ≤ most_bytes }
     ensures { IfSome (outcome_of result) (IsOutcome table.now.literals.now metas text.now) }
 {

@@ -1,9 +1,9 @@
 //! The blank, comment or token at the front of a text.
 
 ghost use Rattle.std.specs.Prelude.{◌≡◌, ◌≢◌, ℕ, ◌<◌, ◌≤◌, List, ◌∷◌, length, slice_index, IsTrue};
-ghost use Rattle.sx_term.specs.Cutting.{is_symbol, is_blank};
+ghost use Rattle.sx_term.specs.Cutting.{is_symbol, is_blank_or_feed};
 ghost use Rattle.std.specs.Char.{is_ascii_digit};
-ghost use Rattle.sx_token.specs.Table.{IsTable};
+ghost use Rattle.sx_token.specs.Table.{IsLiteralTable};
 ghost use Rattle.sx_token.specs.Front.{IsFront, IsOther};
 
 use crate::table::{Table, place_of, symbol_at};
@@ -20,7 +20,7 @@ pub(crate) enum Front {
 }
 
 fn is_blank(c: char) -> bool
-    ensures { result ≡ is_blank c }
+    ensures { result ≡ is_blank_or_feed c }
 {
     (c == ' ' || c == '\t') || (c == '\n' || c == '\r')
 }
@@ -70,7 +70,7 @@ fn meta_front(table: &Table, text: &str, metas: bool) -> Front
 }
 
 fn symbol_front(table: &Table, text: &str, metas: bool) -> Front
-    requires table { IsTable table.now.literals.now table.now }
+    requires table { IsLiteralTable table.now.literals.now table.now }
     requires symbol { IsTrue (is_symbol (slice_index text.now 0)) }
     requires no_comment { (more : List ℕ) → text.now ≢ 47 ∷ 47 ∷ more }
     ensures { IsFront table.now.literals.now metas text.now result }
@@ -82,7 +82,7 @@ fn symbol_front(table: &Table, text: &str, metas: bool) -> Front
 }
 
 fn word_front(table: &Table, text: &str, metas: bool) -> Front
-    requires table { IsTable table.now.literals.now table.now }
+    requires table { IsLiteralTable table.now.literals.now table.now }
     requires other { IsOther text.now }
     ensures { IsFront table.now.literals.now metas text.now result }
 {
@@ -99,7 +99,7 @@ fn word_front(table: &Table, text: &str, metas: bool) -> Front
 
 /// What stands at the front of a text that is not empty.
 pub(crate) fn front_of(table: &Table, text: &str, metas: bool) -> Front
-    requires table { IsTable table.now.literals.now table.now }
+    requires table { IsLiteralTable table.now.literals.now table.now }
     requires nonempty { 0 < length text.now }
     ensures { IsFront table.now.literals.now metas text.now result }
 {

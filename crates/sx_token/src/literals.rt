@@ -23,14 +23,14 @@ pub struct Literals<'a> {
 impl<'a> Model for Literals<'a> {
     ghost use Rattle.std.specs.Prelude.{ℕ, List};
     ghost use Rattle.sx_term.specs.Cutting.{AreDistinct};
-    ghost use Rattle.sx_token.specs.Table.{IsTable};
+    ghost use Rattle.sx_token.specs.Table.{IsLiteralTable};
 
     ghost Value = { List (List ℕ) };
 
     ghost view = { λ l. l.table.literals.now };
 
     ghost invariant = { λ l. AreDistinct l.table.literals.now ×
-        IsTable l.table.literals.now l.table };
+        IsLiteralTable l.table.literals.now l.table };
 }
 
 impl<'a> Literals<'a> {

@@ -5,7 +5,7 @@ ghost use Rattle.std.specs.Prelude.{drop, Some, slice_get, slice_index, Contains
 ghost use Rattle.std.specs.Prelude.{IfSome, IsTrue, IsFalse};
 ghost use Rattle.std.specs.Str.{IsCharBoundary};
 ghost use Rattle.sx_term.specs.Cutting.{is_symbol, AreSymbols};
-ghost use Rattle.sx_token.specs.Table.{IsTable};
+ghost use Rattle.sx_token.specs.Table.{IsLiteralTable};
 ghost use Rattle.sx_token.specs.Symbol.{NoneLonger};
 
 use std::alloc::Global;
@@ -39,7 +39,7 @@ fn note_length(longest: &mut [usize; 128], bytes: &[u8])
 pub(crate) fn make_table<'a>(alloc: Global, literals: &'a [Text]) -> Result<Table<'a>, NoMemory>
     requires { length literals.now < 2 ^ 32 }
     ensures literals { IfOk result (λ t. t.literals.now ≡ literals.now) }
-    ensures table { IfOk result (λ t. IsTable literals.now t) }
+    ensures table { IfOk result (λ t. IsLiteralTable literals.now t) }
 {
     let mut places = HashMap::new(alloc);
     let mut lengths = HashSet::new(alloc);
@@ -75,7 +75,7 @@ pub(crate) fn make_table<'a>(alloc: Global, literals: &'a [Text]) -> Result<Tabl
 
 /// The place of the literal with this text.
 pub(crate) fn place_of(table: &Table, text: &str) -> Option<u32>
-    requires { IsTable table.now.literals.now table.now }
+    requires { IsLiteralTable table.now.literals.now table.now }
     ensures found { IfSome result (λ i. slice_get table.now.literals.now i ≡ Some text.now) }
     ensures none { IfNone result (¬ (Contains table.now.literals.now text.now)) }
 {
@@ -84,7 +84,7 @@ pub(crate) fn place_of(table: &Table, text: &str) -> Option<u32>
 
 /// The place of the literal that is the first `len` bytes of the text.
 fn place_of_front(table: &Table, text: &str, len: usize) -> Option<u32>
-    requires table { IsTable table.now.literals.now table.now }
+    requires table { IsLiteralTable table.now.literals.now table.now }
     requires boundary { IsCharBoundary text.now len }
     ensures found { IfSome result (λ i. slice_get table.now.literals.now i
         ≡ Some (take len text.now)) }
@@ -121,7 +121,7 @@ fn symbol_run(text: &str, most: usize) -> usize
 
 /// The longest literal made of symbol characters at the front of the text.
 pub(crate) fn symbol_at(table: &Table, text: &str) -> Option<Found>
-    requires table { IsTable table.now.literals.now table.now }
+    requires table { IsLiteralTable table.now.literals.now table.now }
     requires symbol { IsTrue (is_symbol (slice_index text.now 0)) }
     ensures found { IfSome result (λ f. slice_get table.now.literals.now f.place
         ≡ Some (take f.len text.now)) }

@@ -11,7 +11,8 @@ use Rattle.sx_derive.specs.Search.{Ending, found, stopped, spent, exhausted, wal
 use Rattle.sx_derive.proofs.Walked.{found_is_first}
 use Rattle.sx_top.specs.CoreTexts.{subject_text, list_text, term_lines}
 use Rattle.sx_top.specs.ReadCore.{core_file}
-use Rattle.sx_top.specs.FindFirst.{no_hypotheses, problem_rules, IsFirstOf}
+use Rattle.sx_top.specs.FindFirst.{problem_rules, IsFirstOf}
+use Rattle.sx_rules.specs.Rules.{no_hypotheses}
 use Rattle.sx_top.specs.Search.{goal_events, ComesTo, Searches}
 use Rattle.sx_steps.specs.Work.{Plan}
 use Rattle.sx_top.specs.BuildCore.{core_plan, BuildsWhole, BuiltUnit}

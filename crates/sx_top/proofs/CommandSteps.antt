@@ -18,7 +18,7 @@ use Rattle.sx_steps.specs.Work.{Plan, plan_of}
 use Rattle.sx_steps.proofs.StepsOn.{stops_at, untried}
 use Rattle.sx_build.specs.BuildModules.{BuildsModule}
 use Rattle.sx_verify.specs.VerifyModule.{VerifiesModule}
-use Rattle.sx_words.specs.Commands.{Spells}
+use Rattle.sx_words.specs.Commands.{SpellsCommand}
 use Rattle.sx_top.specs.Commands.{IsWithin}
 use Rattle.sx_top.specs.Outcome.{budgets_of, audits_of, NamesFor, Runs, RunsFor}
 use Rattle.sx_top.specs.VerifyCore.{VerifiesWhole}
@@ -33,7 +33,7 @@ no_sample words number h =
 same_number : (one other : ℕ) → samples one ≡ samples other → one ≡ other
 same_number one other is = cc
 
-within_by : (words : List (List ℕ)) (command : Meant) → Spells words command →
+within_by : (words : List (List ℕ)) (command : Meant) → SpellsCommand words command →
     HasFew command → IsWithin command
 within_by words (builds of_core name tries nodes audits) spelled few = few
 within_by words (compiles name tries nodes audits) spelled few = tt
@@ -46,7 +46,7 @@ within_by words (samples number) (inr h) few =
     (h.least, h.most)
 
 -- what words spell is within the limits
-pub spelled_within : (words : List (List ℕ)) (command : Meant) → Spells words command →
+pub spelled_within : (words : List (List ℕ)) (command : Meant) → SpellsCommand words command →
     IsWithin command
 spelled_within words command spelled =
     within_by words command spelled (spelled_few words command spelled)

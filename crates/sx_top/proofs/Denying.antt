@@ -6,8 +6,8 @@ use Rattle.sx_words.specs.Commands.{AuditWord, Meant, builds, compiles, checks, 
 use Rattle.sx_audit.specs.Meaning.{Meaning}
 use Rattle.sx_auditing.specs.Laws.{denying, DeniedAreKept}
 use Rattle.sx_auditing.specs.Naming.{Names}
-use Rattle.sx_build.specs.Denied.{DeniedAreUnwritten as BuildDenied}
-use Rattle.sx_compile.specs.Denied.{DeniedAreUnwritten as CompileDenied}
+use Rattle.sx_build.specs.Denied.{DeniedAreUnbuilt as BuildDenied}
+use Rattle.sx_compile.specs.Denied.{DeniedAreUncompiled as CompileDenied}
 use Rattle.sx_top.specs.Denied.{WritesNone, DeniedAreUnwritten}
 use Rattle.sx_top.specs.Outcome.{budgets_of, Promises}
 use Rattle.sx_top.proofs.KindsOnce.{kinds_once}

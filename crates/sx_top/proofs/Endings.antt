@@ -16,14 +16,16 @@ use Rattle.sx_steps.specs.Work.{Plan, plan_of}
 use Rattle.sx_steps.specs.Stop.{OnlyReads, Does}
 use Rattle.sx_audit.specs.Meaning.{Meaning}
 use Rattle.sx_top.specs.Calls.{Call}
-use Rattle.sx_words.specs.Commands.{Spells}
-use Rattle.sx_top.specs.Course.{Seen, seen, Course, lacking, stopped, short, failed, written, answered, status_after, Begins, Leaves}
-use Rattle.sx_top.specs.Outcome.{budgets_of, NamesFor, Outcome, Runs, Promises}
+use Rattle.sx_words.specs.Commands.{SpellsCommand}
+use Rattle.sx_top.specs.Course.{Seen, seen, Course, lacking, stopped, short, failed, written}
+use Rattle.sx_top.specs.Course.{answered, status_after, Begins, Leaves}
+use Rattle.sx_top.specs.Outcome.{budgets_of, NamesFor, RunOutcome, Runs, Promises}
 use Rattle.sx_top.specs.Performing.{Performs}
-use Rattle.sx_top.specs.Telling.{IsTold}
+use Rattle.sx_top.specs.Telling.{IsStopTold}
 use Rattle.sx_steps.specs.declared.stop.Stop.{Stop}
 use Rattle.sx_steps.specs.Refusal.{file_status, defect_status, status_of}
-use Rattle.sx_top.specs.Ending.{ComesTo, Ends, KeepsPromise, IsAfterRead, HasNoDefect, IsDoneOrShort}
+use Rattle.sx_top.specs.Ending.{ComesTo, Ends, KeepsPromise, IsAfterRead, HasNoDefect}
+use Rattle.sx_top.specs.Ending.{IsDoneOrShort}
 use Rattle.sx_steps.specs.declared.status.Status.{Status}
 use Rattle.sx_steps.specs.declared.status.Status.TheVariants as statuses
 use Rattle.sx_steps.specs.declared.step_error.StepError.{StepError}
@@ -64,7 +66,7 @@ ends_performed given plan status files between files' bytes bytes' reads read re
 
 -- a run that had none
 pub ends_told : (given : Call) (e : StepError) (status : Status) (files files' : Option Files) (bytes bytes' : Option (List ℕ)) (reads reads' writes writes' sends sends' before after : ℕ) →
-    OnlyReads {X = Work} files files' reads reads' writes writes' (Err e) → WhereTold files (λ held. Does plan_of (Outcome given held) (Err e) before after) → IsTold e status bytes bytes' sends sends' →
+    OnlyReads {X = Work} files files' reads reads' writes writes' (Err e) → WhereTold files (λ held. Does plan_of (RunOutcome given held) (Err e) before after) → IsStopTold e status bytes bytes' sends sends' →
     Ends given status (seen files bytes reads writes sends) (seen files' bytes' reads' writes' sends') before after
 ends_told given errors.Memory status files files' bytes bytes' reads reads' writes writes' sends sends' before after so outcome told = record {
   course = lacking;
@@ -148,10 +150,10 @@ kept (samples number) named plan old new made runs is =
     samples_keep_promise number old new plan made runs is
 
 kept_by : (given : Call) (plan : Plan) (old new : Files) (tries : ℕ) →
-    Outcome given old (Ok plan) tries → new ≡ after plan.files old → (command : Meant) →
-    Spells given.words command → (named : List Meaning) ×
+    RunOutcome given old (Ok plan) tries → new ≡ after plan.files old → (command : Meant) →
+    SpellsCommand given.words command → (named : List Meaning) ×
     NamesFor given.auditors command (Ok named) × Promises command named old new plan.lines
-unfolding Outcome
+unfolding RunOutcome
 kept_by given plan old new tries outcome is command read =
     let steps = went_on _ _ _ tries outcome in
     let runs = went_on _ _ _ steps.after steps.goes in

@@ -3,12 +3,20 @@ use Rattle.std.proofs.Common.{◌≡◌, ℕ, zero, suc, ◌+◌, ◌-◌, ◌<�
 use Rattle.std.specs.Prelude.{slice_get, nat_eq, nat_lt}
 use Rattle.sx_term.specs.Tree.{Tree, depth_of, size_of}
 use Rattle.sx_rules.specs.Instances.{instance, StandsAmong, bound_by}
-use Rattle.sx_rules.specs.Rules.{Judgement, Premise, holds, apart, Rule, Hypotheses, judgement_instance, judgements_of}
-use Rattle.sx_rules.specs.Modes.{Modes, inputs_of, outputs_of, Goal, goal_of, AreModed, IsModed, AllModed}
+use Rattle.sx_rules.specs.Rules.{Judgement, Premise, holds, apart, Rule, Hypotheses}
+use Rattle.sx_rules.specs.Rules.{judgement_instance, judgements_of}
+use Rattle.sx_rules.specs.Modes.{Modes, inputs_of, outputs_of, Goal, goal_of, AreModed, IsModed}
+use Rattle.sx_rules.specs.Modes.{AllModed}
 use Rattle.sx_rules.specs.Derivations.{Proofs, by, given, height_of}
-use Rattle.sx_arena.specs.Matching.{same_all, Assignment, unbound, match_all, filled, IsBound, Extends, Agrees}
-use Rattle.sx_derive.specs.Walk.{Cause, Event, try, give, stop, Answer, then_each, when_matched, term_limit, first_cause, limit_passed, unless_passed, are_apart, put_first, after_kid, premise_events, first_values, conclude, after_match, rule_events, rules_events, given_event, given_events, goal_events, events}
-use Rattle.sx_derive.specs.Search.{DerivesGoal, EachGiven, Ending, found, are_wanted, found_when, walk}
+use Rattle.sx_arena.specs.Matching.{same_all, Assignment, nothing_bound, match_all, filled, IsBound}
+use Rattle.sx_arena.specs.Matching.{ExtendsAssignment, Agrees}
+use Rattle.sx_derive.specs.Walk.{Cause, Event, try, give, stop, Answer, then_each, when_matched}
+use Rattle.sx_derive.specs.Walk.{term_limit, first_cause, limit_passed, unless_passed, are_apart}
+use Rattle.sx_derive.specs.Walk.{put_first, after_kid, premise_events, first_values, conclude}
+use Rattle.sx_derive.specs.Walk.{after_match, rule_events, rules_events, given_event, given_events}
+use Rattle.sx_derive.specs.Walk.{goal_events, events}
+use Rattle.sx_derive.specs.Search.{DerivesGoal, EachGiven, Ending, found, are_wanted, found_when}
+use Rattle.sx_derive.specs.Search.{walk}
 use Rattle.sx_replay.specs.Limits.{first_of, first_deep, first_big}
 use Rattle.sx_replay.specs.Fronts.{asked_of, concluded_of, made_in, made_below}
 use Rattle.sx_arena.proofs.Matchings.{match_all-matches, stays-bound, stays-agreed}
@@ -64,7 +72,7 @@ bound_later : {X Y Z : Type 0} → (X → Y) → X ⊎ Z → Y ⊎ Z
 bound_later f (inl x) = inl (f x)
 bound_later f (inr z) = inr z
 
-not_before : {Z : Type 0} (v : ℕ) → IsBound unbound v ⊎ Z → Z
+not_before : {Z : Type 0} (v : ℕ) → IsBound nothing_bound v ⊎ Z → Z
 not_before v (inl x) = let e : None ≡ Some x.0 = x.1 in cc
 not_before v (inr z) = z
 
@@ -77,7 +85,7 @@ module _ (modes : Modes) (rules : List Rule) (hyps : Hypotheses) where
 
   -- nor those from here on
   record IsQuietEnd (rule : Rule) (ps : List Premise) (env : Assignment) (end : Assignment × Proofs) : Type 0 where
-    pub extends : Extends env end.0
+    pub extends : ExtendsAssignment env end.0
     pub scoped : (v : ℕ) → IsBound end.0 v → v < length rule.sorts
     pub outputs_bound : (v : ℕ) → StandsAmong v (outputs_of modes rule.conclusion) → IsBound end.0 v
     pub quiet : (s : ℕ → Tree) → Agrees end.0 s → limit_passed (made_below modes rules (judgements_of ps) s end.1) ≡ None
@@ -135,10 +143,10 @@ module _ (modes : Modes) (rules : List Rule) (hyps : Hypotheses) where
     rule_quiet r rule goal at_r m =
         let patterns = inputs_of modes rule.conclusion in
         let n = length rule.sorts in
-        given-when IsQuietAnswer (nat_eq rule.conclusion.form goal.form) (when_matched (match_all patterns goal.terms unbound) (after_match modes hyps below r rule))
-        (λ same_form. given-when_matched IsQuietAnswer (match_all patterns goal.terms unbound) (after_match modes hyps below r rule)
+        given-when IsQuietAnswer (nat_eq rule.conclusion.form goal.form) (when_matched (match_all patterns goal.terms nothing_bound) (after_match modes hyps below r rule))
+        (λ same_form. given-when_matched IsQuietAnswer (match_all patterns goal.terms nothing_bound) (after_match modes hyps below r rule)
         (λ env e.
-        let k = match_all-matches patterns goal.terms unbound env e in
+        let k = match_all-matches patterns goal.terms nothing_bound env e in
         given-then_each (IsQuietEnd rule rule.premises env) IsQuietAnswer (conclude modes r rule) (premise_events modes hyps below rule.premises env)
         (premises_quiet rule rule.premises env (λ v. StandsAmong v patterns) k.every (λ v h. not_before v (k.only v h)) m)
         (λ end h.

@@ -7,7 +7,7 @@ use Rattle.std.proofs.lemmas.Slice.Eq.{bytes_eq-Decides}
 use Rattle.sx_words.specs.Commands.{Given, core, tries, nodes, audit, Settings, AuditWord, Meant}
 use Rattle.sx_words.specs.Commands.{builds, compiles, checks, verifies, samples, SpellsNamed}
 use Rattle.sx_words.specs.Commands.{has_kind, is_new, with_option, with_options, nothing_said}
-use Rattle.sx_words.specs.Commands.{MayStand, meant, Spells}
+use Rattle.sx_words.specs.Commands.{MayStand, meant, SpellsCommand}
 use Rattle.sx_top.specs.Outcome.{audits_of}
 
 -- no word has the kind of a word before it
@@ -110,7 +110,7 @@ named_alone words (verifies of_core name) h = tt
 named_alone words (samples number) h = tt
 
 -- so it is of a command that words spell
-spelled_alone : (words : List (List ℕ)) (command : Meant) → Spells words command →
+spelled_alone : (words : List (List ℕ)) (command : Meant) → SpellsCommand words command →
     AreAlone (audits_of command)
 spelled_alone words command (inl h) = named_alone words command h
 spelled_alone words command (inr h) =
@@ -122,7 +122,7 @@ behind_alone [] a behind alone = alone.0
 behind_alone (b ∷ before) a behind alone = behind_alone before a behind alone.1
 
 -- the words behind one have other kinds
-pub kinds_once : (words : List (List ℕ)) (command : Meant) → Spells words command →
+pub kinds_once : (words : List (List ℕ)) (command : Meant) → SpellsCommand words command →
     (before : List AuditWord) (a : AuditWord) (behind : List AuditWord) →
     audits_of command ≡ before ++ a ∷ behind → has_kind behind a.kind ≡ false
 kinds_once words command spelled before a behind is =

@@ -6,21 +6,22 @@ use Rattle.std.specs.Char.{is_ascii_alphabetic}
 use Rattle.std.proofs.lemmas.Bool.{leb-true}
 use Rattle.std.proofs.lemmas.List.{length-append, length-map}
 use Rattle.std.proofs.lemmas.Option.{slice_get_within}
-use Rattle.sx_lines.specs.Lines.{lines_from, texts}
+use Rattle.sx_lines.specs.Lines.{lines_from, line_texts}
 use Rattle.sx_lines.specs.Reading.{written}
 use Rattle.sx_lines.specs.Words.{is_name, is_name_byte}
 use Rattle.sx_lines.proofs.ReadLaws.{numbered}
 use Rattle.sx_rules.specs.declared.entry.Entry.{Entry as EntryOf}
 use Rattle.sx_rules.specs.declared.entry.Entry.TheVariants.{Rule as RuleEntry, Given as GivenEntry}
 use Rattle.sx_rules.specs.Rules.{Judgement, Rule, Hypotheses}
-use Rattle.sx_rules.specs.Derivations.{Proof, Proofs, by, given, no_more, ◌⊳◌, Derives, DeriveEach, nodes_of, nodes_of_all}
+use Rattle.sx_rules.specs.Derivations.{Proof, Proofs, by, given, no_more, ◌⊳◌, Derives, DeriveEach}
+use Rattle.sx_rules.specs.Derivations.{nodes_of, nodes_of_all}
 use Rattle.sx_rules.specs.Orders.{Entry, of_given, of_rule, order_of, order_of_all}
 use Rattle.sx_rules.specs.EntryView.{entries}
-use Rattle.sx_rules.specs.RuleNames.{AreNames, AreDistinct}
+use Rattle.sx_rules.specs.RuleNames.{AreNames, AreNamesDistinct}
 use Rattle.sx_rules.specs.Views.{NamedRule}
 use Rattle.sx_rules.specs.ListText.{IsEntry, entry_line, list_lines, StatesList}
 use Rattle.sx_rules.proofs.ListLaws.{list_stated, list_round}
-use Rattle.sx_top.specs.CoreTexts.{rule_name, entry_text, entry_lines, list_text}
+use Rattle.sx_top.specs.CoreTexts.{core_rule_name, entry_text, entry_lines, list_text}
 
 -- ---- entries
 
@@ -84,7 +85,7 @@ mutual
 abbrev pub names_of : List NamedRule → List (List ℕ)
 names_of rules = map (λ r. r.name) rules
 
-name_is : (rules : List NamedRule) (r : ℕ) → rule_name rules r ≡ slice_index_or (names_of rules) r []
+name_is : (rules : List NamedRule) (r : ℕ) → core_rule_name rules r ≡ slice_index_or (names_of rules) r []
 name_is [] zero = refl
 name_is [] (suc r) = refl
 name_is (x ∷ rules) zero = refl
@@ -112,15 +113,15 @@ are_entries names n (of_rule r ∷ list) e h = (subst (λ (m : ℕ). r < m) e h.
 are_entries names n (of_given i ∷ list) e h = absurd h
 
 -- the text states the list
-pub text_states : (rules : List NamedRule) (n : ℕ) (list : List Entry) → AreNames (names_of rules) → AreDistinct (names_of rules) → n ≡ length rules → AreOfRules n list →
-    StatesList (names_of rules) (texts (lines_from 1 (list_text rules list))) (list_again list)
+pub text_states : (rules : List NamedRule) (n : ℕ) (list : List Entry) → AreNames (names_of rules) → AreNamesDistinct (names_of rules) → n ≡ length rules → AreOfRules n list →
+    StatesList (names_of rules) (line_texts (lines_from 1 (list_text rules list))) (list_again list)
 text_states rules n list named distinct e h =
     let names = names_of rules in
     let made = written (list_lines names (list_again list)) in
     let few : n ≡ length names = e ∙ sym (length-map rules (λ r. r.name)) in
     let read = list_round names (list_again list) (record { named = named; distinct = distinct }) (are_entries names n list few h) in
     let stated = list_stated names (lines_from 1 made) (list_again list) (numbered 1 made) read in
-    subst (λ (bytes : List ℕ). StatesList names (texts (lines_from 1 bytes)) (list_again list)) (sym (text_is rules list)) stated
+    subst (λ (bytes : List ℕ). StatesList names (line_texts (lines_from 1 bytes)) (list_again list)) (sym (text_is rules list)) stated
 
 -- ---- its length
 
@@ -137,7 +138,7 @@ name_short (c ∷ cs) e =
     let l = leb-true (length cs) 63 (middle (is_ascii_alphabetic c) (nat_le (length cs) 63) (list_all (is_name_byte true) cs) e) in
     omega arith
 
-rule_name_short : (rules : List NamedRule) (r : ℕ) → AreNames (names_of rules) → length (rule_name rules r) ≤ 64
+rule_name_short : (rules : List NamedRule) (r : ℕ) → AreNames (names_of rules) → length (core_rule_name rules r) ≤ 64
 rule_name_short [] r h = omega arith
 rule_name_short (x ∷ rules) zero h = name_short x.name h.0
 rule_name_short (x ∷ rules) (suc r) h = rule_name_short rules r h.1
@@ -145,7 +146,7 @@ rule_name_short (x ∷ rules) (suc r) h = rule_name_short rules r h.1
 lines_length : (rules : List NamedRule) (n : ℕ) (list : List Entry) → AreNames (names_of rules) → AreOfRules n list → length (entry_lines rules list) ≤ 65 * length list
 lines_length rules n [] named h = omega arith
 lines_length rules n (of_rule r ∷ list) named h =
-    let e = length-append (rule_name rules r) (10 ∷ entry_lines rules list) in
+    let e = length-append (core_rule_name rules r) (10 ∷ entry_lines rules list) in
     let s = rule_name_short rules r named in
     let m = lines_length rules n list named h.1 in
     omega arith

@@ -19,7 +19,8 @@ use Rattle.sx_core.specs.Problem.{problem}
 use Rattle.sx_core.specs.declared.problem.CoreProblem.{CoreProblem}
 use Rattle.sx_top.specs.CoreTexts.{list_text}
 use Rattle.sx_top.proofs.ListTexts.{AreOfRules, of_rules, order_length, list_again, names_of as names_of_data, text_is}
-use Rattle.sx_top.specs.FindFirst.{no_hypotheses, problem_rules}
+use Rattle.sx_top.specs.FindFirst.{problem_rules}
+use Rattle.sx_rules.specs.Rules.{no_hypotheses}
 
 -- a list has an entry for each node
 pub nodes_listed : (list : List EntryOf) (p : Proof) → entries list ≡ order_of p → length list ≡ nodes_of p

@@ -9,12 +9,12 @@ use Rattle.sx_rules.specs.Rules.{Premise, holds, apart}
 use Rattle.sx_rules.specs.Views.{FormData, NamedRule, modes_of}
 use Rattle.sx_rules.specs.Modes.{AllModed}
 use Rattle.sx_rules.specs.Good.{IsAmong, AllGood}
-use Rattle.sx_rules.specs.RuleNames.{AreNames, AreDistinct}
+use Rattle.sx_rules.specs.RuleNames.{AreNames, AreNamesDistinct}
 use Rattle.sx_rules.specs.Writable.{HaveTexts, PremisesHaveTexts, RulesHaveTexts}
 use Rattle.sx_rules.specs.Derivations.{AreShallow}
 use Rattle.sx_core.specs.Problem.{Problem}
 use Rattle.sx_core.specs.File.{CoreFile, SortRow, PremiseRow, if_line, not_line, RuleRows}
-use Rattle.sx_core.specs.Stated.{AreReadable, ArePremises, AreRules, States}
+use Rattle.sx_core.specs.Stated.{AreReadable, ArePremises, AreRules, StatesProblem}
 use Rattle.sx_core.specs.CoreRead.{IsCoreAnswer}
 use Rattle.sx_top.specs.Terms.{AreTerms}
 use Rattle.sx_top.specs.Proper.{IsProper}
@@ -92,11 +92,11 @@ module _ (shapes : List Shape) (forms : List FormData) where
     fresh_names name (names ++ r.name ∷ []) rs (among_front name names (r.name ∷ []) among) good.1,
   )
 
-  all_distinct : (names : List (List ℕ)) (rs : List NamedRule) → AllGood shapes forms names rs → AreDistinct (map (λ r. r.name) rs)
+  all_distinct : (names : List (List ℕ)) (rs : List NamedRule) → AllGood shapes forms names rs → AreNamesDistinct (map (λ r. r.name) rs)
   all_distinct names [] good = tt
   all_distinct names (r ∷ rs) good = (fresh_names r.name (names ++ r.name ∷ []) rs (among_end r.name names) good.1, all_distinct (names ++ r.name ∷ []) rs good.1)
 
-stated_proper : (file : CoreFile) (p : Problem) → States file p → IsProper p
+stated_proper : (file : CoreFile) (p : Problem) → StatesProblem file p → IsProper p
 stated_proper file p states =
     let says = states.says in
     record {

@@ -10,7 +10,8 @@ use Rattle.sx_rules.proofs.Texts.{outputs_have_texts}
 use Rattle.sx_core.specs.Problem.{Problem, problem}
 use Rattle.sx_core.specs.declared.problem.CoreProblem.{CoreProblem}
 use Rattle.sx_derive.specs.Walk.{Event, try, give, stop, events}
-use Rattle.sx_derive.specs.Search.{Ending, found, exhausted, EachGiven, walk, tries_of, tries_unless, are_wanted}
+use Rattle.sx_derive.specs.Search.{Ending, found, exhausted, EachGiven, walk, tries_of}
+use Rattle.sx_derive.specs.Search.{tries_unless, are_wanted}
 use Rattle.sx_derive.specs.Stuck.{Blame}
 use Rattle.sx_derive.specs.Blames.{blame_of}
 use Rattle.sx_derive.specs.BlameTerms.{got_in}
@@ -18,14 +19,17 @@ use Rattle.sx_derive.specs.Deriving.{IsToldBy, AreCounted}
 use Rattle.sx_derive.specs.Listing.{SaysList, IsListed}
 use Rattle.sx_derive.specs.declared.listed.Listed.{Listed}
 use Rattle.sx_derive.specs.declared.derive_error.DeriveError.{DeriveError}
-use Rattle.sx_derive.specs.declared.derive_error.DeriveError.TheVariants.{Memory, Underivable, BudgetSpent, DepthSpent, TooDeep, TooBig}
+use Rattle.sx_derive.specs.declared.derive_error.DeriveError.TheVariants.{Memory, Underivable}
+use Rattle.sx_derive.specs.declared.derive_error.DeriveError.TheVariants.{BudgetSpent, DepthSpent}
+use Rattle.sx_derive.specs.declared.derive_error.DeriveError.TheVariants.{TooDeep, TooBig}
 use Rattle.sx_derive.proofs.Bounded.{answers_are_bounded}
 use Rattle.sx_derive.proofs.Blamed.{exhausted_has_no_stop}
 use Rattle.sx_derive.proofs.BlameTexts.{stuck_goal_has_texts}
 use Rattle.sx_derive.proofs.BlameDepths.{stuck_goal_is_shallow}
 use Rattle.sx_steps.specs.declared.stop.Stop.{Stop}
 use Rattle.sx_steps.specs.Stop.{RisesBy, RisesUpTo}
-use Rattle.sx_top.specs.FindFirst.{no_hypotheses, problem_rules}
+use Rattle.sx_top.specs.FindFirst.{problem_rules}
+use Rattle.sx_rules.specs.Rules.{no_hypotheses}
 use Rattle.sx_top.specs.CoreStops.{underivable}
 use Rattle.sx_steps.specs.Stops.{tries_spent, depth_spent, too_deep, too_big}
 use Rattle.sx_top.specs.LowerStops.{derive_stop}

@@ -11,7 +11,8 @@ use Rattle.sx_core.specs.CoreRead.{IsCoreAnswer}
 use Rattle.sx_core.specs.Problem.{Problem}
 use Rattle.sx_core.specs.declared.error.CoreFileError.{CoreFileError}
 use Rattle.sx_core.specs.declared.error.CoreFileError.TheVariants as core_error
-use Rattle.sx_derive.specs.Walk.{Cause, depth_spent as passes_depth, too_deep as passes_terms, too_big as passes_size}
+use Rattle.sx_derive.specs.Walk.{Cause, depth_spent as passes_depth, too_deep as passes_terms}
+use Rattle.sx_derive.specs.Walk.{too_big as passes_size}
 use Rattle.sx_derive.specs.Search.{Ending, found, stopped, spent, exhausted, walk}
 use Rattle.sx_derive.proofs.Walked.{exhausted_means_none}
 use Rattle.sx_replay.specs.declared.replay_error.ReplayError.{ReplayError}
@@ -29,28 +30,30 @@ use Rattle.sx_steps.specs.Unit.{base_file, list_file, interface_file}
 use Rattle.sx_steps.proofs.Ones.{err_same, ok_no_err}
 use Rattle.sx_steps.proofs.StepsOn.{went}
 use Rattle.sx_steps.proofs.TypeErrors.{OnTypeError, on_stop, no_type_error, no_rules, Final, FinalTrying, then_final, trying_final, and_then_final, held_final}
-use Rattle.sx_build.specs.Laws.{TypeErrorsAreFinal as BuildsFinal}
+use Rattle.sx_build.specs.Laws.{BuildTypeErrorsAreFinal as BuildsFinal}
 use Rattle.sx_check.proofs.TypeErrors.{check_errors_are_final}
-use Rattle.sx_compile.specs.Laws.{TypeErrorsAreFinal as CompilesFinal}
-use Rattle.sx_sampling.specs.Laws.{TypeErrorsAreFinal as SamplesFinal}
+use Rattle.sx_compile.specs.Laws.{CompileTypeErrorsAreFinal as CompilesFinal}
+use Rattle.sx_sampling.specs.Laws.{SampleTypeErrorsAreFinal as SamplesFinal}
 use Rattle.sx_verify.specs.Lists.{bad_entry, replay_stop, StatesEntries, ReadsEntries}
 use Rattle.sx_verify.specs.Verified.{verified_plan}
 use Rattle.sx_verify.proofs.TypeErrors.{verifies_without_type_errors}
 use Rattle.sx_top.specs.BuildCore.{core_plan, BuildsGoal, BuildsWhole}
-use Rattle.sx_words.specs.Commands.{Spells}
+use Rattle.sx_words.specs.Commands.{SpellsCommand}
 use Rattle.sx_top.specs.Commands.{Commands}
 use Rattle.sx_top.specs.CoreStops.{variable_name, differs}
 use Rattle.sx_top.specs.CoreTexts.{subject_text, term_lines}
-use Rattle.sx_top.specs.FindFirst.{no_hypotheses, problem_rules}
+use Rattle.sx_top.specs.FindFirst.{problem_rules}
+use Rattle.sx_rules.specs.Rules.{no_hypotheses}
 use Rattle.sx_top.specs.Laws.{HasNoDerivation, IsUntypedCommand, TypeErrorsAreFinal}
 use Rattle.sx_top.specs.LowerStops.{core_stop}
 use Rattle.sx_audit.specs.Meaning.{Meaning}
 use Rattle.sx_top.specs.Calls.{Call}
-use Rattle.sx_top.specs.Outcome.{budgets_of, audits_of, NamesFor, Runs, RunsFor, Outcome}
+use Rattle.sx_top.specs.Outcome.{budgets_of, audits_of, NamesFor, Runs, RunsFor, RunOutcome}
 use Rattle.sx_top.proofs.Misnamed.{misnamed}
 use Rattle.sx_top.specs.ReadCore.{core_file, rule_names, Reads}
 use Rattle.sx_top.specs.Search.{goal_events, passed, ComesTo, Searches, HasWalked}
-use Rattle.sx_top.specs.VerifyCore.{Replays, VerifiesOutputs, VerifiesEntries, VerifiesList, VerifiesSubject, VerifiesWhole}
+use Rattle.sx_top.specs.VerifyCore.{ReplaysProblem, VerifiesOutputs, VerifiesCoreEntries}
+use Rattle.sx_top.specs.VerifyCore.{VerifiesCoreList, VerifiesCoreSubject, VerifiesWhole}
 use Rattle.sx_top.specs.Written.{Equals, Compares}
 use Rattle.sx_top.proofs.Propers.{proper}
 
@@ -96,7 +99,7 @@ module _ (Q : Stop → Type 0) where
 
   -- ---- `verify --core`
 
-  replays_final : (file : List ℕ) (p : Problem) (list : List EntryOf) → Final Q (Replays file p list)
+  replays_final : (file : List ℕ) (p : Problem) (list : List EntryOf) → Final Q (ReplaysProblem file p list)
   replays_final file p list stop h = on_stop Q (replay_stop file h.0) stop (no_replay file h.0) h.2
 
   module _ (name : List ℕ) (files : Files) where
@@ -105,23 +108,23 @@ module _ (Q : Stop → Type 0) where
         then_final Q (Compares (interface_file name) (term_lines outputs) files) (λ done result. result ≡ Ok (verified_plan name nodes))
         (compares_final (interface_file name) (term_lines outputs) files) (λ done held stop h. absurd (ok_no_err (verified_plan name nodes) stop (sym h)))
 
-    replay_final : (p : Problem) (list : List EntryOf) → Final Q (VerifiesEntries name files p list)
+    replay_final : (p : Problem) (list : List EntryOf) → Final Q (VerifiesCoreEntries name files p list)
     replay_final p list =
-        then_final Q (Replays (list_file name) p list) (VerifiesOutputs name files (length list)) (replays_final (list_file name) p list)
+        then_final Q (ReplaysProblem (list_file name) p list) (VerifiesOutputs name files (length list)) (replays_final (list_file name) p list)
         (λ outputs replayed. outputs_final (length list) outputs)
 
-    list_final : (p : Problem) → Final Q (VerifiesList name files p)
+    list_final : (p : Problem) → Final Q (VerifiesCoreList name files p)
     list_final p =
-        then_final Q (ReadsEntries (list_file name) (rule_names p) files) (VerifiesEntries name files p) (reads_entries_final (list_file name) (rule_names p) files)
+        then_final Q (ReadsEntries (list_file name) (rule_names p) files) (VerifiesCoreEntries name files p) (reads_entries_final (list_file name) (rule_names p) files)
         (λ list read. replay_final p list)
 
-    subject_final : (p : Problem) → Final Q (VerifiesSubject name files p)
+    subject_final : (p : Problem) → Final Q (VerifiesCoreSubject name files p)
     subject_final p =
-        then_final Q (Compares (base_file name) (subject_text p.forms p.goal) files) (λ done. VerifiesList name files p)
+        then_final Q (Compares (base_file name) (subject_text p.forms p.goal) files) (λ done. VerifiesCoreList name files p)
         (compares_final (base_file name) (subject_text p.forms p.goal) files) (λ done held. list_final p)
 
     verifies_final : Final Q (VerifiesWhole name files)
-    verifies_final = then_final Q (Reads (core_file name) files) (VerifiesSubject name files) (reads_final (core_file name) files) (λ p read. subject_final p)
+    verifies_final = then_final Q (Reads (core_file name) files) (VerifiesCoreSubject name files) (reads_final (core_file name) files) (λ p read. subject_final p)
 
 -- ---- `build --core`
 
@@ -191,10 +194,10 @@ module _ (builds_end : BuildsFinal) (compiles_final : CompilesFinal)
     (samples_final : SamplesFinal) (c : Call) (files : Files) where
   -- the words spell a command that is so
   abbrev IsSpelledSo : Stop → Type 0
-  IsSpelledSo stop = (command : Meant) × (named : List Meaning) × Spells c.words command ×
+  IsSpelledSo stop = (command : Meant) × (named : List Meaning) × SpellsCommand c.words command ×
       NamesFor c.auditors command (Ok named) × IsUntypedCommand command named files stop
 
-  runs_for_final : (command : Meant) → Spells c.words command →
+  runs_for_final : (command : Meant) → SpellsCommand c.words command →
       FinalTrying IsSpelledSo (RunsFor c.auditors files command)
   runs_for_final command spelled =
       and_then_final IsSpelledSo (Untried (NamesFor c.auditors command))
@@ -218,6 +221,6 @@ module _ (builds_end : BuildsFinal) (compiles_final : CompilesFinal)
       (λ command before spelled. runs_for_final command spelled.0)
 
 pub type_errors_are_final : BuildsFinal → CompilesFinal → SamplesFinal → TypeErrorsAreFinal
-unfolding Outcome
+unfolding RunOutcome
 type_errors_are_final builds_end compiles_final samples_final c files =
     outcome_final builds_end compiles_final samples_final c files

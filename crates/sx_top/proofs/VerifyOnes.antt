@@ -16,7 +16,8 @@ use Rattle.sx_replay.specs.declared.replay_error.ReplayError.TheVariants as repl
 use Rattle.sx_replay.proofs.OneAnswer.{one_answer}
 use Rattle.sx_words.specs.Commands.{Meant, builds, compiles, checks, verifies, samples}
 use Rattle.sx_top.specs.CoreTexts.{subject_text, term_lines}
-use Rattle.sx_top.specs.FindFirst.{no_hypotheses, problem_rules}
+use Rattle.sx_top.specs.FindFirst.{problem_rules}
+use Rattle.sx_rules.specs.Rules.{no_hypotheses}
 use Rattle.sx_steps.specs.Held.{Held}
 use Rattle.sx_term.specs.Limits.{most_bytes}
 use Rattle.sx_steps.specs.Lower.{Lower}
@@ -27,16 +28,17 @@ use Rattle.sx_steps.specs.Unit.{base_file, list_file, interface_file}
 use Rattle.sx_top.specs.Search.{Searches, HasWalked}
 use Rattle.sx_top.specs.Written.{Compares}
 use Rattle.sx_top.specs.BuildCore.{core_plan, BuildsGoal, BuildsWhole}
-use Rattle.sx_top.specs.VerifyCore.{Replays, VerifiesOutputs, VerifiesEntries, VerifiesList, VerifiesSubject, VerifiesWhole}
+use Rattle.sx_top.specs.VerifyCore.{ReplaysProblem, VerifiesOutputs, VerifiesCoreEntries}
+use Rattle.sx_top.specs.VerifyCore.{VerifiesCoreList, VerifiesCoreSubject, VerifiesWhole}
 use Rattle.sx_steps.specs.Refusal.{bad_word}
 use Rattle.sx_words.proofs.CommandLaws.{one_command}
 use Rattle.sx_words.proofs.OneAnswer.{one_misfit, no_misfit}
-use Rattle.sx_words.specs.Commands.{Spells}
+use Rattle.sx_words.specs.Commands.{SpellsCommand}
 use Rattle.sx_top.specs.Commands.{Commands}
 use Rattle.sx_audit.specs.Meaning.{Meaning}
 use Rattle.sx_auditing.proofs.Names.{names-once}
 use Rattle.sx_top.specs.Calls.{Call}
-use Rattle.sx_top.specs.Outcome.{budgets_of, audits_of, NamesFor, Runs, RunsFor, Outcome}
+use Rattle.sx_top.specs.Outcome.{budgets_of, audits_of, NamesFor, Runs, RunsFor, RunOutcome}
 use Rattle.sx_top.specs.Laws.{IsOfCore, SameFor, SameStops, OneCoreOutcome, OneOutcome}
 use Rattle.sx_steps.proofs.StepsOn.{went}
 use Rattle.sx_build.specs.Laws.{BuildsAgree}
@@ -55,7 +57,7 @@ use Rattle.sx_verify.proofs.OneSteps.{list_one}
 
 -- ---- the replay
 
-replays_one : (file : List ℕ) (p : Problem) (list : List EntryOf) → AllModed (modes_of p.forms) (problem_rules p) → IsOne (Replays file p list)
+replays_one : (file : List ℕ) (p : Problem) (list : List EntryOf) → AllModed (modes_of p.forms) (problem_rules p) → IsOne (ReplaysProblem file p list)
 replays_one file p list moded =
     lower_but (replay_stop file) (IsReplayAnswer (modes_of p.forms) (problem_rules p) no_hypotheses p.goal (entries list)) replay_error.Memory refl
     (one_answer (modes_of p.forms) (problem_rules p) no_hypotheses moded p.goal (entries list))
@@ -67,20 +69,20 @@ module _ (name : List ℕ) (files : Files) where
       (compares_one (interface_file name) (term_lines outputs) files) (λ done held x y h k n m. h ∙ sym k)
 
   module _ (p : Problem) (is_proper : IsProper p) where
-    replay_one : (list : List EntryOf) → IsOne (VerifiesEntries name files p list)
+    replay_one : (list : List EntryOf) → IsOne (VerifiesCoreEntries name files p list)
     replay_one list =
-        then_one (Replays (list_file name) p list) (VerifiesOutputs name files (length list)) (replays_one (list_file name) p list is_proper.moded)
+        then_one (ReplaysProblem (list_file name) p list) (VerifiesOutputs name files (length list)) (replays_one (list_file name) p list is_proper.moded)
         (λ outputs replayed. outputs_one (length list) outputs)
 
-    verify_list_one : IsOne (VerifiesList name files p)
+    verify_list_one : IsOne (VerifiesCoreList name files p)
     verify_list_one =
-        then_one (ReadsEntries (list_file name) (rule_names p) files) (VerifiesEntries name files p) (list_one (list_file name) (rule_names p)
+        then_one (ReadsEntries (list_file name) (rule_names p) files) (VerifiesCoreEntries name files p) (list_one (list_file name) (rule_names p)
         (record { named = is_proper.names; distinct = is_proper.distinct }) files)
         (λ list read. replay_one list)
 
-    subject_one : IsOne (VerifiesSubject name files p)
+    subject_one : IsOne (VerifiesCoreSubject name files p)
     subject_one =
-        then_one (Compares (base_file name) (subject_text p.forms p.goal) files) (λ done. VerifiesList name files p)
+        then_one (Compares (base_file name) (subject_text p.forms p.goal) files) (λ done. VerifiesCoreList name files p)
         (compares_one (base_file name) (subject_text p.forms p.goal) files) (λ done held. verify_list_one)
 
     goal_one : (budget : ℕ) → IsOneBy ◌≡◌ (BuildsGoal name (core_file name) budget p)
@@ -113,7 +115,7 @@ module _ (core_one : (bytes : List ℕ) (a b : Result Problem CoreFileError) →
 
   verifies_one : (name : List ℕ) (files : Files) → IsOne (VerifiesWhole name files)
   verifies_one name files =
-      then_one (Reads (core_file name) files) (VerifiesSubject name files) (reads_one (core_file name) files)
+      then_one (Reads (core_file name) files) (VerifiesCoreSubject name files) (reads_one (core_file name) files)
       (λ p read. subject_one name files p (read_proper (core_file name) files p read))
 
   runs_one : (command : Meant) (named : List Meaning) (files : Files) → IsOfCore command → IsOneBy ◌≡◌ (Runs command named files)
@@ -140,7 +142,7 @@ module _ (core_one : (bytes : List ℕ) (a b : Result Problem CoreFileError) →
       (λ named before are. runs_one command named files kept)
 
   pub core_outcome_by : OneCoreOutcome
-  unfolding Outcome
+  unfolding RunOutcome
   core_outcome_by c none files a b m n h k p q =
       let one = and_then_by ◌≡◌ (Untried (Commands c.words)) (RunsFor c.auditors files)
       (trying_one NoTries (Commands c.words) no_tries_one (commands_one c.words))
@@ -170,7 +172,7 @@ module _ (core_one : (bytes : List ℕ) (a b : Result Problem CoreFileError) →
 
   -- and so for the words that spell it
   spelled_by : BuildsAgree → CompilesAgree → VerifiesAgree → SamplesAgree → (c : Call) (files : Files) (command : Meant) →
-      Spells c.words command →
+      SpellsCommand c.words command →
       IsOneBy (SameStops c files) (RunsFor c.auditors files command)
   spelled_by builds_same compiles_one verifies_same samples_same c files command spelled =
       and_then_by (SameStops c files) (Untried (NamesFor c.auditors command))
@@ -185,7 +187,7 @@ module _ (core_one : (bytes : List ℕ) (a b : Result Problem CoreFileError) →
       ))
 
   pub one_outcome_by : BuildsAgree → CompilesAgree → VerifiesAgree → SamplesAgree → OneOutcome
-  unfolding Outcome
+  unfolding RunOutcome
   one_outcome_by builds_same compiles_one verifies_same samples_same c files =
       and_then_by (SameStops c files) (Untried (Commands c.words)) (RunsFor c.auditors files)
       (trying_same (SameStops c files) (λ s. inl refl) NoTries (Commands c.words) no_tries_one

@@ -10,7 +10,8 @@ use Rattle.sx_rules.specs.EntryView.{entries}
 use Rattle.sx_core.specs.Problem.{Problem}
 use Rattle.sx_replay.specs.Replay.{IsReplayAnswer}
 use Rattle.sx_top.specs.CoreTexts.{term_lines}
-use Rattle.sx_top.specs.FindFirst.{no_hypotheses, problem_rules}
+use Rattle.sx_top.specs.FindFirst.{problem_rules}
+use Rattle.sx_rules.specs.Rules.{no_hypotheses}
 use Rattle.sx_steps.specs.Work.{Plan}
 use Rattle.sx_verify.specs.Verified.{verified_plan}
 use Rattle.sx_top.specs.VerifyCore.{VerifiesWhole, VerifiedUnit}

@@ -20,7 +20,8 @@ use Rattle.sx_core.specs.declared.problem.CoreProblem.{CoreProblem}
 use Rattle.sx_replay.specs.Limits.{first_of, first_deep}
 use Rattle.sx_replay.specs.Fronts.{asked_of, concluded_of, whole, made_in, made_below}
 use Rattle.sx_replay.specs.Replay.{IsWithin, IsReplayAnswer}
-use Rattle.sx_top.specs.FindFirst.{no_hypotheses, problem_rules}
+use Rattle.sx_top.specs.FindFirst.{problem_rules}
+use Rattle.sx_rules.specs.Rules.{no_hypotheses}
 use Rattle.sx_top.specs.Terms.{AreTerms}
 use Rattle.sx_top.specs.Proper.{IsProper}
 use Rattle.sx_steps.specs.Stop.{IsNoFault, OnlyReads}

@@ -11,7 +11,8 @@ use Rattle.sx_derive.specs.Stuck.{Blame}
 use Rattle.sx_derive.proofs.BlamedOnce.{stuck_goal_is_unique}
 use Rattle.sx_steps.specs.declared.stop.Stop.{Stop}
 use Rattle.sx_top.specs.CoreStops.{underivable}
-use Rattle.sx_top.specs.FindFirst.{no_hypotheses, problem_rules}
+use Rattle.sx_top.specs.FindFirst.{problem_rules}
+use Rattle.sx_rules.specs.Rules.{no_hypotheses}
 use Rattle.sx_steps.specs.Held.{Held}
 use Rattle.sx_term.specs.Limits.{most_bytes}
 use Rattle.sx_top.specs.Search.{goal_events, ComesTo, Searches}

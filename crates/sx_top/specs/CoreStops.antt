@@ -10,8 +10,8 @@ use Rattle.sx_rules.specs.Modes.{Goal}
 use Rattle.sx_core.specs.Problem.{Problem}
 use Rattle.sx_steps.specs.declared.stop.Stop.{Stop}
 use Rattle.sx_steps.specs.Refusal.{about}
-use Rattle.sx_top.specs.CoreTexts.{rule_name}
-use Rattle.sx_top.specs.GoalTexts.{goal_text}
+use Rattle.sx_top.specs.CoreTexts.{core_rule_name}
+use Rattle.sx_top.specs.GoalTexts.{core_goal_text}
 
 -- ---- core files
 
@@ -24,13 +24,14 @@ variable_name variable = codes "?" ++ decimal variable
 -- why a goal has no derivation, by the stuck goal and the reason; premises are counted from 1, and
 -- outputs got are shown
 abbrev pub stuck_defect : List FormData → List NamedRule → Goal → Reason → GoalDefect
-stuck_defect forms rules goal no_rule = goal_defect.NoRule (goal_text forms goal None)
+stuck_defect forms rules goal no_rule = goal_defect.NoRule (core_goal_text forms goal None)
 stuck_defect forms rules goal (unequal rule premise) =
-    goal_defect.Equal (goal_text forms goal None) (premise + 1) (rule_name rules rule)
+    goal_defect.Equal (core_goal_text forms goal None) (premise + 1) (core_rule_name rules rule)
 stuck_defect forms rules goal (mismatch (Some by) got) =
-    goal_defect.Mismatch (goal_text forms goal (Some got)) (by.1 + 1) (rule_name rules by.0)
+    goal_defect.Mismatch (core_goal_text forms goal (Some got)) (by.1 + 1)
+    (core_rule_name rules by.0)
 stuck_defect forms rules goal (mismatch None got) =
-    goal_defect.NotStated (goal_text forms goal (Some got))
+    goal_defect.NotStated (core_goal_text forms goal (Some got))
 
 abbrev pub stuck : List ℕ → List FormData → List NamedRule → Goal → Reason → Stop
 stuck file forms rules goal reason = about file (defect.Goal (stuck_defect forms rules goal reason))

@@ -44,12 +44,12 @@ rule_name_or_none None = []
 rule_name_or_none (Some rule) = rule.name
 
 -- the name of the rule with this number
-abbrev pub rule_name : List NamedRule → ℕ → List ℕ
-rule_name rules number = rule_name_or_none (slice_get rules number)
+abbrev pub core_rule_name : List NamedRule → ℕ → List ℕ
+core_rule_name rules number = rule_name_or_none (slice_get rules number)
 
 -- a rule's name, or `given` and the number of the given, counted from 1
 abbrev pub entry_text : List NamedRule → Entry → List ℕ
-entry_text rules (of_rule number) = rule_name rules number
+entry_text rules (of_rule number) = core_rule_name rules number
 entry_text rules (of_given number) = codes "given " ++ decimal (number + 1)
 
 -- each entry on a line

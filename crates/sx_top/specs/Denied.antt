@@ -2,13 +2,13 @@
 use Rattle.std.specs.Prelude.{◌≡◌, ℕ, true, false, List, ◌∷◌, ◌++◌, Some, Ok}
 use Rattle.sx_outside.specs.Files.{Files}
 use Rattle.sx_words.specs.Commands.{AuditWord, Meant, builds, compiles, checks, verifies, samples}
-use Rattle.sx_audit.specs.Kinds.{names_in, deny_kind}
+use Rattle.sx_audit.specs.Kinds.{listed_names, deny_kind}
 use Rattle.sx_audit.specs.Meaning.{Meaning}
 use Rattle.sx_auditing.specs.Laws.{first_named}
 use Rattle.sx_build.specs.Denied.{AreWithout}
 use Rattle.sx_compile.specs.Denied.{IsWithout}
 use Rattle.sx_top.specs.Calls.{Call}
-use Rattle.sx_words.specs.Commands.{Spells}
+use Rattle.sx_words.specs.Commands.{SpellsCommand}
 use Rattle.sx_top.specs.Outcome.{budgets_of, audits_of, NamesFor, Promises}
 
 -- no list that the command writes for modules, as it promises, has a rule with one of these names
@@ -36,8 +36,8 @@ pub record Denies (c : Call) (command : Meant) (word : AuditWord) : Type 0 where
 -- what such a word lists is in no list that a command writes which keeps its promise
 abbrev pub DeniedAreUnwritten : Type 0
 DeniedAreUnwritten =
-    (c : Call) (command : Meant) (word : AuditWord) → Spells c.words command →
+    (c : Call) (command : Meant) (word : AuditWord) → SpellsCommand c.words command →
     Denies c command word → (named : List Meaning) → NamesFor c.auditors command (Ok named) →
-    (names : List (List ℕ)) × (names_in word.setting ≡ Some names)
+    (names : List (List ℕ)) × (listed_names word.setting ≡ Some names)
     × ((old new : Files) (lines : List ℕ) (p : Promises command named old new lines) →
     WritesNone names command named old new lines p)

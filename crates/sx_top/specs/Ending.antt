@@ -10,8 +10,8 @@ use Rattle.sx_steps.specs.declared.step_error.StepError.TheVariants as errors
 use Rattle.sx_steps.specs.Refusal.{status_of}
 use Rattle.sx_audit.specs.Meaning.{Meaning}
 use Rattle.sx_top.specs.Calls.{Call}
-use Rattle.sx_top.specs.Outcome.{NamesFor, Outcome, Promises}
-use Rattle.sx_words.specs.Commands.{Spells}
+use Rattle.sx_top.specs.Outcome.{NamesFor, RunOutcome, Promises}
+use Rattle.sx_words.specs.Commands.{SpellsCommand}
 use Rattle.sx_top.specs.Course.{Seen, Course, status_after, Begins, Leaves}
 use Rattle.sx_words.specs.Commands.{Meant}
 use Rattle.sx_steps.specs.declared.status.Status.{Status}
@@ -21,7 +21,7 @@ use Rattle.sx_steps.specs.declared.status.Status.TheVariants as statuses
 -- make were counted
 abbrev pub ComesTo : Call → Option Files → ℕ → ℕ → Result Plan StepError → Type 0
 ComesTo c told before after result =
-    WhereTold told (λ files. (tries : ℕ) × Outcome c files result tries ×
+    WhereTold told (λ files. (tries : ℕ) × RunOutcome c files result tries ×
     (after ≡ before + tries))
 
 -- the course of the run: its status, what its steps came to, with their tries, and what it leaves
@@ -44,7 +44,7 @@ KeepsFor handed command out out' old new = (named : List Meaning) × (lines : Li
 abbrev pub KeepsPromise : Call → Status → Option (List ℕ) → Option (List ℕ) → Files →
     Files → Type 0
 KeepsPromise c status out out' old new = status ≡ statuses.Done → (command : Meant) →
-    Spells c.words command → KeepsFor c.auditors command out out' old new
+    SpellsCommand c.words command → KeepsFor c.auditors command out out' old new
 
 -- a read failed: the status says so, unless the sink failed on the line, or memory lacked for it
 abbrev pub IsAfterRead : Status → ℕ → ℕ → Type 0
@@ -54,7 +54,7 @@ IsAfterRead status before after = (status ≡ statuses.ReadFault) ⊎
 -- the words and files have no defect: nothing but a failed read stops their steps
 abbrev pub HasNoDefect : Call → Files → Type 0
 HasNoDefect c files = (stop : Stop) (tries : ℕ) →
-    Outcome c files (Err (errors.Stopped stop)) tries → status_of stop ≡ statuses.ReadFault
+    RunOutcome c files (Err (errors.Stopped stop)) tries → status_of stop ≡ statuses.ReadFault
 
 -- done, or memory lacked
 abbrev pub IsDoneOrShort : Status → Type 0

@@ -1,13 +1,9 @@
 -- The first derivation of a core problem's goal.
 use Rattle.std.specs.Prelude.{List, [], map, None}
-use Rattle.sx_rules.specs.Rules.{Rule, Hypotheses}
+use Rattle.sx_rules.specs.Rules.{Rule, Hypotheses, no_hypotheses}
 use Rattle.sx_rules.specs.Views.{modes_of}
 use Rattle.sx_rules.specs.First.{Answer, IsFirst}
 use Rattle.sx_core.specs.Problem.{Problem}
-
--- nothing is given
-abbrev pub no_hypotheses : Hypotheses
-no_hypotheses = record { judgements = []; pairs = [] }
 
 -- the rules of a problem without their names
 abbrev pub problem_rules : Problem → List Rule

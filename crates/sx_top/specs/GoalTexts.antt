@@ -18,6 +18,6 @@ places_text (false ∷ modes) [] got = []
 places_text (false ∷ modes) (term ∷ inputs) got = 32 ∷ (core term ++ places_text modes inputs got)
 
 -- the form's name and its places, with the outputs got where there are some
-abbrev pub goal_text : List FormData → Goal → Option (List Tree) → List ℕ
-goal_text forms goal got =
+abbrev pub core_goal_text : List FormData → Goal → Option (List Tree) → List ℕ
+core_goal_text forms goal got =
     form_name forms goal.form ++ places_text (modes_of forms goal.form) goal.terms got

@@ -12,22 +12,23 @@ use Rattle.sx_steps.specs.declared.step_error.StepError.TheVariants as errors
 use Rattle.sx_steps.specs.Agree.{IsSure, AnswersBy}
 use Rattle.sx_steps.specs.TypeErrors.{IsTypeError}
 use Rattle.sx_steps.specs.Work.{Plan}
-use Rattle.sx_build.specs.Laws.{SameButShown, IsTurn, given_at}
+use Rattle.sx_build.specs.Laws.{SameButShown, IsTurnOf, given_at}
 use Rattle.sx_check.specs.Laws.{SameButLines, HasUnsoundRule}
 use Rattle.sx_verify.specs.Laws.{SameButShown as VerifiesSame}
 use Rattle.sx_compile.specs.Laws.{HasNoType as UnitHasNoType}
 use Rattle.sx_compile.specs.Laws.{HasUnsoundRule as UnitHasUnsoundRule}
-use Rattle.sx_compile.specs.Found.{IsFound, given_from}
+use Rattle.sx_compile.specs.Found.{IsModuleFound, given_from}
 use Rattle.sx_compile.specs.Laws.{SameButShown as CompilesSame}
-use Rattle.sx_sample.specs.Holding.{files_of}
+use Rattle.sx_sample.specs.Holding.{sample_files}
 use Rattle.sx_sampling.specs.SampleSteps.{sample_budgets}
-use Rattle.sx_sampling.specs.Found.{IsFound as IsSampleFound, given_from as given_from_sample}
+use Rattle.sx_sampling.specs.Found.{IsSampleFound, given_from as given_from_sample}
 use Rattle.sx_sampling.specs.Laws.{SameButShown as SamplesSame}
 use Rattle.sx_audit.specs.Meaning.{Meaning}
 use Rattle.sx_top.specs.Calls.{Call}
-use Rattle.sx_words.specs.Commands.{Spells}
-use Rattle.sx_top.specs.FindFirst.{no_hypotheses, problem_rules}
-use Rattle.sx_top.specs.Outcome.{budgets_of, NamesFor, Outcome}
+use Rattle.sx_words.specs.Commands.{SpellsCommand}
+use Rattle.sx_top.specs.FindFirst.{problem_rules}
+use Rattle.sx_rules.specs.Rules.{no_hypotheses}
+use Rattle.sx_top.specs.Outcome.{budgets_of, NamesFor, RunOutcome}
 use Rattle.sx_top.specs.ReadCore.{core_file, Reads}
 
 -- ---- one outcome
@@ -46,9 +47,9 @@ IsOfCore (samples number) = ⊥
 -- read faults and out of memory aside
 abbrev pub OneCoreOutcome : Type 0
 OneCoreOutcome =
-    (c : Call) → ((command : Meant) → Spells c.words command → IsOfCore command) →
+    (c : Call) → ((command : Meant) → SpellsCommand c.words command → IsOfCore command) →
     (files : Files) (a b : Result Plan StepError) (m n : ℕ) →
-    Outcome c files a m → Outcome c files b n → IsSure a → IsSure b → (a ≡ b) × (m ≡ n)
+    RunOutcome c files a m → RunOutcome c files b n → IsSure a → IsSure b → (a ≡ b) × (m ≡ n)
 
 -- the stops of the command with these auditors are the same; for a module or an extension they give
 -- the same status and the same line, but for two readings that they show of a text with more than
@@ -68,7 +69,7 @@ SameFor (verifies true name) named files s t = s ≡ t
 -- the stops are the same, or so for the command that the words spell and the auditors that it names
 abbrev pub SameStops : Call → Files → Stop → Stop → Type 0
 SameStops c files s t = (s ≡ t) ⊎
-    ((command : Meant) × (named : List Meaning) × Spells c.words command ×
+    ((command : Meant) × (named : List Meaning) × SpellsCommand c.words command ×
     NamesFor c.auditors command (Ok named) × SameFor command named files s t)
 
 -- words and files have one outcome and one number of tries, but for read faults, out of memory and
@@ -76,7 +77,7 @@ SameStops c files s t = (s ≡ t) ⊎
 abbrev pub OneOutcome : Type 0
 OneOutcome =
     (c : Call) (files : Files) (a b : Result Plan StepError) (m n : ℕ) →
-    Outcome c files a m → Outcome c files b n → IsSure a → IsSure b →
+    RunOutcome c files a m → RunOutcome c files b n → IsSure a → IsSure b →
     AnswersBy (SameStops c files) a b × (m ≡ n)
 
 -- ---- type errors
@@ -91,22 +92,22 @@ pub record HasNoDerivation (name : List ℕ) (files : Files) : Type 0 where
 -- one of the modules of the closure, after those before it were made, has no type, or a rule of one
 -- of its extensions is not sound
 abbrev pub BuildsUntyped : (name : List ℕ) → Budgets → List Meaning → Files → Stop → Type 0
-BuildsUntyped name budgets auditors files stop = (t : IsTurn name budgets auditors files) ×
+BuildsUntyped name budgets auditors files stop = (t : IsTurnOf name budgets auditors files) ×
     (UnitHasNoType budgets files (given_at t) stop
     ⊎ UnitHasUnsoundRule budgets files (given_at t) stop)
 
 -- what the module is compiled from is found, and the module has no type, or a rule of one of its
 -- extensions is not sound
 abbrev pub CompilesUntyped : (name : List ℕ) → Budgets → Files → Stop → Type 0
-CompilesUntyped name budgets files stop = (f : IsFound name files) ×
+CompilesUntyped name budgets files stop = (f : IsModuleFound name files) ×
     (UnitHasNoType budgets files (given_from f) stop
     ⊎ UnitHasUnsoundRule budgets files (given_from f) stop)
 
 -- the sample's module has no type, or a rule of its extension is not sound
 abbrev pub SampleUntyped : (number : ℕ) → Stop → Type 0
 SampleUntyped number stop = (f : IsSampleFound number) ×
-    (UnitHasNoType sample_budgets (files_of number) (given_from_sample f) stop
-    ⊎ UnitHasUnsoundRule sample_budgets (files_of number) (given_from_sample f) stop)
+    (UnitHasNoType sample_budgets (sample_files number) (given_from_sample f) stop
+    ⊎ UnitHasUnsoundRule sample_budgets (sample_files number) (given_from_sample f) stop)
 
 -- The goal that the command derives has no derivation, or the rule that the stop is about, of an
 -- extension that it checks or uses, is not sound. `verify` derives no goal.
@@ -126,6 +127,6 @@ IsUntypedCommand (verifies of_core name) named files stop = ⊥
 abbrev pub TypeErrorsAreFinal : Type 0
 TypeErrorsAreFinal =
     (c : Call) (files : Files) (stop : Stop) (tries : ℕ) →
-    Outcome c files (Err (errors.Stopped stop)) tries → IsTypeError stop →
-    (command : Meant) × (named : List Meaning) × Spells c.words command ×
+    RunOutcome c files (Err (errors.Stopped stop)) tries → IsTypeError stop →
+    (command : Meant) × (named : List Meaning) × SpellsCommand c.words command ×
     NamesFor c.auditors command (Ok named) × IsUntypedCommand command named files stop

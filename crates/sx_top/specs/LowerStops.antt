@@ -8,7 +8,7 @@ use Rattle.sx_derive.specs.declared.derive_error.DeriveError.{DeriveError}
 use Rattle.sx_derive.specs.declared.derive_error.DeriveError.TheVariants as derive_error
 use Rattle.sx_steps.specs.declared.stop.Stop.{Stop}
 use Rattle.sx_top.specs.CoreStops.{variable_name, underivable}
-use Rattle.sx_steps.specs.Stops.{kind_text, not_utf8, bad_line, too_deep, too_big, bad_rules}
+use Rattle.sx_steps.specs.Stops.{bad_kind_text, not_utf8, bad_line, too_deep, too_big, bad_rules}
 use Rattle.sx_steps.specs.Stops.{tries_spent, depth_spent}
 
 -- the stop of a core file's refusal; out of memory has none, and the text of a term that is too
@@ -16,7 +16,7 @@ use Rattle.sx_steps.specs.Stops.{tries_spent, depth_spent}
 abbrev pub core_stop : List ℕ → CoreFileError → Option Stop
 core_stop file core_error.Memory = None
 core_stop file (core_error.NotUtf8 before) = Some (not_utf8 file before)
-core_stop file (core_error.Notation line what) = Some (bad_line file line (kind_text what))
+core_stop file (core_error.Notation line what) = Some (bad_line file line (bad_kind_text what))
 core_stop file (core_error.TooDeep line depth) = Some (too_deep file depth)
 core_stop file (core_error.Rules e) = bad_rules file variable_name e
 

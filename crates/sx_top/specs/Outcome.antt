@@ -73,5 +73,5 @@ RunsFor handed files command =
     AndThen (Untried (NamesFor handed command)) (λ named. Runs command named files)
 
 -- the words, and then their command, with the tries that its steps make
-unfoldable pub Outcome : Call → Files → Result Plan StepError → ℕ → Type 0
-Outcome c files = AndThen (Untried (Commands c.words)) (RunsFor c.auditors files)
+unfoldable pub RunOutcome : Call → Files → Result Plan StepError → ℕ → Type 0
+RunOutcome c files = AndThen (Untried (Commands c.words)) (RunsFor c.auditors files)

@@ -2,7 +2,7 @@
 use Rattle.std.specs.Prelude.{◌≤◌}
 use Rattle.sx_rules.specs.Views.{modes_of}
 use Rattle.sx_rules.specs.Modes.{AllModed}
-use Rattle.sx_rules.specs.RuleNames.{AreNames, AreDistinct}
+use Rattle.sx_rules.specs.RuleNames.{AreNames, AreNamesDistinct}
 use Rattle.sx_rules.specs.Writable.{HaveTexts, RulesHaveTexts}
 use Rattle.sx_rules.specs.Derivations.{AreShallow, height_of}
 use Rattle.sx_rules.specs.First.{Answer, DerivesGoal}
@@ -15,7 +15,8 @@ use Rattle.sx_derive.specs.declared.derive_error.DeriveError.TheVariants.{Memory
 use Rattle.sx_derive.specs.declared.derive_error.DeriveError.TheVariants.{BudgetSpent, DepthSpent}
 use Rattle.sx_derive.specs.declared.derive_error.DeriveError.TheVariants.{TooDeep, TooBig}
 use Rattle.sx_derive.specs.declared.listed.Listed.{Listed}
-use Rattle.sx_top.specs.FindFirst.{no_hypotheses, problem_rules}
+use Rattle.sx_top.specs.FindFirst.{problem_rules}
+use Rattle.sx_rules.specs.Rules.{no_hypotheses}
 use Rattle.sx_top.specs.ReadCore.{rule_names}
 use Rattle.sx_top.specs.Terms.{AreTerms}
 use Rattle.sx_rules.specs.Limits.{most_levels}
@@ -25,7 +26,7 @@ use Rattle.sx_rules.specs.Limits.{most_levels}
 pub record IsProper (problem : Problem) : Type 0 where
   pub moded : AllModed (modes_of problem.forms) (problem_rules problem)
   pub names : AreNames (rule_names problem)
-  pub distinct : AreDistinct (rule_names problem)
+  pub distinct : AreNamesDistinct (rule_names problem)
   pub rules : RulesHaveTexts (problem_rules problem)
   pub texts : HaveTexts problem.goal.terms
   pub shallow : AreShallow problem.goal.terms

@@ -8,7 +8,8 @@ use Rattle.sx_derive.specs.Walk.{too_deep as passes_terms, too_big as passes_siz
 use Rattle.sx_derive.specs.Search.{Ending, found, stopped, spent, exhausted, walk, tries_of}
 use Rattle.sx_derive.specs.Stuck.{Blame, IsStuck}
 use Rattle.sx_steps.specs.declared.stop.Stop.{Stop}
-use Rattle.sx_top.specs.FindFirst.{no_hypotheses, problem_rules}
+use Rattle.sx_top.specs.FindFirst.{problem_rules}
+use Rattle.sx_rules.specs.Rules.{no_hypotheses}
 use Rattle.sx_top.specs.CoreStops.{underivable}
 use Rattle.sx_steps.specs.Stops.{tries_spent, depth_spent, too_deep, too_big}
 use Rattle.sx_rules.specs.Limits.{most_levels}

@@ -9,9 +9,9 @@ use Rattle.sx_steps.specs.declared.step_error.StepError.TheVariants as errors
 use Rattle.sx_top.specs.Course.{answered, Sent}
 
 -- nothing is sent where memory lacked, and else the stop's line; the status is by the answer to it
-abbrev pub IsTold : StepError → Status → Option (List ℕ) → Option (List ℕ) → ℕ → ℕ → Type 0
-IsTold errors.Memory status old new before after = (status ≡ statuses.NoMemory) × (new ≡ old) ×
+abbrev pub IsStopTold : StepError → Status → Option (List ℕ) → Option (List ℕ) → ℕ → ℕ → Type 0
+IsStopTold errors.Memory status old new before after = (status ≡ statuses.NoMemory) × (new ≡ old) ×
     (after ≡ before)
-IsTold (errors.Stopped stop) status old new before after =
+IsStopTold (errors.Stopped stop) status old new before after =
     (answer : WriteAnswer) × (answered (status_of stop) answer ≡ status) ×
     Sent (line_of stop) answer old new before after

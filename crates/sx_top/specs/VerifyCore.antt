@@ -2,7 +2,7 @@
 use Rattle.std.specs.Prelude.{◌≡◌, ℕ, List, length, Result, Ok, Some}
 use Rattle.sx_outside.specs.Files.{Files}
 use Rattle.sx_term.specs.Tree.{Tree}
-use Rattle.sx_lines.specs.Lines.{lines_from, texts}
+use Rattle.sx_lines.specs.Lines.{lines_from, line_texts}
 use Rattle.sx_rules.specs.declared.entry.Entry.{Entry as EntryOf}
 use Rattle.sx_rules.specs.Views.{modes_of}
 use Rattle.sx_rules.specs.First.{Answer, DerivesGoal}
@@ -20,13 +20,14 @@ use Rattle.sx_verify.specs.Verified.{verified_line, verified_plan}
 use Rattle.sx_top.specs.ReadCore.{core_file, rule_names, Reads}
 use Rattle.sx_steps.specs.Unit.{base_file, list_file, interface_file}
 use Rattle.sx_top.specs.Written.{Compares}
-use Rattle.sx_top.specs.FindFirst.{no_hypotheses, problem_rules}
+use Rattle.sx_top.specs.FindFirst.{problem_rules}
+use Rattle.sx_rules.specs.Rules.{no_hypotheses}
 use Rattle.sx_top.specs.CoreTexts.{subject_text, term_lines}
 use Rattle.sx_steps.specs.Work.{Plan}
 
 -- the outputs of the derivation with the list, or why it fits none
-abbrev pub Replays : List ℕ → Problem → List EntryOf → Result (List Tree) Stop → Type 0
-Replays file problem list =
+abbrev pub ReplaysProblem : List ℕ → Problem → List EntryOf → Result (List Tree) Stop → Type 0
+ReplaysProblem file problem list =
     Lower (replay_stop file) (IsReplayAnswer (modes_of problem.forms)
     (problem_rules problem) no_hypotheses problem.goal (entries list))
 
@@ -37,25 +38,25 @@ VerifiesOutputs name files nodes outputs =
     (λ done result. result ≡ Ok (verified_plan name nodes))
 
 -- the list is replayed, and then the outputs are compared
-abbrev pub VerifiesEntries : List ℕ → Files → Problem → List EntryOf → Result Plan Stop → Type 0
-VerifiesEntries name files problem list =
-    Then (Replays (list_file name) problem list) (VerifiesOutputs name files (length list))
+abbrev pub VerifiesCoreEntries : List ℕ → Files → Problem → List EntryOf → Result Plan Stop → Type 0
+VerifiesCoreEntries name files problem list =
+    Then (ReplaysProblem (list_file name) problem list) (VerifiesOutputs name files (length list))
 
 -- the list is read, replayed, and then the outputs are compared
-abbrev pub VerifiesList : List ℕ → Files → Problem → Result Plan Stop → Type 0
-VerifiesList name files problem =
+abbrev pub VerifiesCoreList : List ℕ → Files → Problem → Result Plan Stop → Type 0
+VerifiesCoreList name files problem =
     Then (ReadsEntries (list_file name) (rule_names problem) files)
-    (VerifiesEntries name files problem)
+    (VerifiesCoreEntries name files problem)
 
 -- the subject is compared, and then the list is verified
-abbrev pub VerifiesSubject : List ℕ → Files → Problem → Result Plan Stop → Type 0
-VerifiesSubject name files problem =
+abbrev pub VerifiesCoreSubject : List ℕ → Files → Problem → Result Plan Stop → Type 0
+VerifiesCoreSubject name files problem =
     Then (Compares (base_file name) (subject_text problem.forms problem.goal) files)
-    (λ done. VerifiesList name files problem)
+    (λ done. VerifiesCoreList name files problem)
 
 -- the file, then its subject, its list and its outputs
 abbrev pub VerifiesWhole : List ℕ → Files → Result Plan Stop → Type 0
-VerifiesWhole name files = Then (Reads (core_file name) files) (VerifiesSubject name files)
+VerifiesWhole name files = Then (Reads (core_file name) files) (VerifiesCoreSubject name files)
 
 -- NAME.base is the text of the goal's subject, the list of NAME.der is that of a derivation of the
 -- goal, and NAME.int has the texts of its outputs. All files are as before, and the line tells the
@@ -70,7 +71,7 @@ pub record VerifiedUnit (name : List ℕ) (old new : Files) (lines : List ℕ) :
   pub stated : IsCoreAnswer bytes (Ok problem)
   pub base : old (base_file name) ≡ Some (subject_text problem.forms problem.goal)
   pub listed : old (list_file name) ≡ Some list_bytes
-  pub states_list : StatesList (rule_names problem) (texts (lines_from 1 list_bytes)) list
+  pub states_list : StatesList (rule_names problem) (line_texts (lines_from 1 list_bytes)) list
   pub derives : DerivesGoal (modes_of problem.forms) (problem_rules problem) no_hypotheses
       problem.goal answer
   pub in_order : order_of answer.0 ≡ entries list

@@ -19,7 +19,7 @@ IsFailed (write_ends.Failed number) = Unit {0}
 IsFailed (write_ends.NoMemory number) = ⊥
 
 -- the number of the file that was not written is below the count
-abbrev pub IsBelow : ℕ → WriteEnd → Type 0
-IsBelow count write_ends.All = Unit {0}
-IsBelow count (write_ends.Failed number) = number < count
-IsBelow count (write_ends.NoMemory number) = number < count
+abbrev pub IsUnwrittenBelow : ℕ → WriteEnd → Type 0
+IsUnwrittenBelow count write_ends.All = Unit {0}
+IsUnwrittenBelow count (write_ends.Failed number) = number < count
+IsUnwrittenBelow count (write_ends.NoMemory number) = number < count

@@ -21,7 +21,7 @@ use sx_words::{Defect, GoalDefect};
 
 /// The name of the rule with this number; empty where there is no such rule.
 fn rule_name(alloc: Global, rules: &RuleSet, number: u32) -> Result<Text, NoMemory>
-    ensures { IfOk result (λ name. name ≡ core_texts.rule_name (rules_in rules.now) number) }
+    ensures { IfOk result (λ name. name ≡ core_texts.core_rule_name (rules_in rules.now) number) }
 {
     match rules.rule(number) {
         Some(rule) => rule.name.copy(alloc),

@@ -4,7 +4,7 @@ ghost use Rattle.std.specs.Prelude.{◌≡◌, ◌++◌, ◌∷◌, [], OnOk, If
 ghost use Rattle.sx_term.specs.Core.{core};
 ghost use Rattle.sx_term.specs.Term.{tree};
 ghost use Rattle.sx_rules.specs.Views.{is_out as role_is_out, forms, goal as goal_data};
-ghost use Rattle.sx_top.specs.GoalTexts.{places_text, goal_text};
+ghost use Rattle.sx_top.specs.GoalTexts.{places_text, core_goal_text};
 ghost use Rattle.sx_top.specs.Terms.{AreTerms};
 
 use crate::forms::{name_of, places_of};
@@ -92,7 +92,8 @@ fn write_whole(
 /// A goal as it is printed, with `_` for its outputs.
 pub fn open_goal(alloc: Global, all: &[Form], goal: &Goal) -> Result<Text, NoMemory>
     requires { AreTerms (map tree goal.now.inputs.items) }
-    ensures { IfOk result (λ text. text ≡ goal_text (forms all.now) (goal_data goal.now) None) }
+    ensures { IfOk result (λ text. text ≡ core_goal_text (forms all.now)
+        (goal_data goal.now) None) }
 {
     let mut bytes = Vec::from_slice(alloc, name_of(all, goal.form))?;
     write_open(alloc, places_of(all, goal.form), &goal.inputs, &mut bytes)?;
@@ -103,7 +104,7 @@ pub fn open_goal(alloc: Global, all: &[Form], goal: &Goal) -> Result<Text, NoMem
 pub fn whole_goal(alloc: Global, all: &[Form], goal: &Goal, got: &[Term]) -> Result<Text, NoMemory>
     requires inputs { AreTerms (map tree goal.now.inputs.items) }
     requires got { AreTerms (map tree got.now) }
-    ensures { IfOk result (λ text. text ≡ goal_text (forms all.now) (goal_data goal.now)
+    ensures { IfOk result (λ text. text ≡ core_goal_text (forms all.now) (goal_data goal.now)
         (Some (map tree got.now))) }
 {
     let mut bytes = Vec::from_slice(alloc, name_of(all, goal.form))?;

@@ -5,10 +5,10 @@ ghost use Rattle.sx_top.specs.Laws.{OneCoreOutcome, OneOutcome, TypeErrorsAreFin
 ghost use Rattle.sx_top.specs.Search.{WalksAreWithin};
 
 use sx_auditing::denied_are_kept;
-use sx_build::builds_agree;
-use sx_compile::compiles_agree;
+use sx_build::{build_type_errors_are_final, builds_agree, denied_are_unbuilt};
+use sx_compile::{compile_type_errors_are_final, compiles_agree, denied_are_uncompiled};
 use sx_outline::one_extension_header;
-use sx_sampling::samples_agree;
+use sx_sampling::{sample_type_errors_are_final, samples_agree};
 use sx_verify::verifies_agree;
 
 /// By the words and the files there is one outcome, but for read faults and out of memory: what is
@@ -31,9 +31,9 @@ pub fn one_outcome()
 pub fn type_errors_are_final()
     ensures { TypeErrorsAreFinal }
 {
-    sx_build::type_errors_are_final();
-    sx_compile::type_errors_are_final();
-    sx_sampling::type_errors_are_final();
+    build_type_errors_are_final();
+    compile_type_errors_are_final();
+    sample_type_errors_are_final();
 }
 
 /// The walk of a core problem's goal makes no more tries than it may spend.
@@ -46,7 +46,7 @@ pub fn walks_are_within()
 pub fn denied_are_unwritten()
     ensures { DeniedAreUnwritten }
 {
-    sx_build::denied_are_unwritten();
-    sx_compile::denied_are_unwritten();
+    denied_are_unbuilt();
+    denied_are_uncompiled();
     denied_are_kept();
 }

@@ -6,7 +6,7 @@ ghost use Rattle.sx_outside.specs.Faults.{RoseWhere};
 ghost use Rattle.sx_steps.specs.Refusal.{write_fault, line_of};
 ghost use Rattle.sx_steps.specs.Work.{file_of, plan_of};
 ghost use Rattle.sx_top.specs.Course.{seen, Sent};
-ghost use Rattle.sx_top.specs.Writing.{Wrote, IsFailed, IsBelow};
+ghost use Rattle.sx_top.specs.Writing.{Wrote, IsFailed, IsUnwrittenBelow};
 ghost use Rattle.sx_top.specs.Performing.{Performs};
 
 use crate::tell::answered;
@@ -28,7 +28,7 @@ pub enum WriteEnd {
 pub fn write_files<S: Shelf>(files: &[Output], shelf: &mut S) -> WriteEnd
     ensures wrote { Told (Wrote (map file_of files.now) result) (S.content shelf.old)
         (S.content shelf.new) }
-    ensures below { IsBelow (length files.now) result }
+    ensures below { IsUnwrittenBelow (length files.now) result }
     ensures reads { S.read_faults shelf.new ≡ S.read_faults shelf.old }
     ensures writes { RoseWhere (IsFailed result) (S.write_faults shelf.old)
         (S.write_faults shelf.new) }

@@ -162,7 +162,7 @@ pub fn plan<S: Shelf, L: Ledger>(
     steps: &mut Steps<L>,
 ) -> Result<Work, StepError>
     ensures outcome { WhereTold (S.content shelf.old) (λ files. Does plan_of
-        (spec.Outcome (call words.now (map (λ b. meaning b) auditors.items)) files) result
+        (spec.RunOutcome (call words.now (map (λ b. meaning b) auditors.items)) files) result
         steps.old steps.new) }
     ensures reads { OnlyReads (S.content shelf.old) (S.content shelf.new)
         (S.read_faults shelf.old) (S.read_faults shelf.new)

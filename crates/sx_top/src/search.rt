@@ -4,7 +4,7 @@ ghost use Rattle.std.specs.Prelude.{◌≡◌, ◌<◌, ◌^◌, Some, IfOk, len
 ghost use Rattle.sx_core.specs.Problem.{problem as problem_data};
 ghost use Rattle.sx_rules.specs.Views.{hypotheses};
 ghost use Rattle.sx_steps.specs.Stop.{RisesWithin, GivesFor, IsNoFault, Counts};
-ghost use Rattle.sx_top.specs.FindFirst.{no_hypotheses};
+ghost use Rattle.sx_rules.specs.Rules.{no_hypotheses};
 ghost use Rattle.sx_top.specs.LowerStops.{derive_stop};
 ghost use Rattle.sx_top.specs.Proper.{IsProper, ListsGiven, HasTerms};
 ghost use Rattle.sx_top.specs.Search.{Searches, HasWalked};

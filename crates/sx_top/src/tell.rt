@@ -3,7 +3,7 @@
 ghost use Rattle.std.specs.Prelude.{◌≡◌};
 ghost use Rattle.sx_steps.specs.Refusal.{line_of};
 ghost use Rattle.sx_top.specs.Course.{answered as status_answered, Sent};
-ghost use Rattle.sx_top.specs.Telling.{IsTold};
+ghost use Rattle.sx_top.specs.Telling.{IsStopTold};
 
 use std::alloc::Global;
 use sx_outside::{Sink, WriteAnswer};
@@ -33,7 +33,7 @@ fn send_line<K: Sink>(alloc: Global, stop: &Stop, out: &mut K) -> WriteAnswer
 
 /// Tells why nothing was written.
 pub fn tell<K: Sink>(alloc: Global, error: &StepError, out: &mut K) -> Status
-    ensures { IsTold error.now result (K.content out.old) (K.content out.new) (K.faults out.old)
+    ensures { IsStopTold error.now result (K.content out.old) (K.content out.new) (K.faults out.old)
         (K.faults out.new) }
 {
     match error {

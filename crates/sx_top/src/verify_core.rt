@@ -8,8 +8,9 @@ ghost use Rattle.sx_top.specs.Proper.{IsProper};
 ghost use Rattle.sx_steps.specs.Unit.{list_file};
 ghost use Rattle.sx_steps.specs.Stop.{Gives, OnlyReads, IsNoFault};
 ghost use Rattle.sx_top.specs.Terms.{AreTerms};
-ghost use Rattle.sx_top.specs.VerifyCore.{Replays, VerifiesOutputs};
-ghost use Rattle.sx_top.specs.VerifyCore.{VerifiesEntries, VerifiesList, VerifiesSubject};
+ghost use Rattle.sx_top.specs.VerifyCore.{ReplaysProblem, VerifiesOutputs};
+ghost use Rattle.sx_top.specs.VerifyCore.{VerifiesCoreEntries, VerifiesCoreList};
+ghost use Rattle.sx_top.specs.VerifyCore.{VerifiesCoreSubject};
 ghost use Rattle.sx_top.specs.VerifyCore.{VerifiesWhole};
 ghost use Rattle.sx_steps.specs.Work.{plan_of};
 
@@ -36,7 +37,7 @@ fn replay_list(
     requires proper { IsProper (problem_data problem.now) }
     requires short { length list.now < 2 ^ 32 - 1 }
     ensures step { Gives (λ outputs. map tree outputs.items)
-        (Replays file.now (problem_data problem.now) list.now) result }
+        (ReplaysProblem file.now (problem_data problem.now) list.now) result }
     ensures terms { IfOk result (λ outputs. AreTerms (map tree outputs.items)) }
     ensures no_fault { IsNoFault result }
 {
@@ -84,7 +85,8 @@ fn verify_entries<S: Shelf>(
     requires proper { IsProper (problem_data problem.now) }
     requires short { length list.now < 2 ^ 32 - 1 }
     ensures step { WhereTold (S.content shelf.old)
-        (λ files. Gives plan_of (VerifiesEntries name.now files (problem_data problem.now) list.now)
+        (λ files. Gives plan_of (VerifiesCoreEntries name.now files
+        (problem_data problem.now) list.now)
         result) }
     ensures reads { OnlyReads (S.content shelf.old) (S.content shelf.new)
         (S.read_faults shelf.old) (S.read_faults shelf.new)
@@ -105,7 +107,8 @@ fn verify_list<S: Shelf>(
 ) -> Result<Work, StepError>
     requires { IsProper (problem_data problem.now) }
     ensures step { WhereTold (S.content shelf.old)
-        (λ files. Gives plan_of (VerifiesList name.now files (problem_data problem.now)) result) }
+        (λ files. Gives plan_of (VerifiesCoreList name.now files
+        (problem_data problem.now)) result) }
     ensures reads { OnlyReads (S.content shelf.old) (S.content shelf.new)
         (S.read_faults shelf.old) (S.read_faults shelf.new)
         (S.write_faults shelf.old) (S.write_faults shelf.new) result }
@@ -126,7 +129,7 @@ fn verify_subject<S: Shelf>(
 ) -> Result<Work, StepError>
     requires { IsProper (problem_data problem.now) }
     ensures step { WhereTold (S.content shelf.old)
-        (λ files. Gives plan_of (VerifiesSubject name.now files (problem_data problem.now))
+        (λ files. Gives plan_of (VerifiesCoreSubject name.now files (problem_data problem.now))
         result) }
     ensures reads { OnlyReads (S.content shelf.old) (S.content shelf.new)
         (S.read_faults shelf.old) (S.read_faults shelf.new)

@@ -16,7 +16,7 @@ use Rattle.sx_grammar.specs.ReadOne.{IsAnswer, only}
 use Rattle.sx_grammar.specs.Print.{term_of}
 use Rattle.sx_earley.specs.Tokens.{plain_tokens}
 use Rattle.sx_earley.specs.Unknown.{HaveStems}
-use Rattle.sx_earley.specs.Completed.{number_of}
+use Rattle.sx_earley.specs.Completed.{sort_number}
 use Rattle.sx_earley.proofs.NoMetas.{no_metas, cut_has_stems}
 use Rattle.sx_forest.specs.Names.{IsMetavariable, IsMarked, AreMarked, names_in, names_of, AddsEach}
 use Rattle.sx_forest.proofs.Fits.{readings_marked}
@@ -64,9 +64,9 @@ module _ (p : Parts) (text : Text) (ts : List Token) (cut : IsCut p text ts) whe
   have_stems = cut_has_stems [] ts cut.2
 
   module _ (sort : Sort) (r : Reading)
-      (answer : IsAnswer (numbered p) (plain_tokens [] ts) (number_of sort) (only r)) where
+      (answer : IsAnswer (numbered p) (plain_tokens [] ts) (sort_number sort) (only r)) where
     pub is_marked : IsMarked ts r
-    is_marked = readings_marked (numbered p) [] ts (number_of sort) 0 0
+    is_marked = readings_marked (numbered p) [] ts (sort_number sort) 0 0
         (length (plain_tokens [] ts)) r answer.1.0
 
     pub has_no_names : names_in ts r ≡ []

@@ -18,7 +18,8 @@ use Rattle.sx_derive.proofs.Blamed.{exhausted_has_no_stop}
 use Rattle.sx_derive.proofs.BlameDepths.{stuck_goal_is_shallow}
 use Rattle.sx_derive.proofs.Bounded.{answers_are_bounded}
 use Rattle.sx_derive.proofs.Walked.{found_is_first}
-use Rattle.sx_typing.specs.Outcomes.{bare, no_hypotheses}
+use Rattle.sx_typing.specs.Outcomes.{nameless}
+use Rattle.sx_rules.specs.Rules.{no_hypotheses}
 use Rattle.sx_typing.specs.Searched.{IsGoalFor, FoundOutputsFit, ExhaustedGoalsFit}
 use Rattle.sx_typing.proofs.Lexemes.{outputs_have_lexemes}
 use Rattle.sx_typing.proofs.SortedGoals.{outputs_are_sorted, stuck_goals_fit}
@@ -52,11 +53,11 @@ module _ (P : Answer → Type 0) (wanted : Option (List Tree)) where
 
 pub found_outputs_fit : FoundOutputsFit
 found_outputs_fit literals shapes forms rules set have vars top goal good wanted budget a e =
-    let first = found_is_first (modes_of forms) (bare rules) no_hypotheses
+    let first = found_is_first (modes_of forms) (nameless rules) no_hypotheses
     (good_moded shapes forms [] rules set.1) goal wanted budget 1 a e in
     let bounds = found_each _ wanted budget
-    (events (modes_of forms) (bare rules) no_hypotheses goal 1) a
-    (answers_are_bounded (modes_of forms) (bare rules) no_hypotheses tt goal 1 good.shallow)
+    (events (modes_of forms) (nameless rules) no_hypotheses goal 1) a
+    (answers_are_bounded (modes_of forms) (nameless rules) no_hypotheses tt goal 1 good.shallow)
     e in
     record {
       sorted = outputs_are_sorted shapes forms rules set vars goal a good.sorted first.derives;
@@ -69,20 +70,20 @@ found_outputs_fit literals shapes forms rules set have vars top goal good wanted
 pub found_is_bounded : (literals : List Text) (shapes : List Shape) (forms : List FormData)
     (rules : List NamedRule) (vars : List Sort) (top : Tree) (goal : Goal) →
     IsGoalFor literals shapes forms vars top goal → (budget : ℕ) (a : Answer) →
-    walk None budget (events (modes_of forms) (bare rules) no_hypotheses goal 1) ≡ found a →
+    walk None budget (events (modes_of forms) (nameless rules) no_hypotheses goal 1) ≡ found a →
     (height_of a.0 ≤ 3000) × HasShallowBinds a.0
 found_is_bounded literals shapes forms rules vars top goal good budget a e =
     let bounds =
-    found_each _ None budget (events (modes_of forms) (bare rules) no_hypotheses goal 1) a
-    (answers_are_bounded (modes_of forms) (bare rules) no_hypotheses tt goal 1 good.shallow) e in
+    found_each _ None budget (events (modes_of forms) (nameless rules) no_hypotheses goal 1) a
+    (answers_are_bounded (modes_of forms) (nameless rules) no_hypotheses tt goal 1 good.shallow) e in
     (omega (arith, bounds.0), bounds.1)
 
 pub exhausted_goals_fit : ExhaustedGoalsFit
 exhausted_goals_fit literals shapes forms rules set vars top goal good wanted budget blame e s = (
   stuck_goals_fit shapes forms rules set vars top 3000 goal good.form [] blame good.is good.sorted
       good.leads s,
-  stuck_goal_is_shallow (modes_of forms) (subjects_in forms) (bare rules) no_hypotheses
+  stuck_goal_is_shallow (modes_of forms) (subjects_in forms) (nameless rules) no_hypotheses
       (good_moded shapes forms [] rules set.1) tt 1 goal [] blame good.shallow
       (exhausted_has_no_stop wanted budget
-      (events (modes_of forms) (bare rules) no_hypotheses goal 1) e) s,
+      (events (modes_of forms) (nameless rules) no_hypotheses goal 1) e) s,
 )

@@ -8,8 +8,8 @@ use Rattle.sx_rewrite.specs.Stored.{signature_of}
 use Rattle.sx_lexemes.specs.Lexemes.{IsToken, AllLexemesAre}
 use Rattle.sx_lexemes.proofs.Lowered.{lowered_keep_lexemes}
 use Rattle.sx_typing.specs.GoodTypings.{TypingsAreGood}
-use Rattle.sx_typing.specs.Goals.{goal}
-use Rattle.sx_typing.specs.Outcomes.{no_hypotheses}
+use Rattle.sx_typing.specs.Goals.{goal_with}
+use Rattle.sx_rules.specs.Rules.{no_hypotheses}
 use Rattle.sx_typing.specs.BodySource.{IsTermFor}
 use Rattle.sx_typing.proofs.Lexemes.{all_to_tokens, all_from_tokens}
 use Rattle.sx_typing.proofs.ReadSorted.{body_is_term}
@@ -34,7 +34,7 @@ typings_are_good s is he tries t =
           let j = good.derives.0 in
           let ins =
           subst (λ (g : Goal). AllLexemesAre (IsToken literals) g.terms) (sym good.derives.1)
-          (all_to_tokens literals (goal s b.subject).terms asked.lexemes) in
+          (all_to_tokens literals (goal_with s b.subject).terms asked.lexemes) in
           all_from_tokens literals k.places
           (lowered_keep_lexemes literals (signature_of d.language.forms)
           (shapes_of d.language.parts) (shapes_of d.parts) d.set is.accepted is.lexemes

@@ -21,7 +21,7 @@ use Rattle.sx_rewrite.proofs.RuleSets.{good_rules_are_disciplined}
 use Rattle.sx_lexemes.specs.Lexemes.{IsToken, RuleLexemesAre}
 use Rattle.sx_lexemes.proofs.Grown.{grown_sets_keep_lexemes}
 use Rattle.sx_typing.specs.Growing.{LanguagesAreDialects, DialectsGrow}
-use Rattle.sx_typing.specs.Outcomes.{bare}
+use Rattle.sx_typing.specs.Outcomes.{nameless}
 use Rattle.sx_typing.proofs.Lexemes.{rules_to_tokens}
 
 -- ---- languages
@@ -32,7 +32,7 @@ languages_are_dialects l is no_typed kinds good =
     let forms = forms_in l.rules in
     let rules = rules_in l.rules in
     let of_all = good_rules_are_disciplined (shapes_of p) forms [] rules good.1 in
-    let same = same-rules (bare rules) in
+    let same = same-rules (nameless rules) in
     record {
       more = [];
       goes_on = λ i. record {
@@ -46,7 +46,7 @@ languages_are_dialects l is no_typed kinds good =
       forms = is.forms;
       fit = is.fit;
       main = is.main;
-      accepted = base_rules_are_accepted (signature_of forms) (shapes_of p) (bare rules) no_typed
+      accepted = base_rules_are_accepted (signature_of forms) (shapes_of p) (nameless rules) no_typed
           (forms-fit forms kinds) (forms-typed forms kinds) of_all.0 of_all.1 of_all.2;
       base = refl;
       rules_are = sym same;
@@ -81,7 +81,7 @@ sound_rules subjects n a (e ∷ es) (c ∷ cs) h =
     let there = sound_rules subjects n a es cs h.1 in
     λ i. here i ∷ there i
 
-bare_both : (rules more : List NamedRule) → bare (rules ++ more) ≡ bare rules ++ bare more
+bare_both : (rules more : List NamedRule) → nameless (rules ++ more) ≡ nameless rules ++ nameless more
 bare_both [] more = refl
 bare_both (r ∷ rules) more = ap (λ (rs : List Rule). r.rule ∷ rs) (bare_both rules more)
 

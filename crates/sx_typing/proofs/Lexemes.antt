@@ -25,7 +25,8 @@ use Rattle.sx_lexemes.specs.Lexemes.{PremiseLexemesAre, RuleLexemesAre}
 use Rattle.sx_lexemes.proofs.Derived.{derived_keep_lexemes}
 use Rattle.sx_lexemes.proofs.Terms.{outputs_lexemes}
 use Rattle.sx_notation.specs.Language.{PremiseHasLexemes, RuleHasLexemes}
-use Rattle.sx_typing.specs.Outcomes.{bare, no_hypotheses, OutputsHaveLexemes}
+use Rattle.sx_typing.specs.Outcomes.{nameless, OutputsHaveLexemes}
+use Rattle.sx_rules.specs.Rules.{no_hypotheses}
 
 -- ---- both words for it
 
@@ -77,7 +78,7 @@ module _ (literals : List Text) where
       ((from_tokens t h.0.0, from_tokens u h.0.1), premises_from_tokens ps h.1)
 
   pub rules_to_tokens : (rules : List NamedRule) → AllByRecursion (RuleHasLexemes literals) rules →
-      AllByRecursion (RuleLexemesAre (IsToken literals)) (bare rules)
+      AllByRecursion (RuleLexemesAre (IsToken literals)) (nameless rules)
   rules_to_tokens [] h = tt
   rules_to_tokens (r ∷ rules) h = (
     record {
@@ -90,7 +91,7 @@ module _ (literals : List Text) where
 
   -- rules whose lexemes are tokens, with their names
   pub rules_from_tokens : (rules : List NamedRule) →
-      AllByRecursion (RuleLexemesAre (IsToken literals)) (bare rules) →
+      AllByRecursion (RuleLexemesAre (IsToken literals)) (nameless rules) →
       AllByRecursion (RuleHasLexemes literals) rules
   rules_from_tokens [] h = tt
   rules_from_tokens (r ∷ rules) h = (
@@ -117,7 +118,7 @@ module _ (literals : List Text) where
 
   -- extension rules with their bodies, where they are the rules with these names
   pub extension_to_tokens : (rules : List NamedRule) (es : List ExtRule) →
-      bare rules ≡ map (λ e. e.rule) es → AllByRecursion (RuleHasLexemes literals) rules →
+      nameless rules ≡ map (λ e. e.rule) es → AllByRecursion (RuleHasLexemes literals) rules →
       AllByRecursion (λ e. IfSome e.body (HasLexemes literals)) es →
       AllByRecursion (ExtLexemesAre (IsToken literals)) es
   extension_to_tokens rules es same h k =
@@ -139,7 +140,7 @@ outputs_have_lexemes literals shapes forms rules set have goal a g (j, is_goal, 
     let ins = subst (λ (x : Goal). AllLexemesAre (IsToken literals) x.terms) (sym is_goal)
     (all_to_tokens literals goal.terms g) in
     let all =
-    derived_keep_lexemes literals modes (bare rules) no_hypotheses
+    derived_keep_lexemes literals modes (nameless rules) no_hypotheses
     (good_moded shapes forms [] rules set.1) (rules_to_tokens literals rules have) tt a.0 j d
     ins in
     let outs = outputs_lexemes (IsToken literals) (modes j.form) j.places all in

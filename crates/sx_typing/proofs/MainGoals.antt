@@ -23,16 +23,16 @@ use Rattle.sx_rules.specs.Views.{places_or_none, is_out, is_sub}
 use Rattle.sx_rules.specs.Sets.{rules_in}
 use Rattle.sx_arena.specs.Views.{rules_of}
 use Rattle.sx_notation.specs.Language.{sort_when, sorts_with}
-use Rattle.sx_typing.specs.Outcomes.{bare, LeadsTo}
+use Rattle.sx_typing.specs.Outcomes.{nameless, LeadsTo}
 use Rattle.sx_typing.specs.MainGoals.{input_at, main_terms, main_goal, MainGoalsFit}
 use Rattle.sx_typing.specs.MainGoals.{MainGoalsHaveLexemes, MainGoalsAreShallow, PartsHavePlaces}
 
 -- the rules of a set, with names and without
-bare_named : (rules : List RuleOf) → bare (map named rules) ≡ map rule rules
+bare_named : (rules : List RuleOf) → nameless (map named rules) ≡ map rule rules
 bare_named [] = refl
 bare_named (r ∷ rules) = ap (λ rs. rule r ∷ rs) (bare_named rules)
 
-pub bare_is : (set : RuleSet) → bare (rules_in set) ≡ rules_of set
+pub bare_is : (set : RuleSet) → nameless (rules_in set) ≡ rules_of set
 bare_is set = bare_named set.rules.items
 
 abbrev outs_of : List Place → List Bool

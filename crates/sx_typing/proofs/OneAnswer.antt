@@ -18,7 +18,7 @@ use Rattle.sx_grammar.specs.Tables.{literals_of}
 use Rattle.sx_grammar.proofs.Answering.{answers_agree}
 use Rattle.sx_grammar.proofs.Finding.{distinct_are}
 use Rattle.sx_earley.specs.Tokens.{plain_tokens}
-use Rattle.sx_earley.specs.Completed.{number_of}
+use Rattle.sx_earley.specs.Completed.{sort_number}
 use Rattle.sx_notation.specs.declared.unread.Unread.{Unread}
 use Rattle.sx_notation.specs.WhyUnread.{IsUnreadAs}
 use Rattle.sx_notation.specs.OneReason.{HaveThree, ShowTwo}
@@ -63,12 +63,12 @@ module _ (p : Parts) (text : Text) where
 
 module _ (p : Parts) (sort : Sort) (text : Text) where
   abbrev Answers : List Token → ReadAnswer → Type 0
-  Answers ts a = IsAnswer (numbered p) (plain_tokens [] ts) (number_of sort) a
+  Answers ts a = IsAnswer (numbered p) (plain_tokens [] ts) (sort_number sort) a
 
   pub answer_one : (ts us : List Token) (a b : ReadAnswer) → IsCut p text ts → IsCut p text us →
       Answers ts a → Answers us b → SameAnswer a b
   answer_one ts us a b cut other h k =
-      answers_agree (numbered p) (plain_tokens [] us) (number_of sort) a b
+      answers_agree (numbered p) (plain_tokens [] us) (sort_number sort) a b
       (subst (λ (l : List Token). Answers l a) (one_cut p text ts us cut other) h) k
 
   pub record SameBody (ts us : List Token) (r q : Reading) (t u : Tree) : Type 0 where

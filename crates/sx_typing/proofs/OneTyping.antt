@@ -28,9 +28,9 @@ use Rattle.sx_typing.specs.declared.typing_error.TypingError.TheVariants.{DepthS
 use Rattle.sx_typing.specs.declared.typing_error.TypingError.TheVariants.{TooBig}
 use Rattle.sx_typing.specs.Alike.{HasThree, AreAlike, SameBody, SameTyping, OneTyping}
 use Rattle.sx_typing.specs.Body.{IsCut, HasDefect}
-use Rattle.sx_typing.specs.Goals.{dialect_rules, goal, goal_events, IsTyped}
-use Rattle.sx_typing.specs.Outcomes.{no_hypotheses}
-use Rattle.sx_typing.specs.Refused.{IsSpot, defect_place, unread_place, stuck_text, IsStuckGoal}
+use Rattle.sx_typing.specs.Goals.{dialect_rules, goal_with, goal_events, IsTyped}
+use Rattle.sx_rules.specs.Rules.{no_hypotheses}
+use Rattle.sx_typing.specs.Refused.{IsSpot, defect_place, unread_place, told_goal, IsStuckGoal}
 use Rattle.sx_typing.specs.Refused.{IsStuckAt, HasBody, HasTyping, IsBadSource, HasWalked}
 use Rattle.sx_typing.specs.BodySource.{BodySource, main_sort}
 use Rattle.sx_typing.proofs.OneAnswer.{body_one, defect_one, unread_one}
@@ -146,7 +146,7 @@ module _ (s : BodySource) where
       blame : Blame
       stuck : IsStuckGoal s subject blame
       at : IsStuckAt ts r blame s line column
-      told : text ≡ stuck_text s.dialect blame.goal blame.reason
+      told : text ≡ told_goal s.dialect blame.goal blame.reason
 
   module _ (tries : ℕ) where
     -- the refusal where the walk ends so
@@ -165,12 +165,12 @@ module _ (s : BodySource) where
           let forms = s.dialect.language.forms in
           let same =
           stuck_goal_is_unique (modes_of forms) (subjects_in forms) (dialect_rules s.dialect)
-          no_hypotheses moded (goal s subject) [] 3000 3000 h.blame k.blame h.stuck k.stuck in
+          no_hypotheses moded (goal_with s subject) [] 3000 3000 h.blame k.blame h.stuck k.stuck in
           let there = subst (λ (b : Blame). IsStuckAt ts r b s h.line h.column) same h.at in
           let number = some_same there.0 k.at.0 (sym there.1 ∙ k.at.1) in
           let spot = subst (λ (n : ℕ). IsSpot s (place_in ts (length s.header.body) n) h.line
           h.column) number there.2 in
-          let text = h.told ∙ (λ i. stuck_text s.dialect (same i).goal (same i).reason) ∙ sym
+          let text = h.told ∙ (λ i. told_goal s.dialect (same i).goal (same i).reason) ∙ sym
           k.told in
           h.is ∙ (λ i. TypeError ((spot.0 ∙ sym k.at.2.0) i) ((spot.1 ∙ sym k.at.2.1) i) (text i))
           ∙ sym k.is

@@ -24,8 +24,8 @@ use Rattle.sx_grammar.specs.Reading.{by_brackets, by_variable, all_read, by_lite
 use Rattle.sx_grammar.specs.Reading.{by_lexical_variable, by_part}
 use Rattle.sx_grammar.specs.Print.{leaf_term, term_of, terms_of}
 use Rattle.sx_print.specs.Cut.{HasLexemes}
-use Rattle.sx_earley.specs.Tokens.{shown, plain_tokens}
-use Rattle.sx_earley.specs.Completed.{IsSort, number_of}
+use Rattle.sx_earley.specs.Tokens.{read_token, plain_tokens}
+use Rattle.sx_earley.specs.Completed.{IsSort, sort_number}
 use Rattle.sx_notation.proofs.ReadLexemes.{cut_lexed, term_lexemes, term_depth}
 use Rattle.sx_typing.specs.Body.{ReadsAs}
 use Rattle.sx_typing.specs.Dialects.{IsDialect}
@@ -36,7 +36,7 @@ use Rattle.sx_typing.proofs.Lexemes.{without_more}
 use Rattle.sx_typing.proofs.MainSorts.{subject_is_sort}
 
 shown_plain : (m : Mark) (text : Text) (stem : plain.Stem) (other : Text) → (m ≡ Meta → ⊥) →
-    shown [] m text ≡ record { mark = plain.is_variable stem; text = other } → ⊥
+    read_token [] m text ≡ record { mark = plain.is_variable stem; text = other } → ⊥
 shown_plain (Lit n) text stem other h e = let f : plain.is_literal ≡ plain.is_variable stem =
     ap (λ (t : plain.Token). t.mark) e in cc
 shown_plain (Lex kind) text stem other h e = let f : plain.is_lexeme kind ≡ plain.is_variable stem =
@@ -89,7 +89,7 @@ module _ (p : Parts) (ts : List Token) (all : AllByRecursion IsPlain ts) where
     all_sorted (by_part kid rest) = (reads_sorted kid, all_sorted rest)
 
 -- a sort of the grammar is the one with its number
-sort_is : (p : Parts) (sort : Sort) → IsSort p sort → sort_with p.sorts (number_of sort) ≡ sort
+sort_is : (p : Parts) (sort : Sort) → IsSort p sort → sort_with p.sorts (sort_number sort) ≡ sort
 sort_is p (sorts.Lex kind) h = absurd h
 sort_is p (sorts.Plain n) h = ap (λ (b : Bool). cond b (sorts.Typed n) (sorts.Plain n)) h.1
 sort_is p (sorts.Typed n) h = ap (λ (b : Bool). cond b (sorts.Typed n) (sorts.Plain n)) h.1

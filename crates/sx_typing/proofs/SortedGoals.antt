@@ -2,7 +2,8 @@
 use Rattle.std.proofs.Common.{ℕ, List}
 use Rattle.sx_rules.specs.Modes.{Goal}
 use Rattle.sx_stuck.proofs.StuckGoals.{outputs_sorted_from, stuck_in}
-use Rattle.sx_typing.specs.Outcomes.{no_hypotheses, OutputsAreSorted, LeadsTo, StuckGoalsFit}
+use Rattle.sx_typing.specs.Outcomes.{OutputsAreSorted, LeadsTo, StuckGoalsFit}
+use Rattle.sx_rules.specs.Rules.{no_hypotheses}
 use Rattle.sx_typing.proofs.Ways.{premise_leads}
 
 pub outputs_are_sorted : OutputsAreSorted

@@ -8,10 +8,10 @@ use Rattle.sx_derive.specs.Deriving.{AreCounted}
 use Rattle.sx_typing.specs.declared.typed.Typed.{Typed}
 use Rattle.sx_typing.specs.declared.typing_error.TypingError.{TypingError}
 use Rattle.sx_typing.specs.declared.typing_error.TypingError.TheVariants as typing_error
-use Rattle.sx_typing.specs.Goals.{IsTried}
+use Rattle.sx_typing.specs.Goals.{AreTriesCounted}
 
 exact : (made first last : ℕ) (r : TypingError) → last ≡ first + made →
-    IsTried {X = Typed} made first last (Err r)
+    AreTriesCounted {X = Typed} made first last (Err r)
 exact made first last typing_error.Memory h = (omega (arith, h), omega (arith, h))
 exact made first last (typing_error.Token line column e) h = h
 exact made first last (typing_error.Read line column e) h = h
@@ -25,9 +25,9 @@ exact made first last (typing_error.TooBig n) h = h
 pub tried : (made first last : ℕ) (e : DeriveError) (r : TypingError) →
     AreCounted {X = Listed} made first last (Err e) →
     (e ≡ derive_error.Memory → r ≡ typing_error.Memory) →
-    IsTried {X = Typed} made first last (Err r)
+    AreTriesCounted {X = Typed} made first last (Err r)
 tried made first last derive_error.Memory r h k =
-    subst (λ (x : TypingError). IsTried {X = Typed} made first last (Err x)) (sym (k refl)) h
+    subst (λ (x : TypingError). AreTriesCounted {X = Typed} made first last (Err x)) (sym (k refl)) h
 tried made first last (derive_error.Underivable b) r h k = exact made first last r h
 tried made first last (derive_error.BudgetSpent n) r h k = exact made first last r h
 tried made first last (derive_error.DepthSpent n) r h k = exact made first last r h

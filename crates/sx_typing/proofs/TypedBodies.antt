@@ -38,9 +38,10 @@ use Rattle.sx_rewrite.specs.Stored.{signature_of}
 use Rattle.sx_rewrite.proofs.FitTerms.{found_can_be_rewritten}
 use Rattle.sx_typing.specs.declared.typed.Typed.{Typed}
 use Rattle.sx_typing.specs.Dialects.{DialectData, IsDialect}
-use Rattle.sx_typing.specs.Goals.{goal, goal_events, IsTypedBy}
+use Rattle.sx_typing.specs.Goals.{goal_with, goal_events, IsTypedBy}
 use Rattle.sx_typing.specs.MainGoals.{main_goal}
-use Rattle.sx_typing.specs.Outcomes.{bare, no_hypotheses}
+use Rattle.sx_typing.specs.Outcomes.{nameless}
+use Rattle.sx_rules.specs.Rules.{no_hypotheses}
 use Rattle.sx_typing.specs.Searched.{IsGoalFor, AreOutputsFor}
 use Rattle.sx_typing.specs.BodySource.{BodySource, IsTermFor}
 use Rattle.sx_typing.proofs.Finding.{found_outputs_fit, found_is_bounded}
@@ -152,7 +153,7 @@ pub record IsGoodAnswer (s : BodySource) (subject : Tree) (a : Answer) : Type 0 
   pub one : a.1 ≡ output ∷ []
   pub good : IsTermFor s.dialect Out output
   pub derives : DerivesGoal (modes_of s.dialect.language.forms) (accepted_rules s.dialect.set)
-      no_hypotheses (goal s subject) a
+      no_hypotheses (goal_with s subject) a
   pub rewritable : CanRewrite s.dialect.set no_hypotheses a.0
 
 module _ (s : BodySource) (is : IsDialect s.dialect) (subject : Tree)
@@ -161,7 +162,7 @@ module _ (s : BodySource) (is : IsDialect s.dialect) (subject : Tree)
   d = s.dialect
 
   pub source_goal : IsGoalFor (literals_of d.language.parts) (shapes_of d.parts) d.language.forms []
-      subject (goal s subject)
+      subject (goal_with s subject)
   source_goal = goal_for d is s.environment subject he hs
 
   pub found_good : (tries : ℕ) (a : Answer) → walk None tries (goal_events s subject) ≡ found a →
@@ -173,29 +174,29 @@ module _ (s : BodySource) (is : IsDialect s.dialect) (subject : Tree)
     derives = derives;
     rewritable = found_can_be_rewritten (signature_of d.language.forms) (shapes_of d.language.parts)
         (shapes_of d.parts) d.set is.accepted no_hypotheses [] tt
-        (goal s subject) source_goal.sorted a derives bounds.0 bounds.1;
+        (goal_with s subject) source_goal.sorted a derives bounds.0 bounds.1;
   }
     where
       one : (t : Tree) × (a.1 ≡ t ∷ []) × IsTermFor d Out t
       one =
           one_output d is s.environment subject he hs a.1
           (found_outputs_fit (literals_of d.language.parts) (shapes_of d.parts) d.language.forms
-          d.rules is.rule_set (rules_have d is) [] subject (goal s subject)
+          d.rules is.rule_set (rules_have d is) [] subject (goal_with s subject)
           source_goal None tries a finds)
 
       derives : DerivesGoal (modes_of d.language.forms) (accepted_rules d.set) no_hypotheses
-          (goal s subject) a
+          (goal_with s subject) a
       derives =
           subst (λ (rs : List Rule). DerivesGoal (modes_of d.language.forms) rs no_hypotheses
-          (goal s subject) a) is.rules_are
-          (found_is_first (modes_of d.language.forms) (bare d.rules) no_hypotheses
+          (goal_with s subject) a) is.rules_are
+          (found_is_first (modes_of d.language.forms) (nameless d.rules) no_hypotheses
           (good_moded (shapes_of d.parts) d.language.forms [] d.rules is.rule_set.1)
-          (goal s subject) None tries 1 a finds).derives
+          (goal_with s subject) None tries 1 a finds).derives
 
       bounds : (height_of a.0 ≤ 3000) × HasShallowBinds a.0
       bounds =
           found_is_bounded (literals_of d.language.parts) (shapes_of d.parts) d.language.forms
-          d.rules [] subject (goal s subject) source_goal tries a
+          d.rules [] subject (goal_with s subject) source_goal tries a
           finds
 
 one_length : (items : List Term) (ts : List Tree) (t : Tree) → map tree items ≡ ts → ts ≡ t ∷ [] →
@@ -213,7 +214,7 @@ one_listed l a t lists one = one_length l.outputs.items a.1 t lists.outputs one
 
 pub typed_by : (s : BodySource) (tries : ℕ) (subject : Tree) (l : Listed) (a : Answer) (t : Typed) →
     walk None tries (goal_events s subject) ≡ found a → Lists l a →
-    goal_of t.goal ≡ goal s subject → t.list ≡ l.entries → l.outputs.items ≡ t.output ∷ [] →
+    goal_of t.goal ≡ goal_with s subject → t.list ≡ l.entries → l.outputs.items ≡ t.output ∷ [] →
     IsGoodAnswer s subject a → IsTypedBy s tries subject t
 typed_by s tries subject l a t finds lists asked same outputs good =
     let output : a.1 ≡ tree t.output ∷ [] = sym lists.outputs ∙ ap (map tree) outputs in

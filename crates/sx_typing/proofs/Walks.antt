@@ -3,34 +3,34 @@ use Rattle.std.specs.Prelude.{ℕ, None}
 use Rattle.sx_rules.specs.Modes.{AllModed}
 use Rattle.sx_rules.specs.Views.{modes_of}
 use Rattle.sx_derive.proofs.Walked.{exhausted_means_none, found_is_first}
-use Rattle.sx_typing.specs.Goals.{dialect_rules, goal, TypingsAreFirst}
-use Rattle.sx_typing.specs.Outcomes.{no_hypotheses}
+use Rattle.sx_typing.specs.Goals.{dialect_rules, goal_with, TypingsAreFirst}
+use Rattle.sx_rules.specs.Rules.{no_hypotheses}
 use Rattle.sx_typing.specs.declared.typing_error.TypingError.{TypingError}
 use Rattle.sx_typing.specs.declared.typing_error.TypingError.TheVariants as typing_error
-use Rattle.sx_typing.specs.Refused.{IsBadSource, IsFinal, TypeErrorsAreFinal}
+use Rattle.sx_typing.specs.Refused.{IsBadSource, IsTypingFinal, SourceTypeErrorsAreFinal}
 use Rattle.sx_typing.specs.BodySource.{BodySource}
 
 pub typings_are_first : TypingsAreFirst
 typings_are_first s tries subject output answer moded typed =
     found_is_first (modes_of s.dialect.language.forms) (dialect_rules s.dialect) no_hypotheses moded
-    (goal s subject) None tries 1 answer typed.finds
+    (goal_with s subject) None tries 1 answer typed.finds
 
-pub type_errors_are_final : TypeErrorsAreFinal
-type_errors_are_final s tries line column text moded (b, ends, why) = (
+pub source_type_errors_are_final : SourceTypeErrorsAreFinal
+source_type_errors_are_final s tries line column text moded (b, ends, why) = (
   b,
   exhausted_means_none (modes_of s.dialect.language.forms) (dialect_rules s.dialect) no_hypotheses moded
-      (goal s b.subject) None tries 1 ends,
+      (goal_with s b.subject) None tries 1 ends,
 )
 
 -- so it is of each refusal
 pub final_if : (s : BodySource) (tries : ℕ) (e : TypingError) →
     AllModed (modes_of s.dialect.language.forms) (dialect_rules s.dialect) → IsBadSource s tries e →
-    IsFinal s e
+    IsTypingFinal s e
 final_if s tries typing_error.Memory moded h = tt
 final_if s tries (typing_error.Token line column e) moded h = tt
 final_if s tries (typing_error.Read line column e) moded h = tt
 final_if s tries (typing_error.TypeError line column text) moded h =
-    type_errors_are_final s tries line column text moded h
+    source_type_errors_are_final s tries line column text moded h
 final_if s tries (typing_error.BudgetSpent n) moded h = tt
 final_if s tries typing_error.DepthSpent moded h = tt
 final_if s tries (typing_error.TooDeep n) moded h = tt

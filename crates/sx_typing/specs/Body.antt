@@ -14,7 +14,7 @@ use Rattle.sx_grammar.specs.Reading.{Reading}
 use Rattle.sx_grammar.specs.ReadOne.{IsAnswer, only}
 use Rattle.sx_grammar.specs.Print.{term_of}
 use Rattle.sx_earley.specs.Tokens.{plain_tokens}
-use Rattle.sx_earley.specs.Completed.{number_of}
+use Rattle.sx_earley.specs.Completed.{sort_number}
 
 -- the text is cut into the tokens, by the literals of the grammar
 abbrev pub IsCut : Parts → (text : Text) → List Token → Type 0
@@ -30,7 +30,7 @@ HasDefect p text e = IfSome (outcome_of (Err e)) (IsOutcome (literals_of p) fals
 pub record ReadsAs (p : Parts) (sort : Sort) (text : Text) (ts : List Token) (r : Reading)
     (t : Tree) : Type 0 where
   pub cut : IsCut p text ts
-  pub answer : IsAnswer (numbered p) (plain_tokens [] ts) (number_of sort) (only r)
+  pub answer : IsAnswer (numbered p) (plain_tokens [] ts) (sort_number sort) (only r)
   pub term : t ≡ term_of (plain_tokens [] ts) [] r
 
 -- so it is of some tokens and some reading

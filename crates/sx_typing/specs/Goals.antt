@@ -24,22 +24,23 @@ use Rattle.sx_typing.specs.declared.typing_error.TypingError.TheVariants.{Memory
 use Rattle.sx_typing.specs.Body.{ReadsAs}
 use Rattle.sx_typing.specs.Dialects.{DialectData}
 use Rattle.sx_typing.specs.MainGoals.{main_goal}
-use Rattle.sx_typing.specs.Outcomes.{bare, no_hypotheses}
+use Rattle.sx_typing.specs.Outcomes.{nameless}
+use Rattle.sx_rules.specs.Rules.{no_hypotheses}
 use Rattle.sx_typing.specs.BodySource.{BodySource, IsTermFor, main_sort}
 
 -- the rules of a dialect without their names
 abbrev pub dialect_rules : DialectData → List Rule
-dialect_rules d = bare d.rules
+dialect_rules d = nameless d.rules
 
 -- the goal of the source with this body's term
-abbrev pub goal : BodySource → (subject : Tree) → Goal
-goal s subject =
+abbrev pub goal_with : BodySource → (subject : Tree) → Goal
+goal_with s subject =
     main_goal s.dialect.language.forms s.dialect.language.main.form s.environment subject
 
 -- the events of the walk of that goal
 abbrev pub goal_events : BodySource → (subject : Tree) → List (Event Answer)
 goal_events s subject = events (modes_of s.dialect.language.forms) (dialect_rules s.dialect)
-    no_hypotheses (goal s subject) 1
+    no_hypotheses (goal_with s subject) 1
 
 -- the body has only this reading, whose term is the subject
 abbrev pub IsBody : BodySource → List Token → Reading → (subject : Tree) → Type 0
@@ -55,25 +56,25 @@ pub record IsTyped (s : BodySource) (tries : ℕ) (subject output : Tree) (answe
 -- The goal is that of the subject, the list is that of the answer that its walk finds, and the
 -- output is the answer's. The answer derives the goal by what is accepted, and can be rewritten.
 pub record IsTypedBy (s : BodySource) (tries : ℕ) (subject : Tree) (t : Typed) : Type 0 where
-  pub goal_is : goal_of t.goal ≡ goal s subject
+  pub goal_is : goal_of t.goal ≡ goal_with s subject
   pub answer : Answer
   pub typed : IsTyped s tries subject (tree t.output) answer
   pub list : entries t.list.items ≡ order_of answer.0
   pub good : IsTermFor s.dialect Out (tree t.output)
   pub derives : DerivesGoal (modes_of s.dialect.language.forms) (accepted_rules s.dialect.set)
-      no_hypotheses (goal s subject) answer
+      no_hypotheses (goal_with s subject) answer
   pub rewritable : CanRewrite s.dialect.set no_hypotheses answer.0
 
 -- what is found says how the walk of the subject's goal ends
 abbrev pub IsFoundBy : BodySource → ℕ → Tree → Result Listed DeriveError → Type 0
 IsFoundBy s tries subject answer =
     IsListed (modes_of s.dialect.language.forms) (subjects_in s.dialect.language.forms)
-    (dialect_rules s.dialect) no_hypotheses (goal s subject) None tries answer
+    (dialect_rules s.dialect) no_hypotheses (goal_with s subject) None tries answer
 
 -- each of so many tries was counted; without memory some of them were
-abbrev pub IsTried : {X : Type 0} → ℕ → ℕ → ℕ → Result X TypingError → Type 0
-IsTried made first last (Err Memory) = (first ≤ last) × (last ≤ first + made)
-IsTried made first last _ = last ≡ first + made
+abbrev pub AreTriesCounted : {X : Type 0} → ℕ → ℕ → ℕ → Result X TypingError → Type 0
+AreTriesCounted made first last (Err Memory) = (first ≤ last) × (last ≤ first + made)
+AreTriesCounted made first last _ = last ≡ first + made
 
 -- what a walk by rules that can be followed finds is the first derivation of the goal
 abbrev pub TypingsAreFirst : Type 0
@@ -82,4 +83,4 @@ TypingsAreFirst =
     AllModed (modes_of s.dialect.language.forms) (dialect_rules s.dialect) →
     IsTyped s tries subject output answer →
     IsFirst (modes_of s.dialect.language.forms) (dialect_rules s.dialect) no_hypotheses
-    (goal s subject) None answer
+    (goal_with s subject) None answer

@@ -14,8 +14,8 @@ use Rattle.sx_rewrite.specs.Accepted.{extended_rules}
 use Rattle.sx_rewrite.specs.Lowers.{Lowers}
 use Rattle.sx_rewrite.specs.Rewrites.{CanRewrite}
 use Rattle.sx_typing.specs.Dialects.{IsDialect}
-use Rattle.sx_typing.specs.Goals.{goal}
-use Rattle.sx_typing.specs.Outcomes.{no_hypotheses}
+use Rattle.sx_typing.specs.Goals.{goal_with}
+use Rattle.sx_rules.specs.Rules.{no_hypotheses}
 use Rattle.sx_typing.specs.Refused.{HasTyping}
 use Rattle.sx_typing.specs.BodySource.{BodySource, IsTermFor}
 
@@ -26,9 +26,9 @@ pub record IsGoodTyping (s : BodySource) (tries : ℕ) (t : HasTyping s tries) :
   pub subject : IsTermFor s.dialect Sub t.body.subject
   pub output : IsTermFor s.dialect Out t.output
   pub sorted : GoalIsSorted (shapes_of s.dialect.parts) (sorts_of s.dialect.language.forms)
-      (modes_of s.dialect.language.forms) [] (goal s t.body.subject)
+      (modes_of s.dialect.language.forms) [] (goal_with s t.body.subject)
   pub derives : DerivesGoal (modes_of s.dialect.language.forms) (extended_rules s.dialect.set)
-      no_hypotheses (goal s t.body.subject) t.answer
+      no_hypotheses (goal_with s t.body.subject) t.answer
   pub rewritable : CanRewrite s.dialect.set no_hypotheses t.answer.0
   pub lowered : (q : Proof) (k : Judgement) →
       Lowers s.dialect.set (subjects_in s.dialect.language.forms) no_hypotheses t.answer.0 q k →

@@ -10,7 +10,7 @@ use Rattle.sx_rules.specs.Good.{IsRuleSet}
 use Rattle.sx_rules.specs.Sets.{forms_in, rules_in}
 use Rattle.sx_rules.specs.Views.{NamedRule, subjects_in}
 use Rattle.sx_directives.specs.declared.rows.FormLine.{FormLine}
-use Rattle.sx_rewrite.specs.Extensions.{Extension, Fits, with_table, without_extensions}
+use Rattle.sx_rewrite.specs.Extensions.{Extension, FitsRules, with_table, without_extensions}
 use Rattle.sx_rewrite.specs.Extensions.{extended as grown}
 use Rattle.sx_rewrite.specs.Kinds.{HaveSortsFor}
 use Rattle.sx_rewrite.specs.Sound.{AreSoundBy}
@@ -22,8 +22,8 @@ use Rattle.sx_notation.specs.RuleParts.{rule_parts}
 use Rattle.sx_typing.specs.Dialects.{DialectData, IsDialect}
 
 -- the language without extensions, as a dialect
-abbrev pub unextended : LanguageData → DialectData
-unextended l = record {
+abbrev pub unextended_dialect : LanguageData → DialectData
+unextended_dialect l = record {
   language = l;
   parts = l.parts;
   rule_parts = l.rule_parts;
@@ -38,7 +38,7 @@ LanguagesAreDialects =
     (l : Language) → IsLanguage l → PlainHaveNoTyped (shapes_of l.grammar.parts) →
     HaveSortsFor (forms_in l.rules) →
     IsRuleSet (shapes_of l.grammar.parts) (forms_in l.rules) (rules_in l.rules) →
-    IsDialect (unextended (language_data l))
+    IsDialect (unextended_dialect (language_data l))
 
 -- an extension: its productions, the parts by which rules are read with them, its rules with their
 -- names, and what is stored of them
@@ -64,7 +64,8 @@ pub record IsAddedTo (d : DialectData) (x : Added) : Type 0 where
   pub read_by : (lines : List FormLine) → d.rule_parts ≡ rule_parts d.parts lines →
       x.by_rules ≡ rule_parts (extended d.parts x.lines) lines
   pub rules_are : map (λ r. r.rule) x.rules ≡ map (λ e. e.rule) x.extension.rules
-  pub fits : Fits (signature_of d.language.forms) (shapes_of d.language.parts) (shapes_of d.parts)
+  pub fits : FitsRules (signature_of d.language.forms) (shapes_of d.language.parts)
+      (shapes_of d.parts)
       (shapes_of (extended d.parts x.lines)) d.set.table x.extension.table x.extension.rules
   pub sound : AreSoundBy (subjects_in d.language.forms) (length (shapes_of d.language.parts))
       (with_table d.set x.extension.table) x.extension.rules x.extension.stored

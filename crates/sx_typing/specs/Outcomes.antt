@@ -6,7 +6,7 @@ use Rattle.sx_term.specs.Sorts.{Shape, HaveSorts}
 use Rattle.sx_term.specs.declared.sort.Sort.{Sort}
 use Rattle.sx_grammar.specs.Grammar.{Text}
 use Rattle.sx_print.specs.Cut.{HasLexemes}
-use Rattle.sx_rules.specs.Rules.{Rule, Hypotheses}
+use Rattle.sx_rules.specs.Rules.{Rule, Hypotheses, no_hypotheses}
 use Rattle.sx_rules.specs.Modes.{inputs, outputs, Goal}
 use Rattle.sx_rules.specs.Sorts.{GoalIsSorted}
 use Rattle.sx_rules.specs.Views.{FormData, NamedRule, modes_of, subjects_in, sorts_of}
@@ -17,12 +17,8 @@ use Rattle.sx_notation.specs.Language.{RuleHasLexemes}
 use Rattle.sx_stuck.specs.StuckGoals.{GotIsSorted}
 
 -- the rules without their names
-abbrev pub bare : List NamedRule → List Rule
-bare rules = map (λ r. r.rule) rules
-
--- no hypotheses
-abbrev pub no_hypotheses : Hypotheses
-no_hypotheses = record { judgements = []; pairs = [] }
+abbrev pub nameless : List NamedRule → List Rule
+nameless rules = map (λ r. r.rule) rules
 
 -- where the lexemes of the rules and of a goal are tokens, so are those of the outputs of each
 -- derivation of the goal
@@ -31,7 +27,7 @@ OutputsHaveLexemes =
     (literals : List Text) (shapes : List Shape) (forms : List FormData) (rules : List NamedRule) →
     IsRuleSet shapes forms rules → AllByRecursion (RuleHasLexemes literals) rules →
     (goal : Goal) (a : Answer) → AllByRecursion (HasLexemes literals) goal.terms →
-    DerivesGoal (modes_of forms) (bare rules) no_hypotheses goal a →
+    DerivesGoal (modes_of forms) (nameless rules) no_hypotheses goal a →
     AllByRecursion (HasLexemes literals) a.1
 
 -- the outputs of each derivation of a well sorted goal have the sorts of its form's outputs
@@ -41,7 +37,7 @@ OutputsAreSorted =
     IsRuleSet shapes forms rules →
     (vars : List Sort) (goal : Goal) (a : Answer) →
     GoalIsSorted shapes (sorts_of forms) (modes_of forms) vars goal →
-    DerivesGoal (modes_of forms) (bare rules) no_hypotheses goal a →
+    DerivesGoal (modes_of forms) (nameless rules) no_hypotheses goal a →
     HaveSorts shapes vars a.1 (outputs (modes_of forms goal.form) (sorts_of forms goal.form))
 
 -- what stands at the subject places among the inputs of a goal
@@ -74,5 +70,6 @@ StuckGoalsFit =
     (blame : Blame) →
     slice_get forms goal.form ≡ Some form →
     GoalIsSorted shapes (sorts_of forms) (modes_of forms) vars goal → LeadsTo forms top path goal →
-    IsStuck (modes_of forms) (subjects_in forms) (bare rules) no_hypotheses levels goal path blame →
+    IsStuck (modes_of forms) (subjects_in forms) (nameless rules) no_hypotheses levels goal path
+    blame →
     IsBlameIn shapes forms vars top blame

@@ -26,8 +26,8 @@ use Rattle.sx_typing.specs.declared.typing_error.TypingError.TheVariants.{DepthS
 use Rattle.sx_typing.specs.declared.typing_error.TypingError.TheVariants.{TooBig}
 use Rattle.sx_typing.specs.Body.{IsCut, HasDefect}
 use Rattle.sx_typing.specs.Dialects.{DialectData}
-use Rattle.sx_typing.specs.Goals.{dialect_rules, goal, goal_events, IsBody, IsTyped}
-use Rattle.sx_typing.specs.Outcomes.{no_hypotheses}
+use Rattle.sx_typing.specs.Goals.{dialect_rules, goal_with, goal_events, IsBody, IsTyped}
+use Rattle.sx_rules.specs.Rules.{no_hypotheses}
 use Rattle.sx_typing.specs.BodySource.{BodySource, main_sort, bytes_before}
 use Rattle.sx_typing.specs.Spots.{line_at, column_at}
 use Rattle.sx_rules.specs.Limits.{most_levels}
@@ -58,14 +58,14 @@ telling_in d =
     record { parts = d.rule_parts; forms = d.language.forms; names = []; rules = d.rules }
 
 -- the names of rules, and the texts of goals, as a type error shows them
-abbrev pub stuck_text : DialectData → Goal → Reason → GoalDefect
-stuck_text d goal reason = told_text (telling_in d) goal reason
+abbrev pub told_goal : DialectData → Goal → Reason → GoalDefect
+told_goal d goal_with reason = told_text (telling_in d) goal_with reason
 
 -- the stuck goal of the goal with this body's term
 abbrev pub IsStuckGoal : BodySource → (subject : Tree) → Blame → Type 0
 IsStuckGoal s subject blame =
     IsStuck (modes_of s.dialect.language.forms) (subjects_in s.dialect.language.forms)
-    (dialect_rules s.dialect) no_hypotheses most_levels (goal s subject) [] blame
+    (dialect_rules s.dialect) no_hypotheses most_levels (goal_with s subject) [] blame
 
 -- the token at which the part begins that the stuck goal speaks of
 abbrev pub IsStuckAt : List Token → Reading → Blame → BodySource → (line column : ℕ) → Type 0
@@ -101,7 +101,7 @@ IsBadSource s tries (TypeError line column text) =
     (b : HasBody s) × (walk None tries (goal_events s b.subject) ≡ exhausted)
     × ((blame : Blame) × IsStuckGoal s b.subject blame ×
     IsStuckAt b.tokens b.reading blame s line column ×
-    (text ≡ stuck_text s.dialect blame.goal blame.reason))
+    (text ≡ told_goal s.dialect blame.goal blame.reason))
 IsBadSource s tries (BudgetSpent n) = (b : HasBody s) ×
     (walk None tries (goal_events s b.subject) ≡ spent) × (n ≡ tries)
 IsBadSource s tries DepthSpent = (b : HasBody s) ×
@@ -120,16 +120,16 @@ IsBadSource s tries (TooBig n) = (b : HasBody s) × (size : ℕ) ×
 abbrev pub IsUntyped : BodySource → Type 0
 IsUntyped s = (b : HasBody s) ×
     IsUnderivable (modes_of s.dialect.language.forms) (dialect_rules s.dialect) no_hypotheses
-    (goal s b.subject) None
+    (goal_with s b.subject) None
 
 -- where the refusal is a type error the source is untyped
-abbrev pub IsFinal : BodySource → TypingError → Type 0
-IsFinal s (TypeError line column text) = IsUntyped s
-IsFinal s _ = Unit {0}
+abbrev pub IsTypingFinal : BodySource → TypingError → Type 0
+IsTypingFinal s (TypeError line column text) = IsUntyped s
+IsTypingFinal s _ = Unit {0}
 
 -- a source is refused for a type error, by rules that can be followed, only where it is untyped
-abbrev pub TypeErrorsAreFinal : Type 0
-TypeErrorsAreFinal =
+abbrev pub SourceTypeErrorsAreFinal : Type 0
+SourceTypeErrorsAreFinal =
     (s : BodySource) (tries line column : ℕ) (text : GoalDefect) →
     AllModed (modes_of s.dialect.language.forms) (dialect_rules s.dialect) →
     IsBadSource s tries (TypeError line column text) → IsUntyped s

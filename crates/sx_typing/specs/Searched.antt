@@ -17,7 +17,8 @@ use Rattle.sx_derive.specs.Search.{found, exhausted, walk}
 use Rattle.sx_derive.specs.Stuck.{Blame, IsStuck}
 use Rattle.sx_derive.specs.BlameTerms.{BlameIsShallow}
 use Rattle.sx_notation.specs.Language.{RuleHasLexemes}
-use Rattle.sx_typing.specs.Outcomes.{bare, no_hypotheses, LeadsTo, IsBlameIn}
+use Rattle.sx_typing.specs.Outcomes.{nameless, LeadsTo, IsBlameIn}
+use Rattle.sx_rules.specs.Rules.{no_hypotheses}
 use Rattle.sx_rules.specs.Limits.{most_levels}
 
 -- the goal is of one of the forms and well sorted, its lexemes are tokens, it is no deeper than
@@ -46,7 +47,7 @@ FoundOutputsFit =
     IsRuleSet shapes forms rules → AllByRecursion (RuleHasLexemes literals) rules →
     (vars : List Sort) (top : Tree) (goal : Goal) → IsGoalFor literals shapes forms vars top goal →
     (wanted : Option (List Tree)) (budget : ℕ) (a : Answer) →
-    walk wanted budget (events (modes_of forms) (bare rules) no_hypotheses goal 1) ≡ found a →
+    walk wanted budget (events (modes_of forms) (nameless rules) no_hypotheses goal 1) ≡ found a →
     AreOutputsFor literals shapes forms vars goal a.1
 
 -- where nothing is found, the stuck goal of such a goal is well sorted and no deeper than 1,000,
@@ -57,7 +58,7 @@ ExhaustedGoalsFit =
     IsRuleSet shapes forms rules →
     (vars : List Sort) (top : Tree) (goal : Goal) → IsGoalFor literals shapes forms vars top goal →
     (wanted : Option (List Tree)) (budget : ℕ) (blame : Blame) →
-    walk wanted budget (events (modes_of forms) (bare rules) no_hypotheses goal 1) ≡ exhausted →
-    IsStuck (modes_of forms) (subjects_in forms) (bare rules) no_hypotheses most_levels goal []
+    walk wanted budget (events (modes_of forms) (nameless rules) no_hypotheses goal 1) ≡ exhausted →
+    IsStuck (modes_of forms) (subjects_in forms) (nameless rules) no_hypotheses most_levels goal []
     blame →
     IsBlameIn shapes forms vars top blame × BlameIsShallow blame

@@ -9,12 +9,12 @@ use Rattle.sx_words.specs.declared.goal_defect.GoalDefect.{GoalDefect}
 use Rattle.sx_typing.specs.declared.typing_error.TypingError.{TypingError}
 use Rattle.sx_typing.specs.declared.typing_error.TypingError.TheVariants.{TypeError}
 use Rattle.sx_typing.specs.Dialects.{DialectData}
-use Rattle.sx_typing.specs.Refused.{stuck_text}
+use Rattle.sx_typing.specs.Refused.{told_goal}
 use Rattle.sx_typing.specs.Spots.{line_at, column_at}
 
 -- where the part begins that the path leads to, in a text of so many bytes
-abbrev pub IsPlace : List Token → Reading → (path : List ℕ) → (size : ℕ) → ℕ → Type 0
-IsPlace ts r path size place = (number : ℕ) × (place_at r path ≡ Some number) ×
+abbrev pub IsPartPlace : List Token → Reading → (path : List ℕ) → (size : ℕ) → ℕ → Type 0
+IsPartPlace ts r path size place = (number : ℕ) × (place_at r path ≡ Some number) ×
     (place ≡ place_in ts size number)
 
 -- the refusal of a file that ends with a body of so many bytes: where the part begins that the
@@ -26,7 +26,7 @@ pub record IsTypeError (d : DialectData) (file : List ℕ) (before size : ℕ) (
   pub text : GoalDefect
   pub is : e ≡ TypeError line column text
   pub place : ℕ
-  pub at : IsPlace ts r blame.path size place
+  pub at : IsPartPlace ts r blame.path size place
   pub line_is : line ≡ line_at file (before + place)
   pub column_is : column ≡ column_at file (before + place)
-  pub text_is : text ≡ stuck_text d blame.goal blame.reason
+  pub text_is : text ≡ told_goal d blame.goal blame.reason

@@ -4,7 +4,7 @@ ghost use Rattle.sx_typing.specs.Alike.{OneTyping};
 ghost use Rattle.sx_typing.specs.Goals.{TypingsAreFirst};
 ghost use Rattle.sx_typing.specs.GoodTypings.{TypingsAreGood};
 ghost use Rattle.sx_typing.specs.Growing.{LanguagesAreDialects, DialectsGrow};
-ghost use Rattle.sx_typing.specs.Refused.{TypeErrorsAreFinal};
+ghost use Rattle.sx_typing.specs.Refused.{SourceTypeErrorsAreFinal};
 
 /// What a walk finds is the first derivation of the source's goal.
 pub fn typings_are_first()
@@ -18,8 +18,8 @@ pub fn typings_are_good()
 {}
 
 /// A type error comes only where the source's goal has no derivation at all.
-pub fn type_errors_are_final()
-    ensures { TypeErrorsAreFinal }
+pub fn source_type_errors_are_final()
+    ensures { SourceTypeErrorsAreFinal }
 {}
 
 /// What is read and typed is determined by the source, out of memory aside. Only of a text with

@@ -2,7 +2,8 @@
 //!
 //! - `Dialect`: a language, the grammars with what extensions add, and what is accepted. A language
 //!   without extensions is one too: nothing is added, and its own rules are accepted.
-//! - `read_text`: a text becomes tokens, their only reading and its term, without metavariables.
+//! - `read_body_text`: a text becomes tokens, their only reading and its term, without
+//!   metavariables.
 //! - `read_source`: so does the body, by the grammar of the dialect. `type_source`: the first
 //!   derivation of the main form's goal by the dialect's rules, as a list, with its output; or the
 //!   type error, with its place and text.
@@ -31,12 +32,12 @@ pub use body_source::BodySource;
 pub use dialect::Dialect;
 pub use goal_laws::{main_goals_fit, outputs_fit, searches_fit, stuck_goals_fit};
 pub use laws::{
-    dialects_grow, one_typing, type_errors_are_final, typings_are_first, typings_are_good,
+    dialects_grow, one_typing, source_type_errors_are_final, typings_are_first, typings_are_good,
 };
 pub use places::{defect_place, unread_place};
 pub use reading::{main_sort, read_source};
 pub use searching::main_goal;
-pub use text_reading::read_text;
+pub use text_reading::read_body_text;
 pub use typed::Typed;
 pub use typing::type_source;
 pub use typing_error::TypingError;

@@ -15,7 +15,7 @@ ghost use Rattle.sx_typing.specs.Unread.{IsUnreadText};
 use crate::body::Body;
 use crate::body_source::BodySource;
 use crate::places::{body_of, body_spot, defect_place, unread_place};
-use crate::text_reading::read_text;
+use crate::text_reading::read_body_text;
 use crate::typing_error::TypingError;
 use crate::unread_text::UnreadText;
 use std::alloc::Global;
@@ -95,7 +95,7 @@ pub fn read_source(alloc: Global, source: &BodySource) -> Result<Body, TypingErr
     let dialect = &source.dialect;
     let sort = main_sort(dialect.language, Role::Sub);
     let body = body_of(source.bytes, source.header);
-    match read_text(alloc, dialect.grammar, sort, body) {
+    match read_body_text(alloc, dialect.grammar, sort, body) {
         Ok(body) => Ok(body),
         Err(error) => Err(refusal(source, error)),
     }

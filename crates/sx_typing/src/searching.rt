@@ -11,7 +11,8 @@ ghost use Rattle.sx_derive.specs.Listing.{IsListed};
 ghost use Rattle.sx_derive.specs.Search.{tries_of};
 ghost use Rattle.sx_derive.specs.Walk.{events};
 ghost use Rattle.sx_typing.specs.MainGoals.{input_at, main_terms, main_goal};
-ghost use Rattle.sx_typing.specs.Outcomes.{bare, no_hypotheses};
+ghost use Rattle.sx_typing.specs.Outcomes.{nameless};
+ghost use Rattle.sx_rules.specs.Rules.{no_hypotheses};
 ghost use Rattle.sx_term.specs.Limits.{most_depth};
 
 use std::alloc::Global;
@@ -104,10 +105,10 @@ pub(crate) fn find_derivation<L: Ledger>(
 ) -> Result<Listed, DeriveError>
     requires { AreShallow (goal_of goal.now).terms }
     ensures answer { IsListed (modes_of (forms_in rules.now)) (subjects_in (forms_in rules.now))
-        (bare (rules_in rules.now)) no_hypotheses (goal_of goal.now) None tries result }
+        (nameless (rules_in rules.now)) no_hypotheses (goal_of goal.now) None tries result }
     ensures steps { AreCounted
         (tries_of None tries (events (modes_of (forms_in rules.now))
-        (bare (rules_in rules.now)) no_hypotheses (goal_of goal.now) 1)) steps.old steps.new
+        (nameless (rules_in rules.now)) no_hypotheses (goal_of goal.now) 1)) steps.old steps.new
         result }
 {
     let given = nothing_given(alloc);

@@ -6,7 +6,7 @@ ghost use Rattle.sx_term.specs.Term.{tree};
 ghost use Rattle.sx_grammar.specs.Parts.{numbered};
 ghost use Rattle.sx_grammar.specs.ReadOne.{IsAnswer, only};
 ghost use Rattle.sx_earley.specs.Tokens.{plain_tokens};
-ghost use Rattle.sx_earley.specs.Completed.{IsSort, number_of};
+ghost use Rattle.sx_earley.specs.Completed.{IsSort, sort_number};
 ghost use Rattle.sx_forest.specs.Readings.{plain_reading};
 ghost use Rattle.sx_notation.specs.WhyUnread.{IsUnreadAs, IsReadError};
 ghost use Rattle.sx_typing.specs.Body.{IsCut, ReadsAs};
@@ -83,7 +83,7 @@ fn reading_of(
     requires sort { IsSort grammar.now.parts sort }
     requires cut { (text : List ℕ) × IsCut grammar.now.parts text tokens.now }
     ensures only { IfOk result
-        (λ r. IsAnswer (numbered grammar.now.parts) (plain_tokens [] tokens.now) (number_of sort)
+        (λ r. IsAnswer (numbered grammar.now.parts) (plain_tokens [] tokens.now) (sort_number sort)
         (only (plain_reading r))) }
     ensures refused { IfErr result (λ e. (text : List ℕ) → IsCut grammar.now.parts text tokens.now →
         length text ≡ size → IsUnreadText grammar.now.parts sort text e) }
@@ -100,7 +100,7 @@ fn reading_of(
 
 /// Reads the text, of at most 262,144 bytes, as the sort, without metavariables. It is refused
 /// where it has no tokens, and where these have not one reading.
-pub fn read_text(
+pub fn read_body_text(
     alloc: Global,
     grammar: &Grammar,
     sort: Sort,

@@ -15,7 +15,7 @@ ghost use Rattle.sx_typing.specs.Body.{IsCut};
 ghost use Rattle.sx_typing.specs.Dialects.{IsDialectOf, dialect_of};
 ghost use Rattle.sx_typing.specs.Outcomes.{IsBlameIn};
 ghost use Rattle.sx_typing.specs.Refused as refused;
-ghost use Rattle.sx_typing.specs.TypeErrors.{IsPlace, IsTypeError};
+ghost use Rattle.sx_typing.specs.TypeErrors.{IsPartPlace, IsTypeError};
 
 use crate::body::Body;
 use crate::dialect::Dialect;
@@ -33,7 +33,7 @@ use sx_words::GoalDefect;
 /// The stuck goal's text, and why it is stuck. The goal has no variables.
 fn stuck_text(alloc: Global, dialect: &Dialect, blame: &Blame) -> Result<GoalDefect, NoMemory>
     requires { CanTell (refused.telling_in (dialect_of dialect.now)) (blame_of blame.now) }
-    ensures { IfOk result (λ text. text ≡ refused.stuck_text (dialect_of dialect.now)
+    ensures { IfOk result (λ text. text ≡ refused.told_goal (dialect_of dialect.now)
         (blame_of blame.now).goal (blame_of blame.now).reason) }
 {
     let vars = Vars::new(alloc);
@@ -51,7 +51,7 @@ fn part_place(tokens: &[Token], size: usize, reading: &Reading, path: &Path) -> 
     requires place { (number : ℕ) ×
         (place_at (plain_reading reading.now) path.now.steps.items ≡ Some number) }
     requires tokens { AllByRecursion (λ t. t.from ≤ size) tokens.now }
-    ensures place { IsPlace tokens.now (plain_reading reading.now) path.now.steps.items size
+    ensures place { IsPartPlace tokens.now (plain_reading reading.now) path.now.steps.items size
         result }
     ensures within { result ≤ size }
 {

@@ -12,8 +12,8 @@ ghost use Rattle.sx_derive.specs.Search.{tries_of};
 ghost use Rattle.sx_forest.specs.Readings.{plain_reading};
 ghost use Rattle.sx_typing.specs.declared.typing_error.TypingError.TheVariants.{Memory};
 ghost use Rattle.sx_typing.specs.Goals as known;
-ghost use Rattle.sx_typing.specs.Goals.{goal_events, IsBody, IsFoundBy, IsTried, IsTypedBy};
-ghost use Rattle.sx_typing.specs.Refused.{IsBadSource, IsFinal};
+ghost use Rattle.sx_typing.specs.Goals.{goal_events, IsBody, IsFoundBy, AreTriesCounted, IsTypedBy};
+ghost use Rattle.sx_typing.specs.Refused.{IsBadSource, IsTypingFinal};
 ghost use Rattle.sx_typing.specs.BodySource.{source_of, CanType, IsTermFor};
 
 use crate::body::Body;
@@ -106,7 +106,7 @@ fn search<L: Ledger>(
     steps: &mut Steps<L>,
 ) -> Result<Listed, DeriveError>
     requires can { CanType source.now }
-    requires goal { goal_of goal.now ≡ known.goal (source_of source.now) (tree body.now.term) }
+    requires goal { goal_of goal.now ≡ known.goal_with (source_of source.now) (tree body.now.term) }
     requires shallow { AreShallow (goal_of goal.now).terms }
     ensures answer { IsFoundBy (source_of source.now) tries (tree body.now.term) result }
     ensures steps { AreCounted
@@ -138,9 +138,9 @@ pub fn type_source<L: Ledger>(
     // The refusal is the one that is due.
     ensures refused { IfErr result (IsBadSource (source_of source.now) tries) }
     // A type error comes only where the goal has no derivation at all.
-    ensures untyped { IfErr result (IsFinal (source_of source.now)) }
+    ensures untyped { IfErr result (IsTypingFinal (source_of source.now)) }
     // The steps rise by the tries of the goal's walk.
-    ensures tries { IsTried (tries_of None tries
+    ensures tries { AreTriesCounted (tries_of None tries
         (goal_events (source_of source.now) (tree body.now.term))) steps.old steps.new result }
     ensures most { steps.new ≤ steps.old + tries }
 {

@@ -17,7 +17,8 @@ use Rattle.sx_rules.specs.Derivations.{nodes_of_all, Derives, DeriveEach}
 use Rattle.sx_rules.specs.Orders.{Entry, of_rule, of_given, order_of, order_of_all}
 use Rattle.sx_rules.specs.EntryView.{entry, entries}
 use Rattle.sx_rules.specs.ListText.{IsEntry}
-use Rattle.sx_typing.specs.Outcomes.{bare, no_hypotheses}
+use Rattle.sx_typing.specs.Outcomes.{nameless}
+use Rattle.sx_rules.specs.Rules.{no_hypotheses}
 
 -- each entry is one of so many rules
 abbrev AreOfRules : ℕ → List Entry → Type 0
@@ -33,18 +34,18 @@ of_both n (of_given i ∷ list) more h k = absurd h
 
 module _ (rules : List NamedRule) where
   mutual
-    of_rules : (j : Judgement) (p : Proof) → Derives (bare rules) no_hypotheses j p →
-        AreOfRules (length (bare rules)) (order_of p)
+    of_rules : (j : Judgement) (p : Proof) → Derives (nameless rules) no_hypotheses j p →
+        AreOfRules (length (nameless rules)) (order_of p)
     of_rules j (given i) d = cc
     of_rules j (by r binds kids) (rule, at, e, f, g, each) =
-        (slice_get_within (bare rules) r rule at, all_of_rules _ kids each)
+        (slice_get_within (nameless rules) r rule at, all_of_rules _ kids each)
 
-    all_of_rules : (js : List Judgement) (ps : Proofs) → DeriveEach (bare rules) no_hypotheses js ps
-        → AreOfRules (length (bare rules)) (order_of_all ps)
+    all_of_rules : (js : List Judgement) (ps : Proofs) → DeriveEach (nameless rules) no_hypotheses js ps
+        → AreOfRules (length (nameless rules)) (order_of_all ps)
     all_of_rules [] no_more d = tt
     all_of_rules [] (p ⊳ ps) d = absurd d
     all_of_rules (j ∷ js) no_more d = absurd d
-    all_of_rules (j ∷ js) (p ⊳ ps) d = of_both (length (bare rules)) (order_of p) (order_of_all ps)
+    all_of_rules (j ∷ js) (p ⊳ ps) d = of_both (length (nameless rules)) (order_of p) (order_of_all ps)
         (of_rules j p d.0) (all_of_rules js ps d.1)
 
   all_entries : (n : ℕ) → n ≡ length (map (λ (r : NamedRule). r.name) rules) →
@@ -71,12 +72,12 @@ mutual
 
 -- the list of a derivation has an entry for each node, and names rules that are there
 pub lists_fit : (rules : List NamedRule) (j : Judgement) (p : Proof) (list : List EntryOf) →
-    Derives (bare rules) no_hypotheses j p → entries list ≡ order_of p →
+    Derives (nameless rules) no_hypotheses j p → entries list ≡ order_of p →
     AllByRecursion (IsEntry (map (λ r. r.name) rules)) list × (length list ≡ nodes_of p)
 lists_fit rules j p list d same = (
-  all_entries rules (length (bare rules)) (length-map rules (λ r. r.rule)
+  all_entries rules (length (nameless rules)) (length-map rules (λ r. r.rule)
       ∙ sym (length-map rules (λ r. r.name))) list
-      (subst (AreOfRules (length (bare rules))) (sym same) (of_rules rules j p d)),
+      (subst (AreOfRules (length (nameless rules))) (sym same) (of_rules rules j p d)),
   sym (length-map list entry) ∙ ap length same ∙ order_length p,
 )
 

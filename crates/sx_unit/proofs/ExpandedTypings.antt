@@ -24,7 +24,7 @@ use Rattle.sx_notation.specs.Language.{sort_when, sorts_with}
 use Rattle.sx_typing.specs.declared.typed.Typed.{Typed}
 use Rattle.sx_typing.specs.Dialects.{DialectData, IsDialect}
 use Rattle.sx_typing.specs.Goals.{IsTypedBy}
-use Rattle.sx_typing.specs.Outcomes.{no_hypotheses}
+use Rattle.sx_rules.specs.Rules.{no_hypotheses}
 use Rattle.sx_typing.specs.BodySource.{BodySource, IsTermFor}
 use Rattle.sx_typing.proofs.TypedBodies.{source_goal}
 use Rattle.sx_unit.specs.Lowered.{IsLowering}

@@ -36,8 +36,8 @@ use Rattle.sx_rewrite.specs.RewritingLaws.{IsGoodRewriting}
 use Rattle.sx_rewrite.specs.Stored.{signature_of}
 use Rattle.sx_rewrite.proofs.Rewriting.{rewriting_is_good}
 use Rattle.sx_typing.specs.Dialects.{IsDialect}
-use Rattle.sx_typing.specs.Goals.{goal}
-use Rattle.sx_typing.specs.Outcomes.{no_hypotheses}
+use Rattle.sx_typing.specs.Goals.{goal_with}
+use Rattle.sx_rules.specs.Rules.{no_hypotheses}
 use Rattle.sx_typing.specs.BodySource.{BodySource, IsGoodTerm, IsTermFor, main_sort}
 use Rattle.sx_typing.proofs.Lexemes.{all_to_tokens, from_tokens}
 use Rattle.sx_typing.proofs.MainSorts.{main_sort_is}
@@ -110,7 +110,7 @@ module _ (s : BodySource) (is : IsDialect s.dialect) (subject output : Tree)
     (he : IsTermFor s.dialect In s.environment) (hs : IsTermFor s.dialect Sub subject)
     (ho : IsTermFor s.dialect Out output)
     (answer : Answer) (derives : DerivesGoal (modes_of s.dialect.language.forms)
-    (accepted_rules s.dialect.set) no_hypotheses (goal s subject) answer) (nodes : ℕ)
+    (accepted_rules s.dialect.set) no_hypotheses (goal_with s subject) answer) (nodes : ℕ)
     (x : Rewritten)
     (rewriting : IsRewritten s.dialect.set (subjects_in s.dialect.language.forms) no_hypotheses
     answer.0 nodes (Ok x)) where
@@ -143,7 +143,7 @@ module _ (s : BodySource) (is : IsDialect s.dialect) (subject output : Tree)
       s.dialect.set is.accepted is.lexemes no_hypotheses tt answer.0 x.proof derives.0
       x.judgement derives.3
       (subst (λ (g : Goal). AllLexemesAre (IsToken literals) g.terms) (sym derives.1)
-      (all_to_tokens literals (goal s subject).terms (source_goal s is subject he hs).lexemes))
+      (all_to_tokens literals (goal_with s subject).terms (source_goal s is subject he hs).lexemes))
       rewriting.0
 
   same_form : x.judgement.form ≡ number

@@ -24,7 +24,7 @@ use Rattle.sx_typing.specs.declared.typing_error.TypingError.{TypingError}
 use Rattle.sx_typing.specs.declared.typing_error.TypingError.TheVariants as typing
 use Rattle.sx_typing.specs.Dialects.{IsDialect}
 use Rattle.sx_typing.specs.BodySource.{BodySource, IsTermFor}
-use Rattle.sx_typing.specs.Goals.{dialect_rules, goal_events, IsBody, IsTried, IsTypedBy}
+use Rattle.sx_typing.specs.Goals.{dialect_rules, goal_events, IsBody, AreTriesCounted, IsTypedBy}
 use Rattle.sx_typing.specs.Refused.{HasBody, HasTyping, HasWalked, IsBadSource}
 use Rattle.sx_unit.specs.declared.compiled.Compiled.{Compiled}
 use Rattle.sx_unit.specs.declared.lowering.Lowering.{Lowering}
@@ -205,12 +205,12 @@ module _ (m : ModuleData) (b : Budgets) where
     walked = inl (body, refl)
 
     -- where the goal has a derivation the tries are those of its walk, whatever comes then
-    pub typed_counted : (first last : ℕ) (t : Typed) → IsTried made first last (Ok t) →
+    pub typed_counted : (first last : ℕ) (t : Typed) → AreTriesCounted made first last (Ok t) →
         (r : Result Compiled ModuleError) → IsCounted m b r first last
     typed_counted first last t h r = all_counted made first last walked h r
 
     -- and so they are where it has none
-    pub untyped_counted : (first last : ℕ) (e : TypingError) → IsTried {X = Typed} made first last
+    pub untyped_counted : (first last : ℕ) (e : TypingError) → AreTriesCounted {X = Typed} made first last
         (Err e) → IsCounted m b (Err (of_typing e)) first last
     untyped_counted first last typing.Memory h = (h.0, inr (made, walked, h.1))
     untyped_counted first last (typing.Token line column e) h = (made, walked, h)

@@ -21,7 +21,7 @@ use Rattle.sx_typing.specs.declared.typing_error.TypingError.TheVariants as typi
 use Rattle.sx_typing.specs.Alike as typed
 use Rattle.sx_typing.specs.Dialects.{IsDialect}
 use Rattle.sx_typing.specs.Goals.{dialect_rules}
-use Rattle.sx_typing.specs.Outcomes.{no_hypotheses}
+use Rattle.sx_rules.specs.Rules.{no_hypotheses}
 use Rattle.sx_typing.specs.Refused.{HasTyping, IsBadSource}
 use Rattle.sx_typing.proofs.OneTyping.{one_typing}
 use Rattle.sx_unit.specs.declared.module_error.ModuleError.{ModuleError}
@@ -35,7 +35,7 @@ use Rattle.sx_unit.specs.Errors.{of_typing, of_rewrite}
 use Rattle.sx_unit.specs.Modules.{ModuleData}
 use Rattle.sx_unit.specs.PrintedParts.{PrintedData}
 use Rattle.sx_unit.specs.Refused.{IsBadModule}
-use Rattle.sx_unit.specs.Unit.{HasLowering, IsMade}
+use Rattle.sx_unit.specs.Unit.{HasLowering, IsUnitMade}
 use Rattle.sx_unit.specs.Written.{UnitData, IsUnwritten, IsWritten}
 use Rattle.sx_unit.proofs.OneWriting.{unwritten_one, written_none, written_one}
 
@@ -226,7 +226,7 @@ module _ (m : ModuleData) (b : Budgets) (dialect : IsDialect m.source.dialect) w
 
   -- ---- units
 
-  either_one : (u : UnitData) (e : ModuleError) → IsMade m b u → Cases e → e ≡ Memory
+  either_one : (u : UnitData) (e : ModuleError) → IsUnitMade m b u → Cases e → e ≡ Memory
   either_one u e made (inl h) = h
   either_one u e made (inr (inl h)) = absurd (typed_none e made.lowering.typing h)
   either_one u e made (inr (inr (inl h))) = absurd (lowered_none e made.lowering h)
@@ -235,7 +235,7 @@ module _ (m : ModuleData) (b : Budgets) (dialect : IsDialect m.source.dialect) w
       (subst (λ (t : PrintedData). IsUnwritten m t e) (same_terms h.lowering made.lowering)
       h.unwritten) made.written)
 
-  found_one : (u v : UnitData) → IsMade m b u → IsMade m b v → u ≡ v
+  found_one : (u v : UnitData) → IsUnitMade m b u → IsUnitMade m b v → u ≡ v
   found_one u v h k =
       let there = subst (λ (x : Rewritten). IsWritten m h.lowering.terms x.proof u)
       (same_lowered h.lowering k.lowering) h.written in

@@ -14,9 +14,9 @@ use Rattle.sx_unit.specs.declared.module_error.ModuleError.TheVariants.{Print, C
 use Rattle.sx_unit.specs.Alike.{PartHasThree, ShowOthers}
 use Rattle.sx_unit.specs.Captured.{names_in}
 use Rattle.sx_unit.specs.Modules.{ModuleData}
-use Rattle.sx_unit.specs.PrintedParts.{PrintedData, parts_of, sort_of, term_of}
+use Rattle.sx_unit.specs.PrintedParts.{PrintedData, part_grammar_of, part_sort_of, term_of}
 use Rattle.sx_unit.specs.Texts.{derivation_text}
-use Rattle.sx_unit.specs.Written.{UnitData, shown_of, file_size, IsBadPart, IsGoodPart, IsDue}
+use Rattle.sx_unit.specs.Written.{UnitData, shown_of, file_size, IsBadPart, IsGoodPart, IsPartDue}
 use Rattle.sx_unit.specs.Written.{HasCaptured, IsWritten, IsUnwritten}
 use Rattle.sx_interface.proofs.FreeNames.{first_one, first_none}
 use Rattle.sx_unit.proofs.OnePrint.{ShowPairs, defect_one, defect_none}
@@ -26,7 +26,7 @@ module _ (m : ModuleData) (t : PrintedData) where
   record IsUnprinted (part : PrintedPart) (e : ModuleError) : Type 0 where
     defect : PrintDefect
     is : e ≡ Print part defect
-    due : IsDue m t part
+    due : IsPartDue m t part
     bad : IsBadPart m t part defect
 
   -- or a name of the stated signature is a literal
@@ -59,7 +59,7 @@ module _ (m : ModuleData) (t : PrintedData) where
   abbrev IsOne : ModuleError → ModuleError → Type 0
   IsOne e d = (e ≡ d) ⊎ ShowOthers m t e d
 
-  defects_alike : (part : PrintedPart) (x y : PrintDefect) (e d : ModuleError) → IsDue m t part →
+  defects_alike : (part : PrintedPart) (x y : PrintDefect) (e d : ModuleError) → IsPartDue m t part →
       e ≡ Print part x → d ≡ Print part y →
       (x ≡ y) ⊎ (ShowPairs x y × PartHasThree m t part) → IsOne e d
   defects_alike part x y e d due h k (inl same) = inl (h ∙ ap (Print part) same ∙ sym k)
@@ -79,13 +79,13 @@ module _ (m : ModuleData) (t : PrintedData) where
       IsOne e d
   same_part part e d h k =
       defects_alike part h.defect k.defect e d h.due h.is k.is
-      (defect_one (parts_of m.source.dialect part) (sort_of m.source.dialect part)
+      (defect_one (part_grammar_of m.source.dialect part) (part_sort_of m.source.dialect part)
       (file_size m t part) (shown_of m t part) (term_of t part) h.defect k.defect h.bad k.bad)
 
   -- a part that can be written is not refused
   part_none : (part : PrintedPart) (e : ModuleError) → IsUnprinted part e → IsGoodPart m t part → ⊥
   part_none part e h g =
-      defect_none (parts_of m.source.dialect part) (sort_of m.source.dialect part)
+      defect_none (part_grammar_of m.source.dialect part) (part_sort_of m.source.dialect part)
       (file_size m t part) (shown_of m t part) (term_of t part) h.defect g.short h.bad g.read
 
   parts_one : (part more : PrintedPart) (e d : ModuleError) → IsUnprinted part e →

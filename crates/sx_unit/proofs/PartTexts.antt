@@ -14,19 +14,19 @@ use Rattle.sx_unit.specs.declared.module_error.ModuleError.{ModuleError}
 use Rattle.sx_unit.specs.declared.print_check.PrintRefusal.TheVariants.{Memory, Defect}
 use Rattle.sx_unit.specs.Modules.{ModuleData}
 use Rattle.sx_unit.specs.PartRefused.{IsPartRefusal}
-use Rattle.sx_unit.specs.PrintedParts.{PrintedData, parts_of, sort_of, term_of}
-use Rattle.sx_unit.specs.Texts.{base_of}
+use Rattle.sx_unit.specs.PrintedParts.{PrintedData, part_grammar_of, part_sort_of, term_of}
+use Rattle.sx_unit.specs.Texts.{base_bytes}
 use Rattle.sx_unit.specs.Unprinted.{IsUnprintable, IsPrintable}
-use Rattle.sx_unit.specs.Written.{shown_of, file_size, IsGoodPart, IsDue, IsUnwritten}
+use Rattle.sx_unit.specs.Written.{shown_of, file_size, IsGoodPart, IsPartDue, IsUnwritten}
 
 -- what is measured and what is shown are those of the part
 module _ (m : ModuleData) (t : PrintedData) (part : PrintedPart) (size : ℕ) (shown : List ℕ)
     (size_is : size ≡ file_size m t part) (shown_is : shown ≡ shown_of m t part) where
   abbrev p : Parts
-  p = parts_of m.source.dialect part
+  p = part_grammar_of m.source.dialect part
 
   abbrev sort : Sort
-  sort = sort_of m.source.dialect part
+  sort = part_sort_of m.source.dialect part
 
   pub good_part : IsPrintable p sort size shown (term_of t part) → IsGoodPart m t part
   good_part h =
@@ -34,7 +34,7 @@ module _ (m : ModuleData) (t : PrintedData) (part : PrintedPart) (size : ℕ) (s
       shown_is
       (subst (λ (n : ℕ). IsPrintable p sort n shown (term_of t part)) size_is h)
 
-  pub bad_part : (e : ModuleError) → IsDue m t part → IsPartRefusal m.source.dialect part size shown
+  pub bad_part : (e : ModuleError) → IsPartDue m t part → IsPartRefusal m.source.dialect part size shown
       (term_of t part) e → IsUnwritten m t e
   bad_part e due (Memory, is, bad) = subst (IsUnwritten m t) (sym is) tt
   bad_part e due (Defect defect, is, bad) = subst (IsUnwritten m t) (sym is) (
@@ -56,7 +56,7 @@ abbrev front_of : HeaderParts → List ℕ
 front_of h = written ((codes "module " ++ h.name) ∷ (codes "language " ++ h.language) ∷
     (row_lines (codes "import ") h.imports ++ codes "---" ∷ []))
 
-pub base_within : (h : HeaderParts) (shown text : List ℕ) → text ≡ base_of h shown →
+pub base_within : (h : HeaderParts) (shown text : List ℕ) → text ≡ base_bytes h shown →
     length (shown ++ 10 ∷ []) ≤ length text
 base_within h shown text e = subst (λ (t : List ℕ). length (shown ++ 10 ∷ []) ≤ length t) (sym e)
     (behind_front (front_of h) (shown ++ 10 ∷ []))

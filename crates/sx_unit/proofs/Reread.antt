@@ -28,11 +28,12 @@ use Rattle.sx_grammar.specs.Reading.{Reading, ReadsWhole}
 use Rattle.sx_grammar.specs.ReadOne.{IsAnswer, only}
 use Rattle.sx_grammar.specs.Print.{print, term_of, Fits, node_fits, lexeme_fits, hole_fits}
 use Rattle.sx_grammar.specs.Print.{BracketsWhereAsked}
-use Rattle.sx_earley.specs.Tokens.{stem_of, sort_of, found_stem, shown as shown_token, plain_tokens}
+use Rattle.sx_earley.specs.Tokens.{meta_stem, stem_sort, found_stem, read_token as shown_token}
+use Rattle.sx_earley.specs.Tokens.{plain_tokens}
 use Rattle.sx_earley.specs.Unknown.{HaveStems}
-use Rattle.sx_earley.specs.Completed.{number_of}
+use Rattle.sx_earley.specs.Completed.{sort_number}
 use Rattle.sx_earley.proofs.NoMetas.{cut_has_stems}
-use Rattle.sx_print.specs.Tokens.{shown, shown_mark}
+use Rattle.sx_print.specs.Tokens.{shown_piece, shown_mark}
 use Rattle.sx_print.specs.Printed.{text_of, HaveUtf8}
 use Rattle.sx_print.specs.Cut.{HasLexemes, IsCutInto, HasReading}
 use Rattle.sx_print.proofs.Cutting.{cut_into}
@@ -110,13 +111,13 @@ few_enough p t text blanks size count is within short counted few =
 -- ---- tokens as a grammar reads them
 
 shown_same : (mark : marks.Mark) (text : Text) → shown_token [] mark text ≡ record
-    { mark = shown_mark (λ x. found_stem (sort_of [] (stem_of x))) mark text; text = text }
+    { mark = shown_mark (λ x. found_stem (stem_sort [] (meta_stem x))) mark text; text = text }
 shown_same (Lit n) text = refl
 shown_same (Lex kind) text = refl
 shown_same Meta text = refl
 
 plain_pieces : (ts : List Token) → plain_tokens [] ts ≡ map
-    (shown (λ x. found_stem (sort_of [] (stem_of x)))) (pieces ts)
+    (shown_piece (λ x. found_stem (stem_sort [] (meta_stem x)))) (pieces ts)
 plain_pieces [] = refl
 plain_pieces (t ∷ ts) = λ i. shown_same t.mark t.text i ∷ plain_pieces ts i
 
@@ -131,7 +132,7 @@ same_print (hole_fits h) here there least = absurd (none-some _ h)
 
 module _ (p : Parts) (sort : Sort) (t : Tree) (text blanks : List ℕ) (is : IsGrammar p)
     (asked : BracketsWhereAsked (numbered p))
-    (fits : Fits (numbered p) [] (of_sort (number_of sort)) t)
+    (fits : Fits (numbered p) [] (of_sort (sort_number sort)) t)
     (has : HasLexemes (literals_of p) t) (are : AreBlanks blanks)
     (same : text ≡ print_text p t ++ blanks) (utf8 : IsUtf8 text) where
   cut_print : IsCutInto (literals_of p) (printed p t) (print_text p t)
@@ -156,20 +157,20 @@ module _ (p : Parts) (sort : Sort) (t : Tree) (text blanks : List ℕ) (is : IsG
       (cut_print.cut false blanks are) in
       let alike = Cuts-same (distinct_are (literals p)) (IsStuck-nil (literals_of p) false)
       (IsStuck-nil (literals_of p) false) cut.2 here in
-      let shown_as : plain.Text → Stem = λ x. found_stem (sort_of [] (stem_of x)) in
+      let shown_as : plain.Text → Stem = λ x. found_stem (stem_sort [] (meta_stem x)) in
       let as_many : length (printed p t) ≡ length cut_print.pieces =
-      ap length (sym (cut_print.show shown_as)) ∙ length-map cut_print.pieces (shown shown_as)
+      ap length (sym (cut_print.show shown_as)) ∙ length-map cut_print.pieces (shown_piece shown_as)
       in
       omega (arith, many, cut.1, ap length alike.0, as_many)
 
-  reading_at_zero : HasReading (numbered p) [] (printed p t) (number_of sort) 0 t
+  reading_at_zero : HasReading (numbered p) [] (printed p t) (sort_number sort) 0 t
   reading_at_zero =
-      subst (λ x. HasReading (numbered p) [] x (number_of sort) 0 t)
-      (same_print fits (of_sort (number_of sort)) (of_sort 0) 0)
-      (printed_read (numbered p) [] 0 (number_of sort) 0 t asked
+      subst (λ x. HasReading (numbered p) [] x (sort_number sort) 0 t)
+      (same_print fits (of_sort (sort_number sort)) (of_sort 0) 0)
+      (printed_read (numbered p) [] 0 (sort_number sort) 0 t asked
       (record {
         stems = [];
-        place = of_sort (number_of sort);
+        place = of_sort (sort_number sort);
         fits = fits;
         named = omega arith;
         asked = inl refl;
@@ -179,21 +180,21 @@ module _ (p : Parts) (sort : Sort) (t : Tree) (text blanks : List ℕ) (is : IsG
       IsOutcome (literals_of p) false text (tokens ps) → pieces ts ≡ ps) where
     are_printed : plain_tokens [] ts ≡ printed p t
     are_printed =
-        plain_pieces ts ∙ ap (map (shown (λ x. found_stem (sort_of [] (stem_of x)))))
+        plain_pieces ts ∙ ap (map (shown_piece (λ x. found_stem (stem_sort [] (meta_stem x)))))
         (only_one cut_print.pieces (print_stands few)) ∙ cut_print.show
-        (λ x. found_stem (sort_of [] (stem_of x)))
+        (λ x. found_stem (stem_sort [] (meta_stem x)))
 
-    reading_of_tokens : HasReading (numbered p) [] (plain_tokens [] ts) (number_of sort) 0 t
-    reading_of_tokens = subst (λ x. HasReading (numbered p) [] x (number_of sort) 0 t)
+    reading_of_tokens : HasReading (numbered p) [] (plain_tokens [] ts) (sort_number sort) 0 t
+    reading_of_tokens = subst (λ x. HasReading (numbered p) [] x (sort_number sort) 0 t)
         (sym are_printed) reading_at_zero
 
-    pub print_reads : (r : Reading) × ReadsWhole (numbered p) (plain_tokens [] ts) (number_of sort)
+    pub print_reads : (r : Reading) × ReadsWhole (numbered p) (plain_tokens [] ts) (sort_number sort)
         r
     print_reads = (reading_of_tokens.0, reading_of_tokens.1)
 
     -- the only reading is that of the term
     pub reads_only : IsCut p text ts → (r : Reading) × IsAnswer (numbered p) (plain_tokens [] ts)
-        (number_of sort) (only r) → ReadsOnly p sort text t
+        (sort_number sort) (only r) → ReadsOnly p sort text t
     reads_only cut answer = (
       ts,
       answer.0,

@@ -11,7 +11,7 @@ use Rattle.sx_grammar.specs.Grammar.{Text, Stem, of_sort}
 use Rattle.sx_grammar.specs.Parts.{Parts, numbered}
 use Rattle.sx_grammar.specs.Told.{shapes_of}
 use Rattle.sx_grammar.specs.Print.{print, Fits}
-use Rattle.sx_earley.specs.Completed.{IsSort, number_of}
+use Rattle.sx_earley.specs.Completed.{IsSort, sort_number}
 use Rattle.sx_print.specs.Printed.{text_of}
 use Rattle.sx_print.proofs.Sorting.{sorted_terms}
 use Rattle.sx_unit.specs.Texts.{print_text}
@@ -38,7 +38,7 @@ line_utf8 text utf8 = IsUtf8-append text (10 ∷ []) utf8 (IsUtf8-from_ascii (10
 
 -- a term that is well sorted without variables fits at its sort
 pub sorted_fit : (p : Parts) (t : Tree) (sort : Sort) → IsSort p sort →
-    HasSort (shapes_of p) [] t sort → Fits (numbered p) [] (of_sort (number_of sort)) t
+    HasSort (shapes_of p) [] t sort → Fits (numbered p) [] (of_sort (sort_number sort)) t
 sorted_fit p t (sorts.Lex kind) is has = absurd is
 sorted_fit p t (sorts.Plain n) is has = sorted_terms p [] t (sorts.Plain n) has
 sorted_fit p t (sorts.Typed n) is has = sorted_terms p [] t (sorts.Typed n) has

@@ -1,7 +1,7 @@
 -- What a walk finds is the first derivation, and a type error comes only where there is none.
 use Rattle.sx_typing.specs.Refused.{HasTyping}
-use Rattle.sx_typing.proofs.Walks.{typings_are_first, type_errors_are_final}
-use Rattle.sx_unit.specs.Refused.{TypeErrorsAreFinal}
+use Rattle.sx_typing.proofs.Walks.{typings_are_first, source_type_errors_are_final}
+use Rattle.sx_unit.specs.Refused.{ModuleTypeErrorsAreFinal}
 use Rattle.sx_unit.specs.Unit.{UnitsAreMade}
 
 pub units_are_made : UnitsAreMade
@@ -27,6 +27,6 @@ units_are_made m b u moded made = record {
     typing : HasTyping m.source b.tries
     typing = made.lowering.typing
 
-pub final : TypeErrorsAreFinal
-final m b line column text moded bad = type_errors_are_final m.source b.tries line column text moded
+pub final : ModuleTypeErrorsAreFinal
+final m b line column text moded bad = source_type_errors_are_final m.source b.tries line column text moded
     bad

@@ -12,15 +12,16 @@ use Rattle.sx_typing.specs.Refused.{HasWalked}
 use Rattle.sx_unit.specs.declared.module_error.ModuleError.{ModuleError}
 use Rattle.sx_unit.specs.declared.module_error.ModuleError.TheVariants.{Memory, Read, Print}
 use Rattle.sx_unit.specs.Modules.{ModuleData}
-use Rattle.sx_unit.specs.PrintedParts.{PrintedData, parts_of, sort_of}
+use Rattle.sx_unit.specs.PrintedParts.{PrintedData, part_grammar_of, part_sort_of}
 use Rattle.sx_unit.specs.Refused.{IsBadModule}
-use Rattle.sx_unit.specs.Unit.{HasLowering, IsMade}
-use Rattle.sx_unit.specs.Written.{UnitData, IsDue, shown_of}
+use Rattle.sx_unit.specs.Unit.{HasLowering, IsUnitMade}
+use Rattle.sx_unit.specs.Written.{UnitData, IsPartDue, shown_of}
 
 -- a printed part has more than two readings
 abbrev pub PartHasThree : ModuleData → PrintedData → PrintedPart → Type 0
 PartHasThree m t part =
-    HasThree (parts_of m.source.dialect part) (sort_of m.source.dialect part) (shown_of m t part)
+    HasThree (part_grammar_of m.source.dialect part) (part_sort_of m.source.dialect part)
+    (shown_of m t part)
 
 -- both say that the body has more than one reading, and show two of them; it has more than two
 pub record ReadOthers (m : ModuleData) (e d : ModuleError) : Type 0 where
@@ -38,7 +39,7 @@ pub record ReadOthers (m : ModuleData) (e d : ModuleError) : Type 0 where
 -- of them; it has more than two
 pub record ShowOthers (m : ModuleData) (t : PrintedData) (e d : ModuleError) : Type 0 where
   pub part : PrintedPart
-  pub due : IsDue m t part
+  pub due : IsPartDue m t part
   pub one : Text
   pub other : Text
   pub some : Text
@@ -60,9 +61,9 @@ AreAlike m b e d = (e ≡ d) ⊎ ReadOthers m e d ⊎ PrintOthers m b e d
 -- bytes, unless the text has more than two. Out of memory is free.
 pub record OneUnit : Type 0 where
   pub found : (m : ModuleData) (b : Budgets) (u v : UnitData) → IsDialect m.source.dialect →
-      IsMade m b u → IsMade m b v → u ≡ v
+      IsUnitMade m b u → IsUnitMade m b v → u ≡ v
   pub either : (m : ModuleData) (b : Budgets) (u : UnitData) (e : ModuleError) →
-      IsDialect m.source.dialect → IsMade m b u → IsBadModule m b e → e ≡ Memory
+      IsDialect m.source.dialect → IsUnitMade m b u → IsBadModule m b e → e ≡ Memory
   pub refused : (m : ModuleData) (b : Budgets) (e d : ModuleError) → IsDialect m.source.dialect →
       IsBadModule m b e → IsBadModule m b d → e ≢ Memory → d ≢ Memory → AreAlike m b e d
   pub counted : (m : ModuleData) (tries made other : ℕ) → HasWalked m.source tries made →

@@ -7,16 +7,16 @@ use Rattle.sx_grammar.specs.Grammar.{Text}
 use Rattle.sx_interface.specs.FreeNames.{AreFree, IsFirstIn}
 
 -- the name that a lexeme of this kind is
-abbrev pub name_of : LexKind → Text → List Text
-name_of Id text = text ∷ []
-name_of Num text = []
-name_of Str text = []
+abbrev pub lexeme_name : LexKind → Text → List Text
+lexeme_name Id text = text ∷ []
+lexeme_name Num text = []
+lexeme_name Str text = []
 
 abbrev mutual
   -- the names that stand in a term, in preorder
   pub names_in : Tree → List Text
   names_in (node label kids) = names_among kids
-  names_in (lexeme kind text) = name_of kind text
+  names_in (lexeme kind text) = lexeme_name kind text
   names_in (hole v) = []
 
   -- those of one term after the other

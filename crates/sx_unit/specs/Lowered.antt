@@ -8,7 +8,7 @@ use Rattle.sx_rewrite.specs.declared.rewrite_error.RewriteError.{RewriteError}
 use Rattle.sx_rewrite.specs.Rewriting.{Rewritten, IsRewritten}
 use Rattle.sx_rewrite.specs.RewrittenView.{IsRewriting}
 use Rattle.sx_typing.specs.Dialects.{DialectData}
-use Rattle.sx_typing.specs.Outcomes.{no_hypotheses}
+use Rattle.sx_rules.specs.Rules.{no_hypotheses}
 use Rattle.sx_unit.specs.declared.lowering.Lowering.{Lowering}
 
 -- the list and the judgement are those of what the derivation is lowered to with so many nodes

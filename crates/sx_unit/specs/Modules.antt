@@ -19,8 +19,8 @@ abbrev pub mark : Import → Mark
 mark i = record { name = i.interface.module; digest = i.digest.bytes }
 
 -- the view of what a module is compiled from
-abbrev pub module_of : ModuleSource → ModuleData
-module_of m = record {
+abbrev pub module_data : ModuleSource → ModuleData
+module_data m = record {
   source = source_of m.source;
   digest = m.digest.now.bytes;
   uses = map mark_view m.uses.now;

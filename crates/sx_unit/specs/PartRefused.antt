@@ -7,7 +7,7 @@ use Rattle.sx_unit.specs.declared.module_error.ModuleError.{ModuleError}
 use Rattle.sx_unit.specs.declared.module_error.ModuleError.TheVariants.{Memory, Print}
 use Rattle.sx_unit.specs.declared.print_check.PrintRefusal.{PrintRefusal}
 use Rattle.sx_unit.specs.declared.print_check.PrintRefusal.TheVariants as refusal
-use Rattle.sx_unit.specs.PrintedParts.{parts_of, sort_of}
+use Rattle.sx_unit.specs.PrintedParts.{part_grammar_of, part_sort_of}
 use Rattle.sx_unit.specs.PrintRefused.{IsPrintRefusal}
 
 -- the refusal of a part
@@ -19,4 +19,4 @@ refusal_of part (refusal.Defect defect) = Print part defect
 abbrev pub IsPartRefusal : DialectData → PrintedPart → (size : ℕ) → (shown : List ℕ) → Tree →
     ModuleError → Type 0
 IsPartRefusal d part size shown t e = (r : PrintRefusal) × (e ≡ refusal_of part r) ×
-    IsPrintRefusal (parts_of d part) (sort_of d part) size shown t r
+    IsPrintRefusal (part_grammar_of d part) (part_sort_of d part) size shown t r

@@ -6,7 +6,7 @@ use Rattle.sx_token.specs.declared.token.Token.{Token}
 use Rattle.sx_grammar.specs.Parts.{Parts, numbered}
 use Rattle.sx_grammar.specs.ReadOne.{IsAnswer, too_hard, too_deep}
 use Rattle.sx_earley.specs.Tokens.{plain_tokens}
-use Rattle.sx_earley.specs.Completed.{number_of}
+use Rattle.sx_earley.specs.Completed.{sort_number}
 use Rattle.sx_notation.specs.WhyUnread.{AreTwo}
 use Rattle.sx_words.specs.declared.print_defect.PrintDefect.TheVariants.{Items, Depth, Ambiguous}
 use Rattle.sx_unit.specs.declared.print_check.PrintRefusal.{PrintRefusal}
@@ -23,8 +23,8 @@ IsPrintRefusal p sort size shown t (Defect defect) = IsUnprintable p sort size s
 abbrev pub IsUnreadPrint : Parts → Sort → List Token → PrintRefusal → Type 0
 IsUnreadPrint p sort ts Memory = Unit {0}
 IsUnreadPrint p sort ts (Defect Items) =
-    IsAnswer (numbered p) (plain_tokens [] ts) (number_of sort) too_hard
+    IsAnswer (numbered p) (plain_tokens [] ts) (sort_number sort) too_hard
 IsUnreadPrint p sort ts (Defect (Depth n)) =
-    IsAnswer (numbered p) (plain_tokens [] ts) (number_of sort) (too_deep n)
+    IsAnswer (numbered p) (plain_tokens [] ts) (sort_number sort) (too_deep n)
 IsUnreadPrint p sort ts (Defect (Ambiguous one other)) = AreTwo p [] sort ts one other
 IsUnreadPrint p sort ts (Defect _) = ⊥

@@ -32,13 +32,13 @@ term_of t Signature = t.signature
 term_of t Stated = t.stated
 
 -- the grammar by which it is printed: the language's, and for the stated signature the dialect's
-abbrev pub parts_of : DialectData → PrintedPart → Parts
-parts_of d Body = d.language.parts
-parts_of d Signature = d.language.parts
-parts_of d Stated = d.parts
+abbrev pub part_grammar_of : DialectData → PrintedPart → Parts
+part_grammar_of d Body = d.language.parts
+part_grammar_of d Signature = d.language.parts
+part_grammar_of d Stated = d.parts
 
 -- the sort as which it is printed
-abbrev pub sort_of : DialectData → PrintedPart → Sort
-sort_of d Body = main_sort d.language Sub
-sort_of d Signature = main_sort d.language Out
-sort_of d Stated = main_sort d.language Out
+abbrev pub part_sort_of : DialectData → PrintedPart → Sort
+part_sort_of d Body = main_sort d.language Sub
+part_sort_of d Signature = main_sort d.language Out
+part_sort_of d Stated = main_sort d.language Out

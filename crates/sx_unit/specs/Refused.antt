@@ -9,7 +9,7 @@ use Rattle.sx_extcheck.specs.declared.budgets.Budgets.{Budgets}
 use Rattle.sx_words.specs.declared.goal_defect.GoalDefect.{GoalDefect}
 use Rattle.sx_typing.specs.declared.typing_error.TypingError.TheVariants as typing
 use Rattle.sx_typing.specs.Goals.{dialect_rules}
-use Rattle.sx_typing.specs.Outcomes.{no_hypotheses}
+use Rattle.sx_rules.specs.Rules.{no_hypotheses}
 use Rattle.sx_typing.specs.Refused.{HasTyping, HasWalked, IsBadSource, IsUntyped}
 use Rattle.sx_unit.specs.declared.compiled.Compiled.{Compiled}
 use Rattle.sx_unit.specs.declared.module_error.ModuleError.{ModuleError}
@@ -20,7 +20,7 @@ use Rattle.sx_unit.specs.declared.module_error.ModuleError.TheVariants.{TooBig, 
 use Rattle.sx_unit.specs.declared.module_error.ModuleError.TheVariants.{RewriteDeep, Print}
 use Rattle.sx_unit.specs.declared.module_error.ModuleError.TheVariants.{Captured}
 use Rattle.sx_unit.specs.Modules.{ModuleData}
-use Rattle.sx_unit.specs.Unit.{HasLowering, IsMade}
+use Rattle.sx_unit.specs.Unit.{HasLowering, IsUnitMade}
 use Rattle.sx_unit.specs.Written.{IsUnwritten, unit_of}
 
 -- the body is typed, and rewriting its derivation answers this refusal
@@ -55,7 +55,7 @@ IsBadModule m b (Captured word) = IsUnmade m b (Captured word)
 
 -- what compiling answers
 abbrev pub IsCompiled : ModuleData → Budgets → Result Compiled ModuleError → Type 0
-IsCompiled m b (Ok c) = IsMade m b (unit_of c)
+IsCompiled m b (Ok c) = IsUnitMade m b (unit_of c)
 IsCompiled m b (Err e) = IsBadModule m b e
 
 -- ---- type errors
@@ -66,8 +66,8 @@ IsFinal m (TypeError line column text) = IsUntyped m.source
 IsFinal m _ = Unit {0}
 
 -- a module is refused for a type error, by rules that can be followed, only where it is untyped
-abbrev pub TypeErrorsAreFinal : Type 0
-TypeErrorsAreFinal =
+abbrev pub ModuleTypeErrorsAreFinal : Type 0
+ModuleTypeErrorsAreFinal =
     (m : ModuleData) (b : Budgets) (line column : ℕ) (text : GoalDefect) →
     AllModed (modes_of m.source.dialect.language.forms) (dialect_rules m.source.dialect) →
     IsBadModule m b (TypeError line column text) → IsUntyped m.source

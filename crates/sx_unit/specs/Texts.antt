@@ -27,20 +27,20 @@ abbrev pub print_line : Parts → Tree → Text
 print_line p t = print_text p t ++ 10 ∷ []
 
 -- the header without its lines of extensions, `---`, and the printed text
-abbrev pub base_of : HeaderParts → (shown : List ℕ) → List ℕ
-base_of h shown =
+abbrev pub base_bytes : HeaderParts → (shown : List ℕ) → List ℕ
+base_bytes h shown =
     written ((codes "module " ++ h.name) ∷ (codes "language " ++ h.language) ∷ (row_lines
     (codes "import ") h.imports ++ codes "---" ∷ [])) ++ (shown ++ 10 ∷ [])
 
 -- the base file: the subject by the language's grammar
 abbrev pub base_text : ModuleData → PrintedData → List ℕ
 base_text m t =
-    base_of m.source.header (print_text m.source.dialect.language.parts t.subject)
+    base_bytes m.source.header (print_text m.source.dialect.language.parts t.subject)
 
 -- what importers read of a module whose signatures are printed so: the digests of the language's
 -- file, of the base file, of the extensions in use and of the imports
-abbrev pub interface_of : ModuleData → (base signature stated : List ℕ) → InterfaceParts
-interface_of m base signature stated =
+abbrev pub written_interface : ModuleData → (base signature stated : List ℕ) → InterfaceParts
+written_interface m base signature stated =
     record {
       name = m.source.header.name;
       language = record { name = m.source.header.language; digest = m.digest };
@@ -55,7 +55,7 @@ interface_of m base signature stated =
 -- signature by that of the dialect
 abbrev pub interface_with : ModuleData → PrintedData → (base : List ℕ) → List ℕ
 interface_with m t base =
-    written (interface_lines (interface_of m base
+    written (interface_lines (written_interface m base
     (print_text m.source.dialect.language.parts t.signature)
     (print_text m.source.dialect.parts t.stated)))
 

@@ -12,8 +12,8 @@ use Rattle.sx_rewrite.specs.Lowers.{Lowers}
 use Rattle.sx_rewrite.specs.Rewriting.{Rewritten, IsRewritten}
 use Rattle.sx_extcheck.specs.declared.budgets.Budgets.{Budgets}
 use Rattle.sx_typing.specs.Dialects.{DialectData}
-use Rattle.sx_typing.specs.Goals.{dialect_rules, goal, IsBody}
-use Rattle.sx_typing.specs.Outcomes.{no_hypotheses}
+use Rattle.sx_typing.specs.Goals.{dialect_rules, goal_with, IsBody}
+use Rattle.sx_rules.specs.Rules.{no_hypotheses}
 use Rattle.sx_typing.specs.Refused.{HasTyping}
 use Rattle.sx_unit.specs.Modules.{ModuleData}
 use Rattle.sx_unit.specs.PrintedParts.{PrintedData}
@@ -37,7 +37,7 @@ pub record IsUnit (m : ModuleData) (u : UnitData) : Type 0 where
   pub read : IsBody m.source tokens reading subject
   pub answer : Answer
   pub first : IsFirst (modes_of m.source.dialect.language.forms) (dialect_rules m.source.dialect)
-      no_hypotheses (goal m.source subject) None answer
+      no_hypotheses (goal_with m.source subject) None answer
   pub output : Tree
   pub gives : answer.1 ≡ output ∷ []
   pub proof : Proof
@@ -59,7 +59,7 @@ pub record HasLowering (m : ModuleData) (b : Budgets) : Type 0 where
   pub are : ArePrinted m.source.dialect lowered.judgement typing.output terms
 
 -- the texts are those of what is lowered
-pub record IsMade (m : ModuleData) (b : Budgets) (u : UnitData) : Type 0 where
+pub record IsUnitMade (m : ModuleData) (b : Budgets) (u : UnitData) : Type 0 where
   pub lowering : HasLowering m b
   pub written : IsWritten m lowering.terms lowering.lowered.proof u
   pub source_tokens : u.source_tokens ≡ length lowering.typing.body.tokens
@@ -68,4 +68,4 @@ pub record IsMade (m : ModuleData) (b : Budgets) (u : UnitData) : Type 0 where
 abbrev pub UnitsAreMade : Type 0
 UnitsAreMade = (m : ModuleData) (b : Budgets) (u : UnitData) →
     AllModed (modes_of m.source.dialect.language.forms) (dialect_rules m.source.dialect) →
-    IsMade m b u → IsUnit m u
+    IsUnitMade m b u → IsUnit m u

@@ -6,7 +6,7 @@ use Rattle.sx_token.specs.declared.token.Token.{Token}
 use Rattle.sx_grammar.specs.Parts.{Parts, numbered}
 use Rattle.sx_grammar.specs.ReadOne.{IsAnswer, too_hard, too_deep}
 use Rattle.sx_earley.specs.Tokens.{plain_tokens}
-use Rattle.sx_earley.specs.Completed.{number_of}
+use Rattle.sx_earley.specs.Completed.{sort_number}
 use Rattle.sx_notation.specs.WhyUnread.{AreTwo}
 use Rattle.sx_words.specs.declared.print_defect.PrintDefect.{PrintDefect}
 use Rattle.sx_words.specs.declared.print_defect.PrintDefect.TheVariants.{Bytes, Tokens, Items}
@@ -24,10 +24,10 @@ IsUnprintable p sort size shown t (Tokens n) = (size ≤ most_bytes) × (most_to
     (n ≡ length (printed p t)) × ((ts : List Token) → IsCut p shown ts → ⊥)
 IsUnprintable p sort size shown t Items =
     (size ≤ most_bytes) × ((ts : List Token) × IsCut p shown ts ×
-    IsAnswer (numbered p) (plain_tokens [] ts) (number_of sort) too_hard)
+    IsAnswer (numbered p) (plain_tokens [] ts) (sort_number sort) too_hard)
 IsUnprintable p sort size shown t (Depth n) =
     (size ≤ most_bytes) × ((ts : List Token) × IsCut p shown ts ×
-    IsAnswer (numbered p) (plain_tokens [] ts) (number_of sort) (too_deep n))
+    IsAnswer (numbered p) (plain_tokens [] ts) (sort_number sort) (too_deep n))
 IsUnprintable p sort size shown t (Ambiguous one other) =
     (size ≤ most_bytes) × ((ts : List Token) × IsCut p shown ts × AreTwo p [] sort ts one other)
 

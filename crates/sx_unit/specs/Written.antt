@@ -15,7 +15,7 @@ use Rattle.sx_unit.specs.declared.module_error.ModuleError.{ModuleError}
 use Rattle.sx_unit.specs.declared.module_error.ModuleError.TheVariants.{Memory, Print, Captured}
 use Rattle.sx_unit.specs.Captured.{IsCaptured, IsFree}
 use Rattle.sx_unit.specs.Modules.{ModuleData}
-use Rattle.sx_unit.specs.PrintedParts.{PrintedData, parts_of, sort_of, term_of}
+use Rattle.sx_unit.specs.PrintedParts.{PrintedData, part_grammar_of, part_sort_of, term_of}
 use Rattle.sx_unit.specs.Texts.{printed, print_text, print_line, base_text, interface_text}
 use Rattle.sx_unit.specs.Texts.{derivation_text}
 use Rattle.sx_unit.specs.Unprinted.{IsUnprintable, IsPrintable}
@@ -38,13 +38,13 @@ file_size m t Stated = length (interface_text m t)
 -- why it cannot be written
 abbrev pub IsBadPart : ModuleData → PrintedData → PrintedPart → PrintDefect → Type 0
 IsBadPart m t part defect =
-    IsUnprintable (parts_of m.source.dialect part) (sort_of m.source.dialect part)
+    IsUnprintable (part_grammar_of m.source.dialect part) (part_sort_of m.source.dialect part)
     (file_size m t part) (shown_of m t part) (term_of t part) defect
 
 -- it can be written
 abbrev pub IsGoodPart : ModuleData → PrintedData → PrintedPart → Type 0
 IsGoodPart m t part =
-    IsPrintable (parts_of m.source.dialect part) (sort_of m.source.dialect part)
+    IsPrintable (part_grammar_of m.source.dialect part) (part_sort_of m.source.dialect part)
     (file_size m t part) (shown_of m t part) (term_of t part)
 
 -- no name in the stated signature is a literal of the dialect
@@ -57,10 +57,10 @@ HasCaptured m t word = IsCaptured (literals_of m.source.dialect.parts) t.stated 
 
 -- the body comes first, then the signature, then the names of the stated signature, and then the
 -- stated signature
-abbrev pub IsDue : ModuleData → PrintedData → PrintedPart → Type 0
-IsDue m t Body = Unit {0}
-IsDue m t Signature = IsGoodPart m t Body
-IsDue m t Stated = IsGoodPart m t Body × IsGoodPart m t Signature × HasFreeNames m t
+abbrev pub IsPartDue : ModuleData → PrintedData → PrintedPart → Type 0
+IsPartDue m t Body = Unit {0}
+IsPartDue m t Signature = IsGoodPart m t Body
+IsPartDue m t Stated = IsGoodPart m t Body × IsGoodPart m t Signature × HasFreeNames m t
 
 -- ---- all of it
 
@@ -103,7 +103,7 @@ pub record IsWritten (m : ModuleData) (t : PrintedData) (q : Proof) (u : UnitDat
 -- why nothing is written of these terms; out of memory is free
 abbrev pub IsUnwritten : ModuleData → PrintedData → ModuleError → Type 0
 IsUnwritten m t Memory = Unit {0}
-IsUnwritten m t (Print part defect) = IsDue m t part × IsBadPart m t part defect
+IsUnwritten m t (Print part defect) = IsPartDue m t part × IsBadPart m t part defect
 IsUnwritten m t (Captured word) =
     IsGoodPart m t Body × IsGoodPart m t Signature × HasCaptured m t word
 IsUnwritten m t _ = ⊥
@@ -115,8 +115,8 @@ IsUnwritten m t _ = ⊥
 -- and no literals of the language
 pub record ArePrintable (d : DialectData) (t : PrintedData) : Type 0 where
   pub subject : IsGoodTerm (literals_of d.language.parts) (shapes_of d.language.parts)
-      (sort_of d Body) t.subject
+      (part_sort_of d Body) t.subject
   pub signature : IsGoodTerm (literals_of d.language.parts) (shapes_of d.language.parts)
-      (sort_of d Signature) t.signature
-  pub stated : IsGoodTerm (literals_of d.language.parts) (shapes_of d.parts) (sort_of d Stated)
+      (part_sort_of d Signature) t.signature
+  pub stated : IsGoodTerm (literals_of d.language.parts) (shapes_of d.parts) (part_sort_of d Stated)
       t.stated

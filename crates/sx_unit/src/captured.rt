@@ -5,7 +5,7 @@ ghost use Rattle.sx_term.specs.Term.{tree};
 ghost use Rattle.sx_term.specs.Tree.{depth_of};
 ghost use Rattle.sx_grammar.specs.Tables.{literals_of};
 ghost use Rattle.sx_interface.specs.FreeNames.{AreFree, IsFirstIn};
-ghost use Rattle.sx_unit.specs.Captured.{name_of, IsFree, IsCaptured};
+ghost use Rattle.sx_unit.specs.Captured.{lexeme_name, IsFree, IsCaptured};
 ghost use Rattle.sx_term.specs.Limits.{most_depth};
 
 use sx_grammar::Grammar;
@@ -14,8 +14,8 @@ use sx_term::{LexKind, Term, Text};
 /// The lexeme, where it is a name that is a literal of the grammar.
 fn captured_name<'a>(grammar: &Grammar, kind: LexKind, text: &'a Text) -> Option<&'a Text>
     ensures { MatchOption result
-        (AreFree (literals_of grammar.entry.now.parts) (name_of kind text.entry.now))
-        (λ word. IsFirstIn (literals_of grammar.entry.now.parts) (name_of kind text.entry.now)
+        (AreFree (literals_of grammar.entry.now.parts) (lexeme_name kind text.entry.now))
+        (λ word. IsFirstIn (literals_of grammar.entry.now.parts) (lexeme_name kind text.entry.now)
         word.now) }
 {
     match kind {

@@ -8,7 +8,7 @@ ghost use Rattle.sx_term.specs.declared.role.Role.TheVariants.{Sub};
 ghost use Rattle.sx_forest.specs.Readings.{plain_reading};
 ghost use Rattle.sx_typing.specs.Goals.{IsBody, IsTypedBy};
 ghost use Rattle.sx_typing.specs.BodySource.{CanType, IsTermFor};
-ghost use Rattle.sx_unit.specs.Modules.{module_of};
+ghost use Rattle.sx_unit.specs.Modules.{module_data};
 ghost use Rattle.sx_unit.specs.Refused.{IsCompiled, IsCounted, IsFinal};
 ghost use Rattle.sx_unit.specs.Unit.{IsUnit};
 ghost use Rattle.sx_unit.specs.Written.{unit_of};
@@ -34,14 +34,14 @@ fn compile_typed(
     nodes: u64,
 ) -> Result<Compiled, ModuleError>
     requires can { CanType given.now.source }
-    requires body { IsBody (module_of given.now).source body.now.tokens.items
+    requires body { IsBody (module_data given.now).source body.now.tokens.items
         (plain_reading body.now.reading) (tree body.now.term) }
-    requires good { IsTermFor (module_of given.now).source.dialect Sub (tree body.now.term) }
+    requires good { IsTermFor (module_data given.now).source.dialect Sub (tree body.now.term) }
     requires typed { (tries : ℕ) ×
-        IsTypedBy (module_of given.now).source tries (tree body.now.term) typed.now }
+        IsTypedBy (module_data given.now).source tries (tree body.now.term) typed.now }
     ensures { (b : budget.Budgets) → b.nodes ≡ nodes →
-        IsTypedBy (module_of given.now).source b.tries (tree body.now.term) typed.now →
-        IsCompiled (module_of given.now) b result }
+        IsTypedBy (module_data given.now).source b.tries (tree body.now.term) typed.now →
+        IsCompiled (module_data given.now) b result }
 {
     match lower_typed(alloc, given, typed, nodes) {
         Ok(lowering) => write_lowered(alloc, given, body, typed, lowering),
@@ -58,11 +58,11 @@ fn compile_body<L: Ledger>(
     steps: &mut Steps<L>,
 ) -> Result<Compiled, ModuleError>
     requires can { CanType given.now.source }
-    requires body { IsBody (module_of given.now).source body.now.tokens.items
+    requires body { IsBody (module_data given.now).source body.now.tokens.items
         (plain_reading body.now.reading) (tree body.now.term) }
-    requires good { IsTermFor (module_of given.now).source.dialect Sub (tree body.now.term) }
-    ensures answer { IsCompiled (module_of given.now) budgets result }
-    ensures tries { IsCounted (module_of given.now) budgets result steps.old steps.new }
+    requires good { IsTermFor (module_data given.now).source.dialect Sub (tree body.now.term) }
+    ensures answer { IsCompiled (module_data given.now) budgets result }
+    ensures tries { IsCounted (module_data given.now) budgets result steps.old steps.new }
     ensures most { steps.new ≤ steps.old + budgets.tries }
 {
     match type_source(alloc, &given.source, body, budgets.tries, steps) {
@@ -89,13 +89,13 @@ pub fn compile<L: Ledger>(
     requires { CanType given.now.source }
 
     // The module is made as its definition says, or the refusal is the one that is due.
-    ensures answer { IsCompiled (module_of given.now) budgets result }
+    ensures answer { IsCompiled (module_data given.now) budgets result }
     // What is made are the texts of the first derivation among all.
-    ensures unit { IfOk result (λ c. IsUnit (module_of given.now) (unit_of c)) }
+    ensures unit { IfOk result (λ c. IsUnit (module_data given.now) (unit_of c)) }
     // A type error comes only where the main goal has no derivation at all.
-    ensures untyped { IfErr result (IsFinal (module_of given.now)) }
+    ensures untyped { IfErr result (IsFinal (module_data given.now)) }
     // The steps rise by the tries of the goal's walk.
-    ensures tries { IsCounted (module_of given.now) budgets result steps.old steps.new }
+    ensures tries { IsCounted (module_data given.now) budgets result steps.old steps.new }
     ensures most { steps.new ≤ steps.old + budgets.tries }
 {
     match read_source(alloc, &given.source) {

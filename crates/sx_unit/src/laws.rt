@@ -1,7 +1,7 @@
 //! Laws of units.
 
 ghost use Rattle.sx_unit.specs.Alike.{OneUnit};
-ghost use Rattle.sx_unit.specs.Refused.{TypeErrorsAreFinal};
+ghost use Rattle.sx_unit.specs.Refused.{ModuleTypeErrorsAreFinal};
 ghost use Rattle.sx_unit.specs.Unit.{UnitsAreMade};
 
 /// What a walk finds is the first derivation, so what is made is the unit of the module.
@@ -10,8 +10,8 @@ pub fn units_are_made()
 {}
 
 /// A type error comes only where the module's main goal has no derivation at all.
-pub fn type_errors_are_final()
-    ensures { TypeErrorsAreFinal }
+pub fn module_type_errors_are_final()
+    ensures { ModuleTypeErrorsAreFinal }
 {}
 
 /// What compiling answers is determined by what it is compiled from, out of memory aside. Only of a

@@ -35,7 +35,7 @@ mod typed_lowering;
 
 pub use compiled::Compiled;
 pub use compiling::compile;
-pub use laws::{one_unit, type_errors_are_final, units_are_made};
+pub use laws::{module_type_errors_are_final, one_unit, units_are_made};
 pub use module_error::ModuleError;
 pub use module_source::ModuleSource;
 pub use showing::show;

@@ -8,7 +8,7 @@ ghost use Rattle.sx_forest.specs.Readings.{plain_reading};
 ghost use Rattle.sx_typing.specs.Goals.{IsBody, IsTypedBy};
 ghost use Rattle.sx_typing.specs.BodySource.{CanType, IsTermFor};
 ghost use Rattle.sx_unit.specs.Lowered.{IsLowering};
-ghost use Rattle.sx_unit.specs.Modules.{module_of};
+ghost use Rattle.sx_unit.specs.Modules.{module_data};
 ghost use Rattle.sx_unit.specs.Refused.{IsCompiled};
 
 use crate::compiled::Compiled;
@@ -29,16 +29,16 @@ pub(crate) fn write_lowered(
     lowering: Lowering,
 ) -> Result<Compiled, ModuleError>
     requires can { CanType given.now.source }
-    requires body { IsBody (module_of given.now).source body.now.tokens.items
+    requires body { IsBody (module_data given.now).source body.now.tokens.items
         (plain_reading body.now.reading) (tree body.now.term) }
-    requires good { IsTermFor (module_of given.now).source.dialect Sub (tree body.now.term) }
+    requires good { IsTermFor (module_data given.now).source.dialect Sub (tree body.now.term) }
     requires lowered { (tries : ℕ) × (nodes : ℕ) ×
-        (t : IsTypedBy (module_of given.now).source tries (tree body.now.term) typed.now) ×
-        IsLowering (module_of given.now).source.dialect t.answer.0 nodes lowering }
+        (t : IsTypedBy (module_data given.now).source tries (tree body.now.term) typed.now) ×
+        IsLowering (module_data given.now).source.dialect t.answer.0 nodes lowering }
     ensures { (b : budget.Budgets) →
-        (t : IsTypedBy (module_of given.now).source b.tries (tree body.now.term) typed.now) →
-        IsLowering (module_of given.now).source.dialect t.answer.0 b.nodes lowering →
-        IsCompiled (module_of given.now) b result }
+        (t : IsTypedBy (module_data given.now).source b.tries (tree body.now.term) typed.now) →
+        IsLowering (module_data given.now).source.dialect t.answer.0 b.nodes lowering →
+        IsCompiled (module_data given.now) b result }
 {
     let Lowering { list, judgement } = lowering;
     let rules = &given.source.dialect.language.rules;

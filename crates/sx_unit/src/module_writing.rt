@@ -8,7 +8,7 @@ ghost use Rattle.sx_rules.specs.ListText.{IsEntry};
 ghost use Rattle.sx_rules.specs.Orders.{order_of};
 ghost use Rattle.sx_rules.specs.Sets.{names_in};
 ghost use Rattle.sx_typing.specs.BodySource.{CanType};
-ghost use Rattle.sx_unit.specs.Modules.{module_of};
+ghost use Rattle.sx_unit.specs.Modules.{module_data};
 ghost use Rattle.sx_unit.specs.PrintedParts.{printed_of};
 ghost use Rattle.sx_unit.specs.Texts.{printed, base_text, interface_text as known_interface};
 ghost use Rattle.sx_unit.specs.Written.{ArePrintable, IsGoodPart, IsUnwritten, IsWritten, unit_of};
@@ -44,15 +44,15 @@ fn end_line(text: &mut Vec<u8>) -> Result<(), NoMemory>
 /// The base file with the printed subject.
 fn put_body(alloc: Global, given: &ModuleSource, terms: &PrintedTerms) -> Result<Base, ModuleError>
     requires can { CanType given.now.source }
-    requires terms { ArePrintable (module_of given.now).source.dialect (printed_of terms.now) }
+    requires terms { ArePrintable (module_data given.now).source.dialect (printed_of terms.now) }
     ensures text { IfOk result
-        (λ b. b.text.items ≡ base_text (module_of given.now) (printed_of terms.now)) }
+        (λ b. b.text.items ≡ base_text (module_data given.now) (printed_of terms.now)) }
     ensures good { IfOk result
-        (λ b. IsGoodPart (module_of given.now) (printed_of terms.now) PrintedPart.Body) }
+        (λ b. IsGoodPart (module_data given.now) (printed_of terms.now) PrintedPart.Body) }
     ensures tokens { IfOk result
-        (λ b. b.tokens ≡ length (printed (module_of given.now).source.dialect.language.parts
+        (λ b. b.tokens ≡ length (printed (module_data given.now).source.dialect.language.parts
         (printed_of terms.now).subject)) }
-    ensures refused { IfErr result (IsUnwritten (module_of given.now) (printed_of terms.now)) }
+    ensures refused { IfErr result (IsUnwritten (module_data given.now) (printed_of terms.now)) }
 {
     let dialect = &given.source.dialect;
     let mut shown = show(alloc, &dialect.language.grammar, terms.subject)?;
@@ -81,14 +81,14 @@ pub(crate) fn write_module(
     source_tokens: u32,
 ) -> Result<Compiled, ModuleError>
     requires can { CanType given.now.source }
-    requires terms { ArePrintable (module_of given.now).source.dialect (printed_of terms.now) }
+    requires terms { ArePrintable (module_data given.now).source.dialect (printed_of terms.now) }
     requires names { AllByRecursion (IsEntry (names_in given.now.source.dialect.language.now.rules))
         list.items }
     ensures written { IfOk result (λ c. (q : Proof) → entries list.items ≡ order_of q →
         length list.items ≡ nodes_of q →
-        IsWritten (module_of given.now) (printed_of terms.now) q (unit_of c)) }
+        IsWritten (module_data given.now) (printed_of terms.now) q (unit_of c)) }
     ensures tokens { IfOk result (λ c. c.source_tokens ≡ source_tokens) }
-    ensures refused { IfErr result (IsUnwritten (module_of given.now) (printed_of terms.now)) }
+    ensures refused { IfErr result (IsUnwritten (module_data given.now) (printed_of terms.now)) }
 {
     let base = put_body(alloc, given, terms)?;
     let interface = put_signatures(alloc, given, terms, &base.text)?;

@@ -9,7 +9,7 @@ ghost use Rattle.sx_grammar.specs.Told.{shapes_of};
 ghost use Rattle.sx_typing.specs.Dialects.{dialect_of, IsDialectOf};
 ghost use Rattle.sx_typing.specs.BodySource.{IsGoodTerm};
 ghost use Rattle.sx_unit.specs.PartRefused.{refusal_of, IsPartRefusal};
-ghost use Rattle.sx_unit.specs.PrintedParts.{parts_of, sort_of};
+ghost use Rattle.sx_unit.specs.PrintedParts.{part_grammar_of, part_sort_of};
 ghost use Rattle.sx_unit.specs.Texts.{printed, print_text};
 ghost use Rattle.sx_unit.specs.Unprinted.{IsPrintable};
 
@@ -41,17 +41,19 @@ pub(crate) fn check_part(
     shown: &[u8],
 ) -> Result<u32, ModuleError>
     requires dialect { IsDialectOf dialect.now }
-    requires good { IsGoodTerm (literals_of (parts_of (dialect_of dialect.now) part))
-        (shapes_of (parts_of (dialect_of dialect.now) part)) (sort_of (dialect_of dialect.now) part)
+    requires good { IsGoodTerm (literals_of (part_grammar_of (dialect_of dialect.now) part))
+        (shapes_of (part_grammar_of (dialect_of dialect.now) part)) (part_sort_of
+        (dialect_of dialect.now) part)
         (tree term.now) }
     requires text { (blanks : List ℕ) × AreBlanks blanks × (shown.now ≡
-        print_text (parts_of (dialect_of dialect.now) part) (tree term.now) ++ blanks) }
+        print_text (part_grammar_of (dialect_of dialect.now) part) (tree term.now) ++ blanks) }
     requires utf8 { IsUtf8 shown.now }
     requires within { length shown.now ≤ size }
-    ensures good { IfOk result (λ n. IsPrintable (parts_of (dialect_of dialect.now) part)
-        (sort_of (dialect_of dialect.now) part) size shown.now (tree term.now)) }
+    ensures good { IfOk result (λ n. IsPrintable (part_grammar_of (dialect_of dialect.now) part)
+        (part_sort_of (dialect_of dialect.now) part) size shown.now (tree term.now)) }
     ensures tokens { IfOk result
-        (λ n. n ≡ length (printed (parts_of (dialect_of dialect.now) part) (tree term.now))) }
+        (λ n. n ≡ length (printed (part_grammar_of (dialect_of dialect.now) part)
+        (tree term.now))) }
     ensures refused { IfErr result
         (IsPartRefusal (dialect_of dialect.now) part size shown.now (tree term.now)) }
 {

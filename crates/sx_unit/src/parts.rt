@@ -12,7 +12,7 @@ use sx_words::PrintedPart;
 
 /// The grammar by which a part is printed.
 pub(crate) fn part_grammar<'a>(dialect: &Dialect<'a>, part: PrintedPart) -> &'a Grammar
-    ensures { result.now.parts ≡ known.parts_of (dialect_of dialect.entry.now) part }
+    ensures { result.now.parts ≡ known.part_grammar_of (dialect_of dialect.entry.now) part }
 {
     match part {
         PrintedPart::Body | PrintedPart::Signature => &dialect.language.grammar,
@@ -24,7 +24,7 @@ pub(crate) fn part_grammar<'a>(dialect: &Dialect<'a>, part: PrintedPart) -> &'a 
 pub(crate) fn part_sort(dialect: &Dialect, part: PrintedPart) -> Sort
     requires { dialect.now.language.now.main.form
         < length (forms_in dialect.now.language.now.rules) }
-    ensures { result ≡ known.sort_of (dialect_of dialect.now) part }
+    ensures { result ≡ known.part_sort_of (dialect_of dialect.now) part }
 {
     match part {
         PrintedPart::Body => main_sort(dialect.language, Role::Sub),

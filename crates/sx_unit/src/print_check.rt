@@ -15,7 +15,7 @@ ghost use Rattle.sx_grammar.specs.Print.{Fits};
 ghost use Rattle.sx_grammar.specs.Reading.{Reading, ReadsWhole};
 ghost use Rattle.sx_grammar.specs.ReadOne.{IsAnswer, only};
 ghost use Rattle.sx_grammar.specs.Tables.{literals_of};
-ghost use Rattle.sx_earley.specs.Completed.{IsSort, number_of};
+ghost use Rattle.sx_earley.specs.Completed.{IsSort, sort_number};
 ghost use Rattle.sx_earley.specs.Tokens.{plain_tokens};
 ghost use Rattle.sx_earley.specs.Unknown.{HaveStems};
 ghost use Rattle.sx_print.specs.Cut.{HasLexemes};
@@ -90,7 +90,7 @@ fn print_refusal(
     error: ReadError,
 ) -> PrintRefusal
     requires { (sort : Sort) × (r : Reading) ×
-        ReadsWhole (numbered grammar.now.parts) (plain_tokens [] tokens.now) (number_of sort) r
+        ReadsWhole (numbered grammar.now.parts) (plain_tokens [] tokens.now) (sort_number sort) r
         × IsReadError grammar.now.parts [] sort tokens.now error }
     ensures { (sort : Sort) → IsReadError grammar.now.parts [] sort tokens.now error →
         IsUnreadPrint grammar.now.parts sort tokens.now result }
@@ -117,9 +117,9 @@ fn read_print(
     requires short { length tokens.now ≤ most_tokens }
     requires stems { HaveStems [] tokens.now }
     requires read { (r : Reading) ×
-        ReadsWhole (numbered grammar.now.parts) (plain_tokens [] tokens.now) (number_of sort) r }
+        ReadsWhole (numbered grammar.now.parts) (plain_tokens [] tokens.now) (sort_number sort) r }
     ensures only { IfOk result (λ _. (r : Reading) ×
-        IsAnswer (numbered grammar.now.parts) (plain_tokens [] tokens.now) (number_of sort)
+        IsAnswer (numbered grammar.now.parts) (plain_tokens [] tokens.now) (sort_number sort)
         (only r)) }
     ensures refused { IfErr result (IsUnreadPrint grammar.now.parts sort tokens.now) }
 {
@@ -147,7 +147,7 @@ pub(crate) fn check_print(
 ) -> Result<u32, PrintRefusal>
     requires sort { IsSort grammar.now.parts sort }
     requires depth { depth_of (tree term.now) ≤ most_depth }
-    requires fits { Fits (numbered grammar.now.parts) [] (of_sort (number_of sort))
+    requires fits { Fits (numbered grammar.now.parts) [] (of_sort (sort_number sort))
         (tree term.now) }
     requires lexemes { HasLexemes (literals_of grammar.now.parts) (tree term.now) }
     requires text { (blanks : List ℕ) × AreBlanks blanks ×

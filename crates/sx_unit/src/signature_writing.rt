@@ -5,7 +5,7 @@ ghost use Rattle.std.specs.Str.{IsUtf8};
 ghost use Rattle.sx_term.specs.Term.{tree};
 ghost use Rattle.sx_typing.specs.Dialects.{IsDialectOf};
 ghost use Rattle.sx_typing.specs.BodySource.{CanType};
-ghost use Rattle.sx_unit.specs.Modules.{module_of};
+ghost use Rattle.sx_unit.specs.Modules.{module_data};
 ghost use Rattle.sx_unit.specs.PrintedParts.{printed_of};
 ghost use Rattle.sx_unit.specs.Texts.{print_text, base_text, interface_text as known_interface};
 ghost use Rattle.sx_unit.specs.Written.{ArePrintable, HasFreeNames, IsGoodPart, IsUnwritten};
@@ -23,12 +23,12 @@ use sx_words::PrintedPart;
 
 /// The names of the stated signature are no literals of the dialect.
 fn check_names(alloc: Global, given: &ModuleSource, terms: &PrintedTerms) -> Result<(), ModuleError>
-    requires terms { ArePrintable (module_of given.now).source.dialect (printed_of terms.now) }
-    requires body { IsGoodPart (module_of given.now) (printed_of terms.now) PrintedPart.Body }
-    requires signature { IsGoodPart (module_of given.now) (printed_of terms.now)
+    requires terms { ArePrintable (module_data given.now).source.dialect (printed_of terms.now) }
+    requires body { IsGoodPart (module_data given.now) (printed_of terms.now) PrintedPart.Body }
+    requires signature { IsGoodPart (module_data given.now) (printed_of terms.now)
         PrintedPart.Signature }
-    ensures free { IfOk result (λ _. HasFreeNames (module_of given.now) (printed_of terms.now)) }
-    ensures refused { IfErr result (IsUnwritten (module_of given.now) (printed_of terms.now)) }
+    ensures free { IfOk result (λ _. HasFreeNames (module_data given.now) (printed_of terms.now)) }
+    ensures refused { IfErr result (IsUnwritten (module_data given.now) (printed_of terms.now)) }
 {
     match captured(given.source.dialect.grammar, terms.stated) {
         Some(word) => Err(ModuleError::Captured(word.copy(alloc)?)),
@@ -46,17 +46,17 @@ fn check_signature(
     shown: &[u8],
 ) -> Result<(), ModuleError>
     requires can { CanType given.now.source }
-    requires terms { ArePrintable (module_of given.now).source.dialect (printed_of terms.now) }
-    requires body { IsGoodPart (module_of given.now) (printed_of terms.now) PrintedPart.Body }
-    requires size { size ≡ file_size (module_of given.now) (printed_of terms.now)
+    requires terms { ArePrintable (module_data given.now).source.dialect (printed_of terms.now) }
+    requires body { IsGoodPart (module_data given.now) (printed_of terms.now) PrintedPart.Body }
+    requires size { size ≡ file_size (module_data given.now) (printed_of terms.now)
         PrintedPart.Signature }
-    requires text { shown.now ≡ print_text (module_of given.now).source.dialect.language.parts
+    requires text { shown.now ≡ print_text (module_data given.now).source.dialect.language.parts
         (printed_of terms.now).signature }
     requires utf8 { IsUtf8 shown.now }
     requires within { length shown.now ≤ size }
     ensures good { IfOk result
-        (λ _. IsGoodPart (module_of given.now) (printed_of terms.now) PrintedPart.Signature) }
-    ensures refused { IfErr result (IsUnwritten (module_of given.now) (printed_of terms.now)) }
+        (λ _. IsGoodPart (module_data given.now) (printed_of terms.now) PrintedPart.Signature) }
+    ensures refused { IfErr result (IsUnwritten (module_data given.now) (printed_of terms.now)) }
 {
     let part = PrintedPart::Signature;
     check_part(
@@ -79,20 +79,20 @@ fn check_stated(
     shown: &[u8],
 ) -> Result<(), ModuleError>
     requires can { CanType given.now.source }
-    requires terms { ArePrintable (module_of given.now).source.dialect (printed_of terms.now) }
-    requires body { IsGoodPart (module_of given.now) (printed_of terms.now) PrintedPart.Body }
-    requires signature { IsGoodPart (module_of given.now) (printed_of terms.now)
+    requires terms { ArePrintable (module_data given.now).source.dialect (printed_of terms.now) }
+    requires body { IsGoodPart (module_data given.now) (printed_of terms.now) PrintedPart.Body }
+    requires signature { IsGoodPart (module_data given.now) (printed_of terms.now)
         PrintedPart.Signature }
-    requires free { HasFreeNames (module_of given.now) (printed_of terms.now) }
-    requires size { size ≡ file_size (module_of given.now) (printed_of terms.now)
+    requires free { HasFreeNames (module_data given.now) (printed_of terms.now) }
+    requires size { size ≡ file_size (module_data given.now) (printed_of terms.now)
         PrintedPart.Stated }
-    requires text { shown.now ≡ print_text (module_of given.now).source.dialect.parts
+    requires text { shown.now ≡ print_text (module_data given.now).source.dialect.parts
         (printed_of terms.now).stated }
     requires utf8 { IsUtf8 shown.now }
     requires within { length shown.now ≤ size }
     ensures good { IfOk result
-        (λ _. IsGoodPart (module_of given.now) (printed_of terms.now) PrintedPart.Stated) }
-    ensures refused { IfErr result (IsUnwritten (module_of given.now) (printed_of terms.now)) }
+        (λ _. IsGoodPart (module_data given.now) (printed_of terms.now) PrintedPart.Stated) }
+    ensures refused { IfErr result (IsUnwritten (module_data given.now) (printed_of terms.now)) }
 {
     let part = PrintedPart::Stated;
     check_part(
@@ -114,17 +114,17 @@ pub(crate) fn put_signatures(
     base: &[u8],
 ) -> Result<Vec<u8>, ModuleError>
     requires can { CanType given.now.source }
-    requires terms { ArePrintable (module_of given.now).source.dialect (printed_of terms.now) }
-    requires base { base.now ≡ base_text (module_of given.now) (printed_of terms.now) }
-    requires body { IsGoodPart (module_of given.now) (printed_of terms.now) PrintedPart.Body }
+    requires terms { ArePrintable (module_data given.now).source.dialect (printed_of terms.now) }
+    requires base { base.now ≡ base_text (module_data given.now) (printed_of terms.now) }
+    requires body { IsGoodPart (module_data given.now) (printed_of terms.now) PrintedPart.Body }
     ensures text { IfOk result
-        (λ v. v.items ≡ known_interface (module_of given.now) (printed_of terms.now)) }
+        (λ v. v.items ≡ known_interface (module_data given.now) (printed_of terms.now)) }
     ensures signature { IfOk result
-        (λ v. IsGoodPart (module_of given.now) (printed_of terms.now) PrintedPart.Signature) }
-    ensures free { IfOk result (λ v. HasFreeNames (module_of given.now) (printed_of terms.now)) }
+        (λ v. IsGoodPart (module_data given.now) (printed_of terms.now) PrintedPart.Signature) }
+    ensures free { IfOk result (λ v. HasFreeNames (module_data given.now) (printed_of terms.now)) }
     ensures stated { IfOk result
-        (λ v. IsGoodPart (module_of given.now) (printed_of terms.now) PrintedPart.Stated) }
-    ensures refused { IfErr result (IsUnwritten (module_of given.now) (printed_of terms.now)) }
+        (λ v. IsGoodPart (module_data given.now) (printed_of terms.now) PrintedPart.Stated) }
+    ensures refused { IfErr result (IsUnwritten (module_data given.now) (printed_of terms.now)) }
 {
     let dialect = &given.source.dialect;
     let signature = show(alloc, &dialect.language.grammar, terms.signature)?;

@@ -11,8 +11,8 @@ ghost use Rattle.sx_interface.specs.StatedHeader.{row_lines};
 ghost use Rattle.sx_interface.specs.HeaderView.{header_view};
 ghost use Rattle.sx_interface.specs.InterfaceView.{mark_view, interface_view};
 ghost use Rattle.sx_interface.specs.Interfaces.{interface_lines};
-ghost use Rattle.sx_unit.specs.Modules.{mark, module_of};
-ghost use Rattle.sx_unit.specs.Texts.{base_of, interface_of, derivation_text};
+ghost use Rattle.sx_unit.specs.Modules.{mark, module_data};
+ghost use Rattle.sx_unit.specs.Texts.{base_bytes, written_interface, derivation_text};
 
 use crate::module_source::ModuleSource;
 use std::alloc::Global;
@@ -45,7 +45,7 @@ fn put_imports(imports: &[Text], into: &mut Vec<u8>) -> Result<(), NoMemory>
 /// The base file: the header without extensions, `---`, and the printed body on a line.
 pub(crate) fn base_text(alloc: Global, header: &Header, shown: &[u8]) -> Result<Vec<u8>, NoMemory>
     ensures { (bytes : List ℕ) →
-        IfOk result (λ v. v.items ≡ base_of (header_view bytes header.now) shown.now) }
+        IfOk result (λ v. v.items ≡ base_bytes (header_view bytes header.now) shown.now) }
 {
     let mut text = Vec::with_capacity(alloc, shown.len())?;
     put_row(b"module ", header.name.bytes(), &mut text)?;
@@ -96,8 +96,8 @@ fn interface(
 ) -> Result<Interface, NoMemory>
     requires signature { IsUtf8 signature.now }
     requires stated { IsUtf8 stated.now }
-    ensures { IfOk result (λ it. interface_view it ≡ interface_of
-        (module_of given.now) base.now signature.now stated.now) }
+    ensures { IfOk result (λ it. interface_view it ≡ written_interface
+        (module_data given.now) base.now signature.now stated.now) }
 {
     let header = given.source.header;
     Ok(Interface {
@@ -122,8 +122,8 @@ pub(crate) fn interface_text(
 ) -> Result<Vec<u8>, NoMemory>
     requires signature { IsUtf8 signature.now }
     requires stated { IsUtf8 stated.now }
-    ensures { IfOk result (λ v. v.items ≡ written (interface_lines (interface_of
-        (module_of given.now) base.now signature.now stated.now))) }
+    ensures { IfOk result (λ v. v.items ≡ written (interface_lines (written_interface
+        (module_data given.now) base.now signature.now stated.now))) }
 {
     let it = interface(alloc, given, base, signature, stated)?;
     let mut text = Vec::new(alloc);

@@ -6,7 +6,7 @@ ghost use Rattle.sx_term.specs.Tree.{Tree};
 ghost use Rattle.sx_typing.specs.Goals.{IsTypedBy};
 ghost use Rattle.sx_typing.specs.BodySource.{CanType, IsTermFor};
 ghost use Rattle.sx_unit.specs.Lowered.{IsLoweringOf};
-ghost use Rattle.sx_unit.specs.Modules.{module_of};
+ghost use Rattle.sx_unit.specs.Modules.{module_data};
 
 use crate::lowering::Lowering;
 use crate::module_source::ModuleSource;
@@ -24,11 +24,11 @@ pub(crate) fn lower_typed(
 ) -> Result<Lowering, RewriteError>
     requires can { CanType given.now.source }
     requires typed { (tries : ℕ) × (subject : Tree) ×
-        IsTermFor (module_of given.now).source.dialect Sub subject ×
-        IsTypedBy (module_of given.now).source tries subject typed.now }
+        IsTermFor (module_data given.now).source.dialect Sub subject ×
+        IsTypedBy (module_data given.now).source tries subject typed.now }
     ensures { (tries : ℕ) (subject : Tree) →
-        (t : IsTypedBy (module_of given.now).source tries subject typed.now) →
-        IsLoweringOf (module_of given.now).source.dialect t.answer.0 nodes result }
+        (t : IsTypedBy (module_data given.now).source tries subject typed.now) →
+        IsLoweringOf (module_data given.now).source.dialect t.answer.0 nodes result }
 {
     let accepted = given.source.dialect.accepted;
     accepted.facts();

@@ -16,7 +16,8 @@ use Rattle.sx_steps.proofs.Ones.{ok_no_err, some_same, none_some}
 use Rattle.sx_walking.specs.Laws.{AnswerAlike}
 use Rattle.sx_walking.proofs.Agreeing.{reaches_alike, answers_alike}
 use Rattle.sx_uses.specs.ExtensionFile.{Extension, extension_file, uses_of}
-use Rattle.sx_uses.specs.ReadExtension.{header_stop, HasHeader, HasNoHeader, StatesExtension}
+use Rattle.sx_uses.specs.ReadExtension.{extension_header_stop, HasHeader, HasNoHeader}
+use Rattle.sx_uses.specs.ReadExtension.{StatesExtension}
 use Rattle.sx_uses.specs.ReadExtension.{ReadsFile, IsFor, ReadsExtension}
 use Rattle.sx_uses.specs.ReadUses.{ReadsUses}
 use Rattle.sx_uses.specs.Laws.{FilesAgree, UsesAgree}
@@ -25,10 +26,10 @@ use Rattle.sx_uses.specs.Laws.{FilesAgree, UsesAgree}
 
 module _ (one_header_answer : OneHeaderAnswer) (name bytes : List ℕ) where
   not_lacking : (e : OutlineError) (stop : Stop) →
-      header_stop (extension_file name) e ≡ Some stop →
+      extension_header_stop (extension_file name) e ≡ Some stop →
       ◌≢◌ {A = Result HeaderData OutlineError} (Err e) (Err Memory)
   not_lacking e stop is same = none_some stop
-      (ap (header_stop (extension_file name)) (sym (err_same e Memory same)) ∙ is)
+      (ap (extension_header_stop (extension_file name)) (sym (err_same e Memory same)) ∙ is)
 
   a_header : (h : HeaderData) → ◌≢◌ {A = Result HeaderData OutlineError} (Ok h) (Err Memory)
   a_header h same = ok_no_err h Memory same
@@ -52,7 +53,7 @@ module _ (one_header_answer : OneHeaderAnswer) (name bytes : List ℕ) where
       let same = err_same h.error k.error
       (one_header_answer name bytes (Err h.error) (Err k.error) h.refused k.refused
       (not_lacking h.error s h.is) (not_lacking k.error t k.is)) in
-      some_same s t (sym h.is ∙ ap (header_stop (extension_file name)) same ∙ k.is)
+      some_same s t (sym h.is ∙ ap (extension_header_stop (extension_file name)) same ∙ k.is)
 
   states_one : IsOne (StatesExtension name bytes)
   states_one (Ok x) (Ok y) h k n m = ap Ok (same_header x y h k)

@@ -8,7 +8,7 @@ use Rattle.sx_term.specs.Limits.{most_bytes}
 use Rattle.sx_steps.proofs.StepsOn.{went}
 use Rattle.sx_walking.proofs.Coming.{reached_first}
 use Rattle.sx_uses.specs.ExtensionFile.{Extension, extension_file, uses_of}
-use Rattle.sx_uses.specs.ExtensionKind.{name_of}
+use Rattle.sx_uses.specs.ExtensionKind.{extension_name}
 use Rattle.sx_uses.specs.ReadExtension.{StatesExtension, ReadsFile, IsFor, ReadsExtension}
 use Rattle.sx_uses.specs.Laws.{UsesComeFirst}
 use Rattle.sx_uses.proofs.Headers.{header_named}
@@ -25,5 +25,5 @@ read_named language files name x reads =
 
 pub come_first : UsesComeFirst
 come_first file language roots files xs reads =
-    reached_first name_of uses_of (ReadsExtension language files) (read_named language files) file
+    reached_first extension_name uses_of (ReadsExtension language files) (read_named language files) file
     roots xs reads

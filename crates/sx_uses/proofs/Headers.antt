@@ -6,10 +6,11 @@ use Rattle.sx_lines.specs.declared.kind.Kind.TheVariants.{Head, Shape}
 use Rattle.sx_outline.specs.declared.outline_error.OutlineError.{OutlineError}
 use Rattle.sx_outline.specs.declared.outline_error.OutlineError.TheVariants.{Notation}
 use Rattle.sx_outline.specs.Known.{kept_lines}
-use Rattle.sx_outline.specs.Headers.{HeaderData, begun, with_use, AreUses, IsLanguageNext, IsHeaderOf, IsHeaderAnswer}
+use Rattle.sx_outline.specs.Headers.{HeaderData, header_begun, with_use, AreUses, IsLanguageNext}
+use Rattle.sx_outline.specs.Headers.{IsHeaderOf, IsHeaderAnswer}
 use Rattle.sx_term.specs.Limits.{most_bytes}
 use Rattle.sx_steps.proofs.Ones.{ok_same, ok_no_err}
-use Rattle.sx_uses.specs.ExtensionFile.{Extension, IsStated}
+use Rattle.sx_uses.specs.ExtensionFile.{Extension, IsHeaderStated}
 
 module _ (x : HeaderData) where
   abbrev answer : Result HeaderData OutlineError
@@ -31,7 +32,7 @@ module _ (x : HeaderData) where
 
   language_named : (name : List ℕ) (lines : Lines) → IsLanguageNext name lines Next Bad → x.name ≡ name
   language_named name (over end) e = absurd (ok_no_err x (Notation end Head) e)
-  language_named name (line number text after more) (inl u) = uses_named (begun name u.0) more u.2
+  language_named name (line number text after more) (inl u) = uses_named (header_begun name u.0) more u.2
   language_named name (line number text after more) (inr u) = absurd (ok_no_err x (Notation number Head) u.1)
 
   lines_named : (name : List ℕ) (lines : Lines) → IsHeaderOf name lines Next Bad → x.name ≡ name
@@ -42,7 +43,7 @@ module _ (x : HeaderData) where
 pub header_named : (name bytes : List ℕ) (x : HeaderData) → IsHeaderAnswer name bytes (Ok x) → x.name ≡ name
 header_named name bytes x h = lines_named x name (kept_lines (lines_from 1 bytes)) h.1
 
-pub stated : (name bytes given : List ℕ) (h : HeaderData) → given ≡ bytes → length bytes ≤ most_bytes → IsHeaderAnswer name given (Ok h) → IsStated (let x : Extension = record { bytes = bytes; header = h } in x)
+pub stated : (name bytes given : List ℕ) (h : HeaderData) → given ≡ bytes → length bytes ≤ most_bytes → IsHeaderAnswer name given (Ok h) → IsHeaderStated (let x : Extension = record { bytes = bytes; header = h } in x)
 stated name bytes given h same short answer = record {
   short = short;
   states = subst (λ (n : List ℕ). IsHeaderAnswer n bytes (Ok h)) (sym (header_named name given h answer)) (subst (λ (b : List ℕ). IsHeaderAnswer name b (Ok h)) same answer);

@@ -10,18 +10,19 @@ use Rattle.sx_steps.proofs.TypeErrors.{OnTypeError, on_stop, no_type_error, Fina
 use Rattle.sx_steps.proofs.TypeErrors.{held_final}
 use Rattle.sx_walking.proofs.TypeErrors.{reaches_final}
 use Rattle.sx_uses.specs.ExtensionFile.{extension_file, uses_of}
-use Rattle.sx_uses.specs.ReadExtension.{header_stop, wrong_language, StatesExtension, ReadsFile}
+use Rattle.sx_uses.specs.ReadExtension.{extension_header_stop, wrong_language, StatesExtension}
+use Rattle.sx_uses.specs.ReadExtension.{ReadsFile}
 use Rattle.sx_uses.specs.ReadExtension.{IsFor, ReadsExtension}
 use Rattle.sx_uses.specs.ReadUses.{ReadsUses}
 
 module _ (Q : Stop → Type 0) where
-  no_header : (file : List ℕ) (e : OutlineError) → OnTypeError Q (header_stop file e)
+  no_header : (file : List ℕ) (e : OutlineError) → OnTypeError Q (extension_header_stop file e)
   no_header file outline_error.Memory = tt
   no_header file (outline_error.NotUtf8 before) = λ h. absurd h
   no_header file (outline_error.Notation line what) = λ h. absurd h
 
   states_final : (name bytes : List ℕ) → Final Q (StatesExtension name bytes)
-  states_final name bytes stop h = on_stop Q (header_stop (extension_file name) h.error) stop
+  states_final name bytes stop h = on_stop Q (extension_header_stop (extension_file name) h.error) stop
       (no_header (extension_file name) h.error) h.is
 
   pub reads_final : (files : Files) (name : List ℕ) → Final Q (ReadsFile files name)

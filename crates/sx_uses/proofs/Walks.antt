@@ -8,7 +8,7 @@ use Rattle.sx_steps.specs.Steps.{Goes}
 use Rattle.sx_steps.specs.Stop.{Gives}
 use Rattle.sx_steps.specs.declared.stop.Stop.{Stop}
 use Rattle.sx_steps.specs.declared.step_error.StepError.{StepError}
-use Rattle.sx_walking.specs.Kinds.{Fits, Visits, ReachesBy}
+use Rattle.sx_walking.specs.Kinds.{FileFits, Visits, ReachesBy}
 use Rattle.sx_walking.proofs.Reaching.{gives_as}
 use Rattle.sx_walking.proofs.Tables.{unlike}
 use Rattle.sx_uses.specs.ExtensionFile.{Extension, uses_of}
@@ -18,12 +18,12 @@ use Rattle.sx_uses.specs.ReadUses.{ReadsUses}
 
 module _ (language : List ℕ) where
   for_as : (name : Name) (given : Extension) (r : Result Extension Stop) →
-      Fits (extensions_for language) name given r → IsFor language name given r
+      FileFits (extensions_for language) name given r → IsFor language name given r
   for_as name given (Ok x) h = ((bytes_eq-Decides given.header.language language).0 h.0, h.1)
   for_as name given (Err stop) h = (unlike given.header.language language h.0, h.1)
 
   goes_as : (name : Name) (given r : Result Extension Stop) →
-      Goes (Fits (extensions_for language) name) given r → Goes (IsFor language name) given r
+      Goes (FileFits (extensions_for language) name) given r → Goes (IsFor language name) given r
   goes_as name (Ok x) r h = for_as name x r h
   goes_as name (Err stop) r h = h
 

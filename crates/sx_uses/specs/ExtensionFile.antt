@@ -26,6 +26,6 @@ abbrev pub uses_of : Extension → List (List ℕ)
 uses_of x = x.header.uses
 
 -- the bytes are no more than a file may have, and state the header under the name that it has
-pub record IsStated (x : Extension) : Type 0 where
+pub record IsHeaderStated (x : Extension) : Type 0 where
   pub short : length x.bytes ≤ most_bytes
   pub states : IsHeaderAnswer x.header.name x.bytes (Ok x.header)

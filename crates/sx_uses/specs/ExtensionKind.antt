@@ -2,20 +2,20 @@
 use Rattle.std.specs.Prelude.{ℕ, List}
 use Rattle.std.specs.Str.{bytes_eq}
 use Rattle.sx_walking.specs.Kinds.{Kind}
-use Rattle.sx_uses.specs.ExtensionFile.{Extension, extension_file, uses_of, IsStated}
+use Rattle.sx_uses.specs.ExtensionFile.{Extension, extension_file, uses_of, IsHeaderStated}
 use Rattle.sx_uses.specs.ReadExtension.{wrong_language, ReadsFile}
 
 -- the name of an extension
-abbrev pub name_of : Extension → List ℕ
-name_of x = x.header.name
+abbrev pub extension_name : Extension → List ℕ
+extension_name x = x.header.name
 
 -- the extensions that are written for the language
 abbrev pub extensions_for : List ℕ → Kind Extension
 extensions_for language = record {
-  name_of = name_of;
+  name_of = extension_name;
   stands_on = uses_of;
   Reads = ReadsFile;
   fits = λ x. bytes_eq x.header.language language;
   misfit = λ name x. wrong_language (extension_file name) x.header.language;
-  IsStated = IsStated;
+  IsStated = IsHeaderStated;
 }

@@ -8,7 +8,7 @@ use Rattle.sx_steps.specs.Agree.{IsNoReadFault, IsSure, AnswersBy}
 use Rattle.sx_steps.specs.Stop.{Gives}
 use Rattle.sx_walking.specs.Laws.{ComesAfter}
 pub use Rattle.sx_walking.specs.Laws.{AnswerAlike}
-use Rattle.sx_uses.specs.ExtensionKind.{name_of}
+use Rattle.sx_uses.specs.ExtensionKind.{extension_name}
 use Rattle.sx_uses.specs.ExtensionFile.{Extension, uses_of}
 use Rattle.sx_uses.specs.ReadExtension.{ReadsFile, ReadsExtension}
 use Rattle.sx_uses.specs.ReadUses.{ReadsUses}
@@ -30,12 +30,12 @@ UsesAgree = (file language : List ℕ) (roots : List (List ℕ)) (files : Files)
 -- ---- what was read
 
 -- the names of these extensions
-abbrev pub names_of : List Extension → List (List ℕ)
-names_of xs = map (λ x. x.header.name) xs
+abbrev pub use_names : List Extension → List (List ℕ)
+use_names xs = map (λ x. x.header.name) xs
 
 -- the extension stands after all that it uses, and none of its name stands before it
 abbrev pub StandsAfterUses : (before : List Extension) → Extension → Type 0
-StandsAfterUses = ComesAfter name_of uses_of
+StandsAfterUses = ComesAfter extension_name uses_of
 
 -- each of these was read from its file and is written for the language
 abbrev pub AreRead : (language : List ℕ) → Files → List Extension → Type 0
@@ -48,10 +48,10 @@ UsesComeFirst = (file language : List ℕ) (roots : List (List ℕ)) (files : Fi
     (xs : List Extension) → ReadsUses file language roots files (Ok xs) →
     ((before after : List Extension) (x : Extension) → xs ≡ before ++ x ∷ after →
     StandsAfterUses before x) × AreRead language files xs ×
-    ((name : List ℕ) → Contains roots name → Contains (names_of xs) name)
+    ((name : List ℕ) → Contains roots name → Contains (use_names xs) name)
 
 -- of what is reached from one root, the root comes last
 abbrev pub RootComesLast : Type 0
 RootComesLast = (file language root : List ℕ) (files : Files) (xs : List Extension) →
     ReadsUses file language (root ∷ []) files (Ok xs) →
-    (before : List (List ℕ)) × (names_of xs ≡ before ++ root ∷ [])
+    (before : List (List ℕ)) × (use_names xs ≡ before ++ root ∷ [])

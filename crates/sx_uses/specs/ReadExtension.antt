@@ -11,16 +11,17 @@ use Rattle.sx_steps.specs.Held.{Held}
 use Rattle.sx_term.specs.Limits.{most_bytes}
 use Rattle.sx_steps.specs.Refusal.{about}
 use Rattle.sx_steps.specs.Steps.{Then}
-use Rattle.sx_steps.specs.Stops.{not_utf8, kind_text, bad_line}
+use Rattle.sx_steps.specs.Stops.{not_utf8, bad_kind_text, bad_line}
 use Rattle.sx_uses.specs.ExtensionFile.{Extension, extension_file}
 
 -- ---- stops
 
 -- the stop of a header's refusal; out of memory has none
-abbrev pub header_stop : List ℕ → OutlineError → Option Stop
-header_stop file outline_error.Memory = None
-header_stop file (outline_error.NotUtf8 before) = Some (not_utf8 file before)
-header_stop file (outline_error.Notation line what) = Some (bad_line file line (kind_text what))
+abbrev pub extension_header_stop : List ℕ → OutlineError → Option Stop
+extension_header_stop file outline_error.Memory = None
+extension_header_stop file (outline_error.NotUtf8 before) = Some (not_utf8 file before)
+extension_header_stop file (outline_error.Notation line what) = Some (bad_line file line
+    (bad_kind_text what))
 
 -- the extension in the file is written for this language, which is another one
 abbrev pub wrong_language : List ℕ → List ℕ → Stop
@@ -38,7 +39,7 @@ pub record HasHeader (name bytes : List ℕ) (x : Extension) : Type 0 where
 pub record HasNoHeader (name bytes : List ℕ) (stop : Stop) : Type 0 where
   pub error : OutlineError
   pub refused : IsHeaderAnswer name bytes (Err error)
-  pub is : header_stop (extension_file name) error ≡ Some stop
+  pub is : extension_header_stop (extension_file name) error ≡ Some stop
 
 -- the header that the bytes state, or its refusal
 abbrev pub StatesExtension : List ℕ → List ℕ → Result Extension Stop → Type 0

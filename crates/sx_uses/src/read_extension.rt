@@ -3,8 +3,8 @@
 ghost use Rattle.std.specs.Prelude.{◌≡◌, ◌≤◌, IfOk, Some, length};
 ghost use Rattle.sx_outside.specs.Told.{WhereTold};
 ghost use Rattle.sx_steps.specs.Stop.{Gives, OnlyReads, IsNoFault};
-ghost use Rattle.sx_uses.specs.ExtensionFile.{extension_of, extension_file, IsStated};
-ghost use Rattle.sx_uses.specs.ReadExtension.{header_stop, StatesExtension, ReadsFile};
+ghost use Rattle.sx_uses.specs.ExtensionFile.{extension_of, extension_file, IsHeaderStated};
+ghost use Rattle.sx_uses.specs.ReadExtension.{extension_header_stop, StatesExtension, ReadsFile};
 ghost use Rattle.sx_term.specs.Limits.{most_bytes};
 
 use crate::extension_file::ExtensionFile;
@@ -17,7 +17,7 @@ use sx_words::{Defect, FileDefect};
 
 /// The refusal of bytes that state no header.
 fn bad_header(alloc: Global, file: &Text, error: OutlineError) -> Result<Stop, NoMemory>
-    ensures { IfOk result (λ stop. header_stop file.now error ≡ Some stop) }
+    ensures { IfOk result (λ stop. extension_header_stop file.now error ≡ Some stop) }
 {
     match error {
         OutlineError::Memory => Err(NoMemory::Memory),
@@ -41,7 +41,7 @@ fn state_extension(
     requires short { length bytes.items ≤ most_bytes }
     ensures step { Gives extension_of (StatesExtension name.now bytes.items) result }
     ensures named { IfOk result (λ x. x.header.name ≡ name.now) }
-    ensures stated { IfOk result (λ x. IsStated (extension_of x)) }
+    ensures stated { IfOk result (λ x. IsHeaderStated (extension_of x)) }
     ensures no_fault { IsNoFault result }
 {
     match read_extension_header(alloc, name, &bytes) {
@@ -64,7 +64,7 @@ pub fn read_extension_file<S: Shelf>(
     ensures step { WhereTold (S.content shelf.old)
         (λ files. Gives extension_of (ReadsFile files name.now) result) }
     ensures named { IfOk result (λ x. x.header.name ≡ name.now) }
-    ensures stated { IfOk result (λ x. IsStated (extension_of x)) }
+    ensures stated { IfOk result (λ x. IsHeaderStated (extension_of x)) }
     ensures reads { OnlyReads (S.content shelf.old) (S.content shelf.new)
         (S.read_faults shelf.old) (S.read_faults shelf.new)
         (S.write_faults shelf.old) (S.write_faults shelf.new) result }

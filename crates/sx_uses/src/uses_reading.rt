@@ -4,7 +4,7 @@ ghost use Rattle.std.specs.Prelude.{◌≤◌, IfOk, IfSome, Ok, length};
 ghost use Rattle.std.specs.List.{AllByRecursion};
 ghost use Rattle.sx_outside.specs.Told.{WhereTold};
 ghost use Rattle.sx_steps.specs.Stop.{Gives, OnlyReads};
-ghost use Rattle.sx_uses.specs.ExtensionFile.{extension_of, extensions_of, IsStated};
+ghost use Rattle.sx_uses.specs.ExtensionFile.{extension_of, extensions_of, IsHeaderStated};
 ghost use Rattle.sx_uses.specs.ReadExtension.{ReadsFile};
 ghost use Rattle.sx_uses.specs.ReadUses.{ReadsUses};
 
@@ -31,12 +31,12 @@ pub fn read_uses<S: Shelf>(
     roots: Vec<Text>,
     shelf: &mut S,
 ) -> Result<Vec<ExtensionFile>, StepError>
-    requires stated { IfSome held (λ x. IsStated (extension_of x)) }
+    requires stated { IfSome held (λ x. IsHeaderStated (extension_of x)) }
     requires held { WhereTold (S.content shelf.now) (λ files. IfSome held (λ x.
         ReadsFile files x.header.name (Ok (extension_of x)))) }
     ensures step { WhereTold (S.content shelf.old) (λ files.
         Gives extensions_of (ReadsUses file.now language.now roots.items files) result) }
-    ensures stated { IfOk result (λ xs. AllByRecursion IsStated (extensions_of xs)) }
+    ensures stated { IfOk result (λ xs. AllByRecursion IsHeaderStated (extensions_of xs)) }
     ensures few { IfOk result (λ xs. length xs.items ≤ 256) }
     ensures reads { OnlyReads (S.content shelf.old) (S.content shelf.new)
         (S.read_faults shelf.old) (S.read_faults shelf.new)

@@ -13,8 +13,8 @@ use Rattle.sx_rules.proofs.ListLaws.{AreRuleNames}
 use Rattle.sx_rules.proofs.Refusals.{good_moded}
 use Rattle.sx_interface.specs.Interfaces.{InterfaceParts}
 use Rattle.sx_typing.specs.Dialects.{IsDialect}
-use Rattle.sx_typing.specs.Growing.{unextended}
-use Rattle.sx_typing.specs.Outcomes.{bare}
+use Rattle.sx_typing.specs.Growing.{unextended_dialect}
+use Rattle.sx_typing.specs.Outcomes.{nameless}
 use Rattle.sx_unit.specs.Texts.{print_text}
 use Rattle.sx_environment.specs.Alike.{OneEnvironment}
 use Rattle.sx_environment.specs.Environments.{IsEnvironment}
@@ -29,7 +29,7 @@ use Rattle.sx_steps.specs.Unit.{base_file, list_file, interface_file}
 use Rattle.sx_steps.proofs.Ones.{as_answer, held_one, trying_by, no_tries_one, answers_so}
 use Rattle.sx_steps.proofs.Related.{IsOneAs, one_as, then_as}
 use Rattle.sx_accepting.specs.LanguageFiles.{language_file}
-use Rattle.sx_accepting.specs.ReadLanguage.{Stated, IsStated, StatesLanguage}
+use Rattle.sx_accepting.specs.ReadLanguage.{Stated, IsLanguageStated, StatesLanguage}
 use Rattle.sx_accepting.specs.Alike.{StopsAtLanguage, SameButReadings}
 use Rattle.sx_accepting.proofs.OneLanguageFile.{reads_language_as}
 use Rattle.sx_dialects.specs.Dialects.{ExtendedIsDialect}
@@ -44,7 +44,7 @@ use Rattle.sx_verify.specs.Ground.{seen_in, source_in, ReadsBody}
 use Rattle.sx_verify.specs.KeptImports.{ReadsAllKept}
 use Rattle.sx_verify.specs.Laws.{SameButShown, VerifiesAgree}
 use Rattle.sx_verify.specs.Lists.{ReadsEntries}
-use Rattle.sx_verify.specs.Replays.{Replays, goal_in}
+use Rattle.sx_verify.specs.Replays.{ReplaysMainGoal, main_goal_in}
 use Rattle.sx_verify.specs.Verified.{verified_plan}
 use Rattle.sx_verify.specs.VerifiedModule.{HoldsFiles}
 use Rattle.sx_verify.specs.VerifyModule as spec
@@ -87,15 +87,15 @@ module _ (environments : OneEnvironment) (dialects : ExtendedIsDialect) (name : 
 
     module _ (digest : w.interface.language.digest ≡ sha256 bytes) (its : List InterfaceParts)
         (kept_all : ReadsAllKept (interface_file name) files w.interface.imports (Ok its))
-        (l : Stated) (states : IsStated own bytes l) where
+        (l : Stated) (states : IsLanguageStated own bytes l) where
       abbrev from : HoldsFiles name files
       from = holds name files w (are_written name files w read) bytes held.0 digest l states its
           kept_all
 
-      is : IsDialect (unextended l.language)
+      is : IsDialect (unextended_dialect l.language)
       is = dialects own bytes l states (record { tries = 0; nodes = 0 }) [] _ 0 (refl, refl)
 
-      moded : AllModed (modes_of l.language.forms) (bare l.language.rules)
+      moded : AllModed (modes_of l.language.forms) (nameless l.language.rules)
       moded = good_moded (shapes_of l.language.parts) l.language.forms [] l.language.rules
           is.rule_set.1
 
@@ -122,9 +122,9 @@ module _ (environments : OneEnvironment) (dialects : ExtendedIsDialect) (name : 
       entries_as : (goal : Goal) (list : List EntryOf) →
           IsOneAs Related (spec.VerifiesEntries name w l.language goal list)
       entries_as goal list =
-          then_as Related (Replays (list_file name) l.language goal list)
+          then_as Related (ReplaysMainGoal (list_file name) l.language goal list)
           (spec.VerifiesOutput name w l.language (length list))
-          (one (Replays (list_file name) l.language goal list)
+          (one (ReplaysMainGoal (list_file name) l.language goal list)
           (replays_one (list_file name) l.language goal list moded))
           (λ output replayed. output_as (length list) output)
 
@@ -165,7 +165,7 @@ module _ (environments : OneEnvironment) (dialects : ExtendedIsDialect) (name : 
         body_as =
             then_as Related (ReadsBody (base_file name) (source_in l w.base environment))
             (spec.VerifiesSubject name files w l.language environment) subject_as
-            (λ subject body. list_as (goal_in l.language environment subject))
+            (λ subject body. list_as (main_goal_in l.language environment subject))
 
       -- the environment
       of_import : (x y : Stop) → SameButRows (seen_in own l) its x y → Related x y

@@ -8,7 +8,7 @@ use Rattle.sx_interface.specs.declared.interfaces.ImportMark.{ImportMark}
 use Rattle.sx_interface.specs.Headers.{HeaderParts}
 use Rattle.sx_interface.specs.Interfaces.{InterfaceParts, Mark}
 use Rattle.sx_interface.specs.InterfaceView.{mark_view}
-use Rattle.sx_verify.specs.BaseFits.{names_of, IsOther, IsFirst, IsBaseOf, IsMisfit}
+use Rattle.sx_verify.specs.BaseFits.{mark_names, IsOtherName, IsFirstNumber, IsBaseOf, IsMisfit}
 
 some_same : (a b : List ℕ) → Some a ≡ Some b → a ≡ b
 some_same a b e = cc
@@ -48,8 +48,8 @@ same_next names due i same here other lt =
       | inr e ↦ subst (λ (k : ℕ). slice_get names k ≡ slice_get due k) (sym e) here
     ]
 
-pub first_here : (names due : List (List ℕ)) (i : ℕ) → AreSameTo names due i → IsOther names due i →
-    IsFirst (IsOther names due) i
+pub first_here : (names due : List (List ℕ)) (i : ℕ) → AreSameTo names due i → IsOtherName names due i →
+    IsFirstNumber (IsOtherName names due) i
 first_here names due i same other =
     record { here = other; before = λ k lt differs. differs (same k lt) }
 
@@ -62,7 +62,7 @@ past (x ∷ xs) (suc i) e = omega (arith, past xs i e)
 
 module _ (marks : List ImportMark) where
   abbrev due : List (List ℕ)
-  due = names_of (map mark_view marks)
+  due = mark_names (map mark_view marks)
 
   due_of : (i : ℕ) (x : Option ImportMark) → slice_get marks i ≡ x →
       slice_get due i ≡ option_map (λ (m : Mark). m.name) (option_map mark_view x)
@@ -86,11 +86,11 @@ module _ (marks : List ImportMark) where
     same_at m at same = name_at ∙ ap Some same ∙ sym (due_at i m at)
 
     pub other_at : (m : ImportMark) → slice_get marks i ≡ Some m → (name ≡ m.name → ⊥) →
-        IsOther names due i
+        IsOtherName names due i
     other_at m at differs same =
         differs (some_same name m.name (sym name_at ∙ same ∙ due_at i m at))
 
-    pub none_at : slice_get marks i ≡ None → IsOther names due i
+    pub none_at : slice_get marks i ≡ None → IsOtherName names due i
     none_at at same = none_some name (sym (due_none i at) ∙ sym same ∙ name_at)
 
   due_length : length due ≡ length marks
@@ -98,7 +98,7 @@ module _ (marks : List ImportMark) where
 
   -- past the names an import is missing
   pub missing : (names : List (List ℕ)) → length names < length marks →
-      IsOther names due (length names)
+      IsOtherName names due (length names)
   missing names lt same = some_there (slice_get due (length names)) refl
     where
       some_there : (x : Option (List ℕ)) → slice_get due (length names) ≡ x → ⊥
@@ -113,7 +113,7 @@ module _ (marks : List ImportMark) where
 -- ---- rows
 
 module _ (it : InterfaceParts) (header : HeaderParts) where
-  pub misfit_language : (header.language ≡ it.language.name → ⊥) → IsFirst (IsMisfit it header) 1
+  pub misfit_language : (header.language ≡ it.language.name → ⊥) → IsFirstNumber (IsMisfit it header) 1
   misfit_language differs = record { here = differs; before = none_before }
     where
       none_before : (other : ℕ) → other < 1 → IsMisfit it header other → ⊥
@@ -126,7 +126,7 @@ module _ (it : InterfaceParts) (header : HeaderParts) where
     before_names (suc zero) lt h = h same
     before_names (suc (suc other)) lt h = omega (arith, lt)
 
-    pub misfit_use : (header.uses ≡ [] → ⊥) → IsFirst (IsMisfit it header) 2
+    pub misfit_use : (header.uses ≡ [] → ⊥) → IsFirstNumber (IsMisfit it header) 2
     misfit_use some = record { here = inl (positive header.uses some); before = before_names }
       where
         positive : (uses : List (List ℕ)) → (uses ≡ [] → ⊥) → 0 < length uses
@@ -134,29 +134,29 @@ module _ (it : InterfaceParts) (header : HeaderParts) where
         positive (u ∷ uses) some = omega arith
 
     module _ (none : header.uses ≡ []) where
-      other_here : (row : ℕ) → IsOther header.imports (names_of it.imports) row →
+      other_here : (row : ℕ) → IsOtherName header.imports (mark_names it.imports) row →
           IsMisfit it header (suc (suc row))
       other_here row h = inr (
         subst (λ (uses : List (List ℕ)). length uses ≤ row) (sym none) (omega arith),
-        subst (λ (uses : List (List ℕ)). IsOther header.imports (names_of it.imports)
+        subst (λ (uses : List (List ℕ)). IsOtherName header.imports (mark_names it.imports)
             (row - length uses)) (sym none)
             (let zero_less : row - 0 ≡ row = omega arith in
-            subst (λ (k : ℕ). IsOther header.imports (names_of it.imports) k) (sym zero_less) h),
+            subst (λ (k : ℕ). IsOtherName header.imports (mark_names it.imports) k) (sym zero_less) h),
       )
 
       other_there : (row : ℕ) → IsMisfit it header (suc (suc row)) →
-          IsOther header.imports (names_of it.imports) row
+          IsOtherName header.imports (mark_names it.imports) row
       other_there row (inl h) =
           absurd (let k = subst (λ (uses : List (List ℕ)). row < length uses) none h in
           omega (arith, k))
       other_there row (inr (le, h)) =
           let zero_less : row - 0 ≡ row = omega arith in
-          subst (λ (k : ℕ). IsOther header.imports (names_of it.imports) k) zero_less
-          (subst (λ (uses : List (List ℕ)). IsOther header.imports (names_of it.imports)
+          subst (λ (k : ℕ). IsOtherName header.imports (mark_names it.imports) k) zero_less
+          (subst (λ (uses : List (List ℕ)). IsOtherName header.imports (mark_names it.imports)
           (row - length uses)) none h)
 
-      misfit_row : (number : ℕ) → IsFirst (IsOther header.imports (names_of it.imports)) number →
-          IsFirst (IsMisfit it header) (suc (suc number))
+      misfit_row : (number : ℕ) → IsFirstNumber (IsOtherName header.imports (mark_names it.imports)) number →
+          IsFirstNumber (IsMisfit it header) (suc (suc number))
       misfit_row number first = record { here = other_here number first.here; before = none_before }
         where
           none_before : (other : ℕ) → other < suc (suc number) → IsMisfit it header other → ⊥
@@ -166,11 +166,11 @@ module _ (it : InterfaceParts) (header : HeaderParts) where
               first.before other (omega (arith, lt)) (other_there other h)
 
       pub misfit_import : (number : ℕ) →
-          IsFirst (IsOther header.imports (names_of it.imports)) number →
-          IsFirst (IsMisfit it header) (2 + number)
+          IsFirstNumber (IsOtherName header.imports (mark_names it.imports)) number →
+          IsFirstNumber (IsMisfit it header) (2 + number)
       misfit_import number first =
           let two : suc (suc number) ≡ 2 + number = omega arith in
-          subst (λ (row : ℕ). IsFirst (IsMisfit it header) row) two (misfit_row number first)
+          subst (λ (row : ℕ). IsFirstNumber (IsMisfit it header) row) two (misfit_row number first)
 
-      pub fits_all : header.imports ≡ names_of it.imports → IsBaseOf it header
+      pub fits_all : header.imports ≡ mark_names it.imports → IsBaseOf it header
       fits_all imports = record { language = same; uses = none; imports = imports }

@@ -3,7 +3,7 @@ use Rattle.std.proofs.Common.{◌≢◌, ℕ, List, [], ◌∷◌, ◌++◌, map
 use Rattle.std.specs.List.{AllByRecursion}
 use Rattle.sx_term.specs.Sorts.{Shape}
 use Rattle.sx_rules.specs.Good.{IsAmong, AllGood}
-use Rattle.sx_rules.specs.RuleNames.{AreDistinct}
+use Rattle.sx_rules.specs.RuleNames.{AreNamesDistinct}
 use Rattle.sx_rules.specs.Views.{FormData, NamedRule}
 
 module _ (shapes : List Shape) (forms : List FormData) where
@@ -29,7 +29,7 @@ module _ (shapes : List Shape) (forms : List FormData) where
   )
 
   pub all_distinct : (names : List (List ℕ)) (rs : List NamedRule) →
-      AllGood shapes forms names rs → AreDistinct (map (λ r. r.name) rs)
+      AllGood shapes forms names rs → AreNamesDistinct (map (λ r. r.name) rs)
   all_distinct names [] good = tt
   all_distinct names (r ∷ rs) good = (
     fresh_names r.name (names ++ r.name ∷ []) rs (among_end r.name names) good.1,

@@ -3,7 +3,7 @@ use Rattle.std.proofs.Common.{◌≡◌, ℕ, zero, suc, ◌<◌, ◌⊎◌, inl
 use Rattle.std.proofs.Common.{length, refl, sym, ap, ◌∙◌, subst, append_assoc, arith}
 use Rattle.std.proofs.lemmas.List.{append-nil}
 use Rattle.sx_lines.specs.Lines.{next_number}
-use Rattle.sx_rules.specs.BadLine.{NoneStates, IsFirstBad}
+use Rattle.sx_rules.specs.BadLine.{NoneStates, IsFirstMisread}
 
 pub three_ways : (m n : ℕ) → (m < n) ⊎ ((m ≡ n) ⊎ (n < m))
 three_ways zero zero = inr (inl refl)
@@ -42,7 +42,7 @@ longer_front (t ∷ front) rest (u ∷ other) more e l =
     }
 
 module _ {V : Type 0} (States : List (List ℕ) → V → Type 0) (lines : List (List ℕ)) where
-  pub bad_not_good : (n : ℕ) (value : V) → IsFirstBad States lines n → States lines value → ⊥
+  pub bad_not_good : (n : ℕ) (value : V) → IsFirstMisread States lines n → States lines value → ⊥
   bad_not_good n value b s = go b.rest b.parts b.bad
     where
       go : (rest : List (List ℕ)) → lines ≡ b.front ++ rest → NoneStates States b.front rest → ⊥
@@ -50,7 +50,7 @@ module _ {V : Type 0} (States : List (List ℕ) → V → Type 0) (lines : List 
           (subst (λ (l : List (List ℕ)). States l value) (e ∙ append-nil b.front) s)
       go (text ∷ rest) e none = none rest value (subst (λ (l : List (List ℕ)). States l value) e s)
 
-  no_later : (n m : ℕ) (a : IsFirstBad States lines n) (b : IsFirstBad States lines m) →
+  no_later : (n m : ℕ) (a : IsFirstMisread States lines n) (b : IsFirstMisread States lines m) →
       length a.front < length b.front → ⊥
   no_later n m a b l =
       let g = longer_front a.front a.rest b.front b.rest (sym a.parts ∙ b.parts) l in
@@ -60,7 +60,7 @@ module _ {V : Type 0} (States : List (List ℕ) → V → Type 0) (lines : List 
       (ap (λ (f : List (List ℕ)). f ++ b.more) g.longer
       ∙ append_assoc a.front (g.text ∷ g.between) b.more) b.good)
 
-  pub one_bad : (n m : ℕ) → IsFirstBad States lines n → IsFirstBad States lines m → n ≡ m
+  pub one_bad : (n m : ℕ) → IsFirstMisread States lines n → IsFirstMisread States lines m → n ≡ m
   one_bad n m a b =
       elim (three_ways (length a.front) (length b.front)) [
         | inl l ↦ absurd (no_later n m a b l)

@@ -17,13 +17,14 @@ use Rattle.sx_rules.specs.Modes.{Goal}
 use Rattle.sx_rules.specs.Orders.{Entry}
 use Rattle.sx_rules.specs.Views.{modes_of, places_at}
 use Rattle.sx_notation.specs.Language.{LanguageData, IsMain}
-use Rattle.sx_typing.specs.Outcomes.{bare, no_hypotheses}
+use Rattle.sx_typing.specs.Outcomes.{nameless}
+use Rattle.sx_rules.specs.Rules.{no_hypotheses}
 use Rattle.sx_typing.specs.BodySource.{main_sort}
 use Rattle.sx_typing.proofs.MainGoals.{main_goals_fit, main_goals_are_shallow}
 use Rattle.sx_typing.proofs.MainSorts.{main_sort_is}
 use Rattle.sx_typing.proofs.SortedGoals.{outputs_are_sorted}
 use Rattle.sx_replay.specs.Replay.{IsReplayAnswer}
-use Rattle.sx_verify.specs.Replays.{goal_in, IsTermOf, IsMainGoal}
+use Rattle.sx_verify.specs.Replays.{main_goal_in, IsTermOf, IsMainGoal}
 use Rattle.sx_verify.proofs.Replayed.{replayed_shallow}
 
 same_length : (n : ℕ) (t : Tree) (ts : List Tree) → ts ≡ t ∷ [] → length ts ≡ 1
@@ -51,7 +52,7 @@ module _ (d : LanguageData) (is : IsMain d.parts d.forms d.main) where
   -- what replaying gives is the one output
   pub only_one : (goal : Goal) → IsMainGoal d goal → IsRuleSet (shapes_of d.parts) d.forms d.rules →
       (list : List Entry) (outs : List Tree) →
-      IsReplayAnswer (modes_of d.forms) (bare d.rules) no_hypotheses goal list (Ok outs) →
+      IsReplayAnswer (modes_of d.forms) (nameless d.rules) no_hypotheses goal list (Ok outs) →
       (t : Tree) × (outs ≡ t ∷ []) × IsTermOf d Out t
   only_one goal main set list outs answer =
       let shapes = shapes_of d.parts in
@@ -64,14 +65,14 @@ module _ (d : LanguageData) (is : IsMain d.parts d.forms d.main) where
       let fit = main_goals_fit shapes d.forms [] d.main.form is.form (Plain is.environment)
       (Typed is.subject) (Plain is.signature) main.environment main.subject
       is.is is.input is.typed is.output input typed in
-      let here = subst (λ (g : Goal). IsReplayAnswer (modes_of d.forms) (bare d.rules) no_hypotheses
+      let here = subst (λ (g : Goal). IsReplayAnswer (modes_of d.forms) (nameless d.rules) no_hypotheses
       g list (Ok outs)) main.is answer in
       let front = here.front in
       let sorted = outputs_are_sorted shapes d.forms d.rules set []
-      (goal_in d main.environment main.subject) (front.0, outs) fit.0 front.1 in
+      (main_goal_in d main.environment main.subject) (front.0, outs) fit.0 front.1 in
       let one = fit.2 outs sorted in
-      let shallow = replayed_shallow (modes_of d.forms) (bare d.rules)
-      (goal_in d main.environment main.subject) list outs here in (
+      let shallow = replayed_shallow (modes_of d.forms) (nameless d.rules)
+      (main_goal_in d main.environment main.subject) list outs here in (
         one.0,
         one.1,
         (

@@ -31,8 +31,8 @@ use Rattle.sx_notation.specs.declared.language.Language.{Language as LanguageOf}
 use Rattle.sx_notation.specs.Language.{LanguageData}
 use Rattle.sx_language.specs.RuleLine.{Reader}
 use Rattle.sx_language.specs.RuleTexts.{AreRules}
-use Rattle.sx_language.specs.States.{States}
-use Rattle.sx_accepting.specs.ReadLanguage.{Stated, IsStated}
+use Rattle.sx_language.specs.States.{IsLanguageIn}
+use Rattle.sx_accepting.specs.ReadLanguage.{Stated, IsLanguageStated}
 use Rattle.sx_verify.proofs.RuleViews.{names_are}
 
 -- the rule that has begun, or has its conclusion, has a name
@@ -152,7 +152,7 @@ rules_named r (l ∷ ls) (n ∷ ns) (q ∷ qs) (b ∷ bs) h k = (
 )
 rules_named r _ _ _ _ h k = absurd h
 
-rules_are_named : (name bytes : List ℕ) (l : LanguageOf) → States name bytes l →
+rules_are_named : (name bytes : List ℕ) (l : LanguageOf) → IsLanguageIn name bytes l →
     AreNames (map (λ q. q.name) (rules_in l.rules))
 rules_are_named name bytes l states =
     let outlined = states.readable.outlined in
@@ -162,12 +162,12 @@ rules_are_named name bytes l states =
     rules_named states.reader (map rule_data states.outline.rules.items) l.names.items
     (rules_in l.rules) _ states.rules named
 
-pub language_named : (name bytes : List ℕ) (l : LanguageOf) → States name bytes l →
+pub language_named : (name bytes : List ℕ) (l : LanguageOf) → IsLanguageIn name bytes l →
     AreNames (names_in l.rules)
 language_named name bytes l states =
     subst AreNames (names_are l.rules.rules.items) (rules_are_named name bytes l states)
 
-pub stated_named : (name bytes : List ℕ) (l : Stated) → IsStated name bytes l →
+pub stated_named : (name bytes : List ℕ) (l : Stated) → IsLanguageStated name bytes l →
     AreNames (map (λ r. r.name) l.language.rules)
 stated_named name bytes l states =
     subst (λ (d : LanguageData). AreNames (map (λ r. r.name) d.rules)) (sym states.language)

@@ -4,7 +4,7 @@ use Rattle.std.proofs.Common.{sym, ap, ◌∙◌, subst, inl, inr, arith}
 use Rattle.std.specs.Prelude.{Ok, Err, slice_get}
 use Rattle.sha2.specs.Sha256.{sha256}
 use Rattle.sx_term.specs.Tree.{Tree}
-use Rattle.sx_lines.specs.Lines.{lines_from, texts}
+use Rattle.sx_lines.specs.Lines.{lines_from, line_texts}
 use Rattle.sx_interface.specs.Headers.{HeaderParts}
 use Rattle.sx_interface.specs.Interfaces.{InterfaceParts, Mark}
 use Rattle.sx_notation.specs.Language.{LanguageData}
@@ -15,7 +15,8 @@ use Rattle.sx_rules.specs.ListText.{StatesList}
 use Rattle.sx_rules.specs.Modes.{Goal, AllModed}
 use Rattle.sx_rules.specs.Views.{modes_of}
 use Rattle.sx_rules.proofs.ListLaws.{AreRuleNames, list_again}
-use Rattle.sx_typing.specs.Outcomes.{bare, no_hypotheses}
+use Rattle.sx_typing.specs.Outcomes.{nameless}
+use Rattle.sx_rules.specs.Rules.{no_hypotheses}
 use Rattle.sx_replay.specs.declared.replay_error.ReplayError.TheVariants as replay_error
 use Rattle.sx_replay.specs.Replay.{IsReplayAnswer}
 use Rattle.sx_replay.proofs.OneAnswer.{one_answer}
@@ -32,10 +33,10 @@ use Rattle.sx_importing.specs.KeptValues.{KeepsDigest}
 use Rattle.sx_importing.specs.ReadImports.{ReadsImport}
 use Rattle.sx_importing.proofs.EachLoops.{is_given, each_one}
 use Rattle.sx_importing.proofs.OneImports.{keeps_digest_one, reads_import_one}
-use Rattle.sx_verify.specs.BaseFits.{IsBaseOf, IsMisfit, IsFirst, FitsBeside}
+use Rattle.sx_verify.specs.BaseFits.{IsBaseOf, IsMisfit, IsFirstNumber, FitsBeside}
 use Rattle.sx_verify.specs.KeptImports.{KeepsImport, ComparesImport, ReadsKept, ReadsAllKept}
 use Rattle.sx_verify.specs.Lists.{bad_entry, replay_stop, StatesEntries, ReadsEntries}
-use Rattle.sx_verify.specs.Replays.{ReplaysGoal, Replays}
+use Rattle.sx_verify.specs.Replays.{ReplaysGoal, ReplaysMainGoal}
 use Rattle.sx_verify.specs.VerifyModule.{both, ComparesBase, FitsBase, ReadsBase, ReadsWritten}
 use Rattle.sx_verify.proofs.FirstBads.{three_ways, bad_not_good, one_bad}
 
@@ -52,7 +53,7 @@ no_misfit it header fits (suc (suc row)) (inl h) =
 no_misfit it header fits (suc (suc row)) (inr (le, h)) =
     h (λ i. slice_get (fits.imports i) (row - length header.uses))
 
-first_one : (Is : ℕ → Type 0) (m n : ℕ) → IsFirst Is m → IsFirst Is n → m ≡ n
+first_one : (Is : ℕ → Type 0) (m n : ℕ) → IsFirstNumber Is m → IsFirstNumber Is n → m ≡ n
 first_one Is m n a b =
     elim (three_ways m n) [
       | inl l ↦ absurd (b.before m l a.here)
@@ -106,7 +107,7 @@ module _ (file : List ℕ) (files : Files) where
 
 module _ (file : List ℕ) (names : List (List ℕ)) (are : AreRuleNames names) where
   abbrev lines : List ℕ → List (List ℕ)
-  lines bytes = texts (lines_from 1 bytes)
+  lines bytes = line_texts (lines_from 1 bytes)
 
   same_list : (bytes : List ℕ) (a b : List EntryOf) → StatesList names (lines bytes) a →
       StatesList names (lines bytes) b → a ≡ b
@@ -132,18 +133,18 @@ module _ (file : List ℕ) (names : List (List ℕ)) (are : AreRuleNames names) 
 -- ---- the replay
 
 module _ (file : List ℕ) (d : LanguageData) (goal : Goal) (list : List EntryOf)
-    (moded : AllModed (modes_of d.forms) (bare d.rules)) where
+    (moded : AllModed (modes_of d.forms) (nameless d.rules)) where
   goal_one : IsOne (ReplaysGoal file d.forms d.rules goal list)
   goal_one =
       lower_but (replay_stop file)
-      (IsReplayAnswer (modes_of d.forms) (bare d.rules) no_hypotheses goal (entries list))
+      (IsReplayAnswer (modes_of d.forms) (nameless d.rules) no_hypotheses goal (entries list))
       replay_error.Memory refl
-      (one_answer (modes_of d.forms) (bare d.rules) no_hypotheses moded goal (entries list))
+      (one_answer (modes_of d.forms) (nameless d.rules) no_hypotheses moded goal (entries list))
 
   same_head : (t u : Tree) → t ∷ [] ≡ u ∷ [] → t ≡ u
   same_head t u e = cc
 
-  pub replays_one : IsOne (Replays file d goal list)
+  pub replays_one : IsOne (ReplaysMainGoal file d goal list)
   replays_one (Ok a) (Ok b) h k n m =
       ap Ok (same_head a b
       (ok_same (a ∷ []) (b ∷ []) (goal_one (Ok (a ∷ [])) (Ok (b ∷ [])) h k tt tt)))

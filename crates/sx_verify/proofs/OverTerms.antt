@@ -8,10 +8,10 @@ use Rattle.sx_grammar.specs.Grammar.{Text}
 use Rattle.sx_grammar.specs.Tables.{literals_of}
 use Rattle.sx_interface.specs.Headers.{HeaderParts}
 use Rattle.sx_interface.specs.Interfaces.{InterfaceParts, Mark}
-use Rattle.sx_interface.specs.StatedHeader.{AreNames}
+use Rattle.sx_interface.specs.StatedHeader.{ArePlainNames}
 use Rattle.sx_notation.specs.Language.{LanguageData, IsMain}
 use Rattle.sx_typing.specs.Dialects.{DialectData}
-use Rattle.sx_typing.specs.Growing.{unextended}
+use Rattle.sx_typing.specs.Growing.{unextended_dialect}
 use Rattle.sx_typing.specs.BodySource.{BodySource, IsTermFor}
 use Rattle.sx_interface.specs.FreeNames.{AreFree}
 use Rattle.sx_environment.specs.SeenFrom.{SeenFrom, HasFreeName}
@@ -22,7 +22,7 @@ use Rattle.sx_verify.specs.Replays.{IsTermOf}
 
 -- ---- terms
 
-module _ (d : DialectData) (l : LanguageData) (is : d ≡ unextended l) where
+module _ (d : DialectData) (l : LanguageData) (is : d ≡ unextended_dialect l) where
   -- a term of the dialect is one of the language
   pub term_of : (role : Role) (t : Tree) → IsTermFor d role t → IsTermOf l role t
   term_of role t good =
@@ -38,7 +38,7 @@ main_within l is = slice_get_within l.forms l.main.form _ is.is
 
 -- ---- imports
 
-named_by : (literals : List Text) (its : List InterfaceParts) → AreNames (map (λ it. it.name) its) →
+named_by : (literals : List Text) (its : List InterfaceParts) → ArePlainNames (map (λ it. it.name) its) →
     AreFree literals (map (λ it. it.name) its) → AllByRecursion (HasFreeName literals) its
 named_by literals [] names free = tt
 named_by literals (it ∷ its) names free =
@@ -46,10 +46,10 @@ named_by literals (it ∷ its) names free =
 
 -- imports whose names are names and no literals
 pub named : (literals : List Text) (its : List InterfaceParts) (names : List (List ℕ)) →
-    map (λ it. it.name) its ≡ names → AreNames names → AreFree literals names →
+    map (λ it. it.name) its ≡ names → ArePlainNames names → AreFree literals names →
     AllByRecursion (HasFreeName literals) its
 named literals its names is are free =
-    named_by literals its (subst AreNames (sym is) are) (subst (AreFree literals) (sym is) free)
+    named_by literals its (subst ArePlainNames (sym is) are) (subst (AreFree literals) (sym is) free)
 
 -- ---- what imports are seen from, and what a body is read from
 
@@ -58,7 +58,7 @@ seen_with d name digest uses =
     record { dialect = d; language = record { name = name; digest = digest }; uses = uses }
 
 pub seen_same : (d : DialectData) (l : Stated) (own name : List ℕ) (uses : List Mark) →
-    d ≡ unextended l.language → own ≡ name → uses ≡ [] →
+    d ≡ unextended_dialect l.language → own ≡ name → uses ≡ [] →
     seen_with d own l.digest uses ≡ seen_in name l
 seen_same d l own name uses is same none = λ i. seen_with (is i) (same i) l.digest (none i)
 
@@ -67,7 +67,7 @@ source_with d bytes header environment =
     record { dialect = d; bytes = bytes; header = header; environment = environment }
 
 pub source_same : (d : DialectData) (l : Stated) (bytes : List ℕ) (h : List ℕ → HeaderParts)
-    (m : Module) (environment : Tree) → d ≡ unextended l.language → bytes ≡ m.bytes →
+    (m : Module) (environment : Tree) → d ≡ unextended_dialect l.language → bytes ≡ m.bytes →
     h m.bytes ≡ m.header →
     source_with d bytes (h bytes) environment ≡ source_in l m environment
 source_same d l bytes h m environment is same headed = λ i.

@@ -6,22 +6,23 @@ use Rattle.std.specs.Prelude.{Ok, Some}
 use Rattle.sha2.specs.Sha256.{sha256}
 use Rattle.sx_rules.specs.EntryView.{entries}
 use Rattle.sx_rules.specs.Views.{modes_of}
-use Rattle.sx_lines.specs.Lines.{lines_from, texts}
+use Rattle.sx_lines.specs.Lines.{lines_from, line_texts}
 use Rattle.sx_interface.specs.Interfaces.{InterfaceParts, Mark}
 use Rattle.sx_interface.specs.Stated.{StatesInterface}
 use Rattle.sx_rules.specs.First.{Answer, DerivesGoal}
-use Rattle.sx_typing.specs.Outcomes.{bare, no_hypotheses}
+use Rattle.sx_typing.specs.Outcomes.{nameless}
+use Rattle.sx_rules.specs.Rules.{no_hypotheses}
 use Rattle.sx_outside.specs.Files.{Files, after}
 use Rattle.sx_steps.specs.Unit.{base_file, interface_file}
 use Rattle.sx_steps.specs.Work.{Plan}
 use Rattle.sx_steps.proofs.Ones.{ok_same}
 use Rattle.sx_steps.proofs.StepsOn.{went}
 use Rattle.sx_accepting.specs.LanguageFiles.{language_file}
-use Rattle.sx_accepting.specs.ReadLanguage.{Stated, IsStated}
+use Rattle.sx_accepting.specs.ReadLanguage.{Stated, IsLanguageStated}
 use Rattle.sx_headers.specs.ReadInterface.{HeldInterface, HasInterface}
 use Rattle.sx_headers.specs.ReadModule.{Module, HasHeader}
 use Rattle.sx_verify.specs.BaseFits.{IsBaseOf}
-use Rattle.sx_verify.specs.Replays.{goal_in}
+use Rattle.sx_verify.specs.Replays.{main_goal_in}
 use Rattle.sx_importing.specs.Each.{GivesNext, GivesAfter}
 use Rattle.sx_importing.specs.ReadImports.{ImportData}
 use Rattle.sx_verify.specs.KeptImports.{ReadsKept, ReadsAllKept}
@@ -54,7 +55,7 @@ import_held file files mark it read =
         same = refl;
         utf8 = bytes.goes.utf8;
         states = subst (λ (parts : InterfaceParts). StatesInterface mark.name
-            (texts (lines_from 1 bytes.given)) parts) (sym same) bytes.goes.states;
+            (line_texts (lines_from 1 bytes.given)) parts) (sym same) bytes.goes.states;
       };
       digest = kept.begins ∙ ap (λ (x : ImportData). x.digest) is ∙ ap sha256 own;
     }
@@ -126,7 +127,7 @@ are_written name files w read =
 abbrev pub holds : (name : List ℕ) (files : Files) (w : Written) → AreWritten name files w →
     (bytes : List ℕ) → files (language_file w.interface.language.name) ≡ Some bytes →
     w.interface.language.digest ≡ sha256 bytes → (l : Stated) →
-    IsStated w.interface.language.name bytes l → (its : List InterfaceParts) →
+    IsLanguageStated w.interface.language.name bytes l → (its : List InterfaceParts) →
     ReadsAllKept (interface_file name) files w.interface.imports (Ok its) → HoldsFiles name files
 holds name files w own bytes held digest l states its reads =
     let all = imports_held (interface_file name) files [] w.interface.imports its reads in
@@ -167,8 +168,8 @@ verify_promise name old new plan verified files_are =
     let replayed = went _ _ _ listed.goes in
     let signed = went _ _ _ replayed.goes in
     let d = language.given.language in
-    let answer = replayed_derives (modes_of d.forms) (bare d.rules)
-    (goal_in d around.given body.given) (entries listed.given) (replayed.given ∷ [])
+    let answer = replayed_derives (modes_of d.forms) (nameless d.rules)
+    (main_goal_in d around.given body.given) (entries listed.given) (replayed.given ∷ [])
     replayed.begins in
     let made : plan ≡ verified_plan name (length listed.given) =
     ok_same plan (verified_plan name (length listed.given)) signed.goes in
@@ -187,8 +188,8 @@ verify_promise name old new plan verified files_are =
       list_held = list_held.begins.0;
       list_states = list_held.goes;
       derives = subst (λ (a : Answer).
-          DerivesGoal (modes_of d.forms) (bare d.rules) no_hypotheses
-          (goal_in d around.given body.given) a)
+          DerivesGoal (modes_of d.forms) (nameless d.rules) no_hypotheses
+          (main_goal_in d around.given body.given) a)
           (λ i. (answer.0.0, answer.3 i)) answer.1;
       in_order = answer.2;
       signature = signed.begins;

@@ -13,7 +13,7 @@ use Rattle.sx_rules.specs.Orders.{Entry, order_of}
 use Rattle.sx_replay.specs.Limits.{first_of, first_deep}
 use Rattle.sx_replay.specs.Fronts.{asked_of, concluded_of, whole, made_in, made_below}
 use Rattle.sx_replay.specs.Replay.{IsWithin, IsReplayAnswer}
-use Rattle.sx_typing.specs.Outcomes.{no_hypotheses}
+use Rattle.sx_rules.specs.Rules.{no_hypotheses}
 
 first_none : (b : Bool) (n : ℕ) (later : Option ℕ) → first_of b n later ≡ None →
     (b ≡ false) × (later ≡ None)

@@ -19,20 +19,21 @@ use Rattle.sx_rules.specs.Views.{modes_of}
 use Rattle.sx_arena.specs.Views.{rules_of}
 use Rattle.sx_notation.specs.declared.language.Language.{Language}
 use Rattle.sx_notation.specs.Language.{IsLanguage, LanguageData, language_data}
-use Rattle.sx_typing.specs.Outcomes.{bare, no_hypotheses}
+use Rattle.sx_typing.specs.Outcomes.{nameless}
+use Rattle.sx_rules.specs.Rules.{no_hypotheses}
 use Rattle.sx_typing.proofs.MainGoals.{bare_is}
 use Rattle.sx_replay.specs.declared.replay_error.ReplayError.{ReplayError}
 use Rattle.sx_replay.specs.Replay.{IsReplayAnswer}
 use Rattle.sx_steps.specs.declared.step_error.StepError.{StepError}
 use Rattle.sx_steps.specs.declared.step_error.StepError.TheVariants as errors
 use Rattle.sx_steps.specs.Stop.{Gives}
-use Rattle.sx_verify.specs.Replays.{IsTermOf, IsMainGoal, ReplaysGoal, Replays}
+use Rattle.sx_verify.specs.Replays.{IsTermOf, IsMainGoal, ReplaysGoal, ReplaysMainGoal}
 use Rattle.sx_verify.proofs.MainTerms.{only_one}
 
 -- by the plain rules of the set, without hypotheses
 abbrev pub Plainly : RuleSet → Goal → List Entry → Result (List Tree) ReplayError → Type 0
 Plainly set goal list answer =
-    IsReplayAnswer (modes_of (forms_in set)) (bare (rules_in set)) no_hypotheses goal list answer
+    IsReplayAnswer (modes_of (forms_in set)) (nameless (rules_in set)) no_hypotheses goal list answer
 
 module _ (set : RuleSet) (goal : Goal) (list : List Entry) where
   -- by these rules, from these hypotheses
@@ -81,7 +82,7 @@ module _ (l : Language) (goal : Goal) (list : List Entry) where
 -- a stop of the replay is one of the step
 pub stop_given : (file : List ℕ) (d : LanguageData) (goal : Goal) (list : List EntryOf)
     (e : StepError) → Gives (λ (outputs : Vec Term Global). map tree outputs.items)
-    (ReplaysGoal file d.forms d.rules goal list) (Err e) → Gives tree (Replays file d goal list)
+    (ReplaysGoal file d.forms d.rules goal list) (Err e) → Gives tree (ReplaysMainGoal file d goal list)
     (Err e)
 stop_given file d goal list errors.Memory h = tt
 stop_given file d goal list (errors.Stopped stop) h = h

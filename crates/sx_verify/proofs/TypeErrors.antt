@@ -44,7 +44,7 @@ use Rattle.sx_headers.specs.ReadInterface.{HeldInterface, StatesParts, ReadsInte
 use Rattle.sx_headers.specs.ReadModule.{Module, StatesModule, ReadsModule}
 use Rattle.sx_headers.specs.TextStops.{uncut_text, unread_text}
 use Rattle.sx_importing.specs.Each.{GivesNext, GivesAfter}
-use Rattle.sx_importing.specs.ImportStops.{file_of, import_stop}
+use Rattle.sx_importing.specs.ImportStops.{import_file, import_stop}
 use Rattle.sx_importing.specs.KeptValues.{kept_differs, KeepsText, KeepsDigest}
 use Rattle.sx_importing.specs.MakeEnvironment.{SeesImports}
 use Rattle.sx_importing.specs.ReadImports.{ReadsImport}
@@ -53,7 +53,7 @@ use Rattle.sx_verify.specs.Ground.{seen_in, source_in, body_stop, ReadsBody}
 use Rattle.sx_verify.specs.KeptImports.{KeepsImport, ComparesImport, ReadsKept, ReadsAllKept}
 use Rattle.sx_verify.specs.Laws.{VerifiesWithoutTypeErrors}
 use Rattle.sx_verify.specs.Lists.{bad_entry, replay_stop, StatesEntries, ReadsEntries}
-use Rattle.sx_verify.specs.Replays.{goal_in, Replays}
+use Rattle.sx_verify.specs.Replays.{main_goal_in, ReplaysMainGoal}
 use Rattle.sx_verify.specs.Verified.{verified_plan}
 use Rattle.sx_verify.specs.VerifyModule as spec
 use Rattle.sx_verify.specs.VerifyModule.{Written, both, ComparesBase, FitsBase, ReadsBase}
@@ -98,9 +98,9 @@ module _ (Q : Stop → Type 0) where
   no_import file its (import_error.LanguageDiffers import language) = λ h. absurd h
   no_import file its (import_error.Differs import kept found) = λ h. absurd h
   no_import file its (import_error.Token import line column e) =
-      text_uncut (file_of its import) line column e
+      text_uncut (import_file its import) line column e
   no_import file its (import_error.Read import line column u) =
-      text_unread (file_of its import) line column u
+      text_unread (import_file its import) line column u
   no_import file its (import_error.StatedDiffers import kept found) = λ h. absurd h
   no_import file its (import_error.TooDeep depth) = λ h. absurd h
 
@@ -217,7 +217,7 @@ module _ (Q : Stop → Type 0) where
       (λ bytes held stop h. no_type_error Q (bad_entry file h.0) stop (λ e. e) h.2)
 
   replays_final : (file : List ℕ) (d : LanguageData) (goal : Goal) (list : List EntryOf) →
-      Final Q (Replays file d goal list)
+      Final Q (ReplaysMainGoal file d goal list)
   replays_final file d goal list stop h =
       on_stop Q (replay_stop file h.0) stop (no_replay file h.0) h.2
 
@@ -256,7 +256,7 @@ module _ (Q : Stop → Type 0) where
           let names = map (λ r. r.name) d.rules in
           then_final Q (ReadsEntries (list_file name) names files)
           (spec.VerifiesEntries name w d goal) (entries_final (list_file name) names files)
-          (λ list listed. then_final Q (Replays (list_file name) d goal list)
+          (λ list listed. then_final Q (ReplaysMainGoal (list_file name) d goal list)
           (spec.VerifiesOutput name w d (length list))
           (replays_final (list_file name) d goal list)
           (λ output replayed. output_final d (length list) output))
@@ -267,7 +267,7 @@ module _ (Q : Stop → Type 0) where
           then_final Q (ReadsBody (base_file name) (source_in l w.base environment))
           (spec.VerifiesSubject name files w l.language environment)
           (subject_final (base_file name) (source_in l w.base environment))
-          (λ subject body. list_final l.language (goal_in l.language environment subject))
+          (λ subject body. list_final l.language (main_goal_in l.language environment subject))
 
       names_final : (its : List InterfaceParts) (l : Stated) →
           Final Q (spec.VerifiesNames name files w its l)

@@ -6,7 +6,7 @@ use Rattle.sx_grammar.specs.Reading.{Reading}
 use Rattle.sx_typing.specs.declared.typing_error.TypingError.{TypingError}
 use Rattle.sx_typing.specs.declared.typing_error.TypingError.TheVariants as typing_error
 use Rattle.sx_typing.specs.Goals.{IsBody}
-use Rattle.sx_typing.specs.Growing.{unextended}
+use Rattle.sx_typing.specs.Growing.{unextended_dialect}
 use Rattle.sx_typing.specs.Refused.{IsBadSource}
 use Rattle.sx_typing.specs.BodySource.{BodySource}
 use Rattle.sx_environment.specs.SeenFrom.{SeenFrom}
@@ -21,7 +21,7 @@ use Rattle.sx_headers.specs.TextStops.{uncut_text, unread_text}
 -- what the imports are seen from: the language with this name, without extensions
 abbrev pub seen_in : List ℕ → Stated → SeenFrom
 seen_in name l = record {
-  dialect = unextended l.language;
+  dialect = unextended_dialect l.language;
   language = record { name = name; digest = l.digest };
   uses = [];
 }
@@ -31,7 +31,7 @@ seen_in name l = record {
 -- the module in its language, with this environment
 abbrev pub source_in : Stated → Module → (environment : Tree) → BodySource
 source_in l m environment = record {
-  dialect = unextended l.language;
+  dialect = unextended_dialect l.language;
   bytes = m.bytes;
   header = m.header;
   environment = environment;

@@ -1,10 +1,10 @@
 -- The steps that read and replay a derivation list, and their stops.
 use Rattle.std.specs.Prelude.{◌≡◌, ℕ, List, Option, Some, None, Result, Ok, Err}
 use Rattle.sx_outside.specs.Files.{Files}
-use Rattle.sx_lines.specs.Lines.{lines_from, texts}
+use Rattle.sx_lines.specs.Lines.{lines_from, line_texts}
 use Rattle.sx_rules.specs.declared.entry.Entry.{Entry}
 use Rattle.sx_rules.specs.ListText.{StatesList}
-use Rattle.sx_rules.specs.BadLine.{IsFirstBad}
+use Rattle.sx_rules.specs.BadLine.{IsFirstMisread}
 use Rattle.sx_replay.specs.declared.replay_error.ReplayError.{ReplayError}
 use Rattle.sx_replay.specs.declared.replay_error.ReplayError.TheVariants as replay_error
 use Rattle.sx_words.specs.declared.position.Position.TheVariants.{Line}
@@ -43,9 +43,9 @@ replay_stop file (replay_error.DeepList entry) = Some (unfit_list file (list_def
 -- the list that the bytes state, by rules with these names, or the first line that is not as
 -- defined
 abbrev pub StatesEntries : List ℕ → List (List ℕ) → List ℕ → Result (List Entry) Stop → Type 0
-StatesEntries file names bytes (Ok list) = StatesList names (texts (lines_from 1 bytes)) list
+StatesEntries file names bytes (Ok list) = StatesList names (line_texts (lines_from 1 bytes)) list
 StatesEntries file names bytes (Err stop) =
-    (line : ℕ) × IsFirstBad (StatesList names) (texts (lines_from 1 bytes)) line ×
+    (line : ℕ) × IsFirstMisread (StatesList names) (line_texts (lines_from 1 bytes)) line ×
     (stop ≡ bad_entry file line)
 
 -- the list in the file

@@ -1,7 +1,7 @@
 -- What a module is verified over, in memory.
 use Rattle.std.specs.Prelude.{◌≡◌, ◌≤◌, List, ℕ, length, map}
 use Rattle.std.specs.List.{AllByRecursion}
-use Rattle.sx_interface.specs.StatedHeader.{AreNames}
+use Rattle.sx_interface.specs.StatedHeader.{ArePlainNames}
 use Rattle.sx_notation.specs.Language.{IsLanguage}
 use Rattle.sx_environment.specs.SeenFrom.{IsShort, interfaces_of}
 use Rattle.sx_accepting.specs.ReadLanguage.{HasText}
@@ -13,7 +13,7 @@ use Rattle.sx_term.specs.Limits.{most_bytes}
 -- gives.
 pub record IsOver (o : Over) : Type 0 where
   pub short : length o.written.now.base.bytes.items ≤ most_bytes
-  pub names : AreNames o.written.now.base.header.imports.items
+  pub names : ArePlainNames o.written.now.base.header.imports.items
   pub read : map (λ it. it.name) (interfaces_of o.imports.now) ≡
       o.written.now.base.header.imports.items
   pub imports : AllByRecursion IsShort (interfaces_of o.imports.now)

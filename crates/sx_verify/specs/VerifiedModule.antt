@@ -3,7 +3,7 @@ use Rattle.std.specs.Prelude.{◌≡◌, ℕ, List, [], ◌∷◌, length, map, 
 use Rattle.sha2.specs.Sha256.{sha256}
 use Rattle.sx_term.specs.declared.role.Role.TheVariants.{Sub}
 use Rattle.sx_term.specs.Tree.{Tree}
-use Rattle.sx_lines.specs.Lines.{lines_from, texts}
+use Rattle.sx_lines.specs.Lines.{lines_from, line_texts}
 use Rattle.sx_grammar.specs.Tables.{literals_of}
 use Rattle.sx_rules.specs.declared.entry.Entry.{Entry}
 use Rattle.sx_rules.specs.Derivations.{Proof}
@@ -14,7 +14,8 @@ use Rattle.sx_rules.specs.Orders.{order_of}
 use Rattle.sx_rules.specs.Views.{modes_of}
 use Rattle.sx_interface.specs.Interfaces.{InterfaceParts, Mark}
 use Rattle.sx_typing.specs.Body.{ReadsOnly}
-use Rattle.sx_typing.specs.Outcomes.{bare, no_hypotheses}
+use Rattle.sx_typing.specs.Outcomes.{nameless}
+use Rattle.sx_rules.specs.Rules.{no_hypotheses}
 use Rattle.sx_typing.specs.BodySource.{main_sort}
 use Rattle.sx_interface.specs.FreeNames.{AreFree}
 use Rattle.sx_unit.specs.Texts.{print_text}
@@ -23,12 +24,12 @@ use Rattle.sx_outside.specs.Files.{Files, after}
 use Rattle.sx_steps.specs.Unit.{base_file, list_file, interface_file}
 use Rattle.sx_steps.specs.Work.{Plan}
 use Rattle.sx_accepting.specs.LanguageFiles.{language_file}
-use Rattle.sx_accepting.specs.ReadLanguage.{Stated, IsStated}
+use Rattle.sx_accepting.specs.ReadLanguage.{Stated, IsLanguageStated}
 use Rattle.sx_headers.specs.ReadInterface.{HasInterface}
 use Rattle.sx_headers.specs.ReadModule.{Module, HasHeader}
 use Rattle.sx_verify.specs.BaseFits.{IsBaseOf}
 use Rattle.sx_verify.specs.Ground.{seen_in}
-use Rattle.sx_verify.specs.Replays.{goal_in}
+use Rattle.sx_verify.specs.Replays.{main_goal_in}
 use Rattle.sx_verify.specs.Verified.{verified_line}
 use Rattle.sx_verify.specs.VerifyModule.{VerifiesModule}
 
@@ -62,7 +63,7 @@ pub record HoldsFiles (name : List ℕ) (files : Files) : Type 0 where
   pub bytes : List ℕ
   pub language : Stated
   pub language_held : files (language_file interface.language.name) ≡ Some bytes
-  pub language_states : IsStated interface.language.name bytes language
+  pub language_states : IsLanguageStated interface.language.name bytes language
   pub language_digest : interface.language.digest ≡ sha256 bytes
   pub imports : List InterfaceParts
   pub imports_held : HoldImports files interface.imports imports
@@ -91,10 +92,10 @@ pub record VerifiedModule (name : List ℕ) (old new : Files) (lines : List ℕ)
       files.base.header.body subject
   pub list_held : old (list_file name) ≡ Some list_bytes
   pub list_states : StatesList (map (λ r. r.name) files.language.language.rules)
-      (texts (lines_from 1 list_bytes)) list
+      (line_texts (lines_from 1 list_bytes)) list
   pub derives : DerivesGoal (modes_of files.language.language.forms)
-      (bare files.language.language.rules) no_hypotheses
-      (goal_in files.language.language environment subject) (proof, output ∷ [])
+      (nameless files.language.language.rules) no_hypotheses
+      (main_goal_in files.language.language environment subject) (proof, output ∷ [])
   pub in_order : order_of proof ≡ entries list
   pub signature : files.interface.signature ≡ print_text files.language.language.parts output
   pub same : new ≡ old

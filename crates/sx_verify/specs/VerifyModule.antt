@@ -27,7 +27,7 @@ use Rattle.sx_verify.specs.BaseFits.{FitsBeside}
 use Rattle.sx_verify.specs.Ground.{seen_in, source_in, ReadsBody}
 use Rattle.sx_verify.specs.Lists.{ReadsEntries}
 use Rattle.sx_verify.specs.KeptImports.{ReadsAllKept}
-use Rattle.sx_verify.specs.Replays.{goal_in, Replays}
+use Rattle.sx_verify.specs.Replays.{main_goal_in, ReplaysMainGoal}
 use Rattle.sx_verify.specs.Verified.{verified_plan}
 
 -- the interface of the module with this name, and its base file
@@ -53,7 +53,7 @@ VerifiesOutput name w d nodes output =
 abbrev pub VerifiesEntries : (name : List ℕ) → Written → LanguageData → Goal → List Entry →
     Result Plan Stop → Type 0
 VerifiesEntries name w d goal list =
-    Then (Replays (list_file name) d goal list) (VerifiesOutput name w d (length list))
+    Then (ReplaysMainGoal (list_file name) d goal list) (VerifiesOutput name w d (length list))
 
 -- the list in its file, and then the replay
 abbrev pub VerifiesList : (name : List ℕ) → Files → Written → LanguageData → Goal →
@@ -66,7 +66,7 @@ VerifiesList name files w d goal =
 abbrev pub VerifiesSubject : (name : List ℕ) → Files → Written → LanguageData →
     (environment subject : Tree) → Result Plan Stop → Type 0
 VerifiesSubject name files w d environment subject =
-    VerifiesList name files w d (goal_in d environment subject)
+    VerifiesList name files w d (main_goal_in d environment subject)
 
 -- ---- the body
 

@@ -5,7 +5,8 @@ ghost use Rattle.sx_interface.specs.HeaderView.{header_view};
 ghost use Rattle.sx_interface.specs.InterfaceView.{interface_view, mark_view};
 ghost use Rattle.sx_steps.specs.Stop.{Gives, IsNoFault};
 ghost use Rattle.sx_headers.specs.ReadModule.{module_of};
-ghost use Rattle.sx_verify.specs.BaseFits.{names_of, IsOther, IsFirst, IsBaseOf, IsMisfit};
+ghost use Rattle.sx_verify.specs.BaseFits.{mark_names, IsOtherName, IsFirstNumber, IsBaseOf};
+ghost use Rattle.sx_verify.specs.BaseFits.{IsMisfit};
 ghost use Rattle.sx_verify.specs.BaseFits.{FitsBeside};
 ghost use Rattle.sx_term.specs.Limits.{most_bytes};
 
@@ -25,8 +26,8 @@ const NAMES_ROW: usize = 2;
 /// of the first import that is missing.
 fn first_other(names: &[Text], marks: &[ImportMark]) -> Option<usize>
     ensures other { IfSome result
-        (IsFirst (IsOther names.now (names_of (map mark_view marks.now)))) }
-    ensures same { IfNone result (names.now ≡ names_of (map mark_view marks.now)) }
+        (IsFirstNumber (IsOtherName names.now (mark_names (map mark_view marks.now)))) }
+    ensures same { IfNone result (names.now ≡ mark_names (map mark_view marks.now)) }
 {
     for i in 0..names.len() {
         let name = &names[i];
@@ -47,7 +48,7 @@ fn first_other(names: &[Text], marks: &[ImportMark]) -> Option<usize>
 
 /// The number of the first row of the header that does not fit the interface.
 fn first_misfit(interface: &Interface, base: &ModuleFile) -> Option<usize>
-    ensures misfit { IfSome result (IsFirst (IsMisfit (interface_view interface.now)
+    ensures misfit { IfSome result (IsFirstNumber (IsMisfit (interface_view interface.now)
         (header_view base.now.bytes.items base.now.header))) }
     ensures fits { IfNone result (IsBaseOf (interface_view interface.now)
         (header_view base.now.bytes.items base.now.header)) }

@@ -8,7 +8,7 @@ ghost use Rattle.sx_environment.specs.SeenFrom.{IsShort, interfaces_of};
 ghost use Rattle.sx_steps.specs.Stop.{Gives, OnlyReads, IsNoFault};
 ghost use Rattle.sx_importing.specs.Each.{GivesNext};
 ghost use Rattle.sx_importing.specs.ReadImports.{import_of};
-ghost use Rattle.sx_verify.specs.BaseFits.{names_of};
+ghost use Rattle.sx_verify.specs.BaseFits.{mark_names};
 ghost use Rattle.sx_verify.specs.KeptImports as spec;
 
 use std::alloc::Global;
@@ -138,7 +138,7 @@ pub(crate) fn read_all_kept<S: Shelf>(
         (spec.ReadsAllKept file.now files (map mark_view marks.now)) result) }
     ensures short { IfOk result (λ v. AllByRecursion IsShort (interfaces_of v.items)) }
     ensures names { IfOk result
-        (λ v. map (λ it. it.name) (interfaces_of v.items) ≡ names_of (map mark_view marks.now)) }
+        (λ v. map (λ it. it.name) (interfaces_of v.items) ≡ mark_names (map mark_view marks.now)) }
     ensures reads { OnlyReads (S.content shelf.old) (S.content shelf.new)
         (S.read_faults shelf.old) (S.read_faults shelf.new)
         (S.write_faults shelf.old) (S.write_faults shelf.new) result }

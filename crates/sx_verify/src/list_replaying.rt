@@ -8,7 +8,7 @@ ghost use Rattle.sx_steps.specs.Stop.{Gives, IsNoFault};
 ghost use Rattle.sx_rules.specs.Deep.{AreShallow};
 ghost use Rattle.sx_rules.specs.Sets.{forms_in, rules_in};
 ghost use Rattle.sx_rules.specs.Views.{goal as goal_of};
-ghost use Rattle.sx_verify.specs.Replays.{IsMainGoal, IsTermOf, Replays, ReplaysGoal};
+ghost use Rattle.sx_verify.specs.Replays.{IsMainGoal, IsTermOf, ReplaysMainGoal, ReplaysGoal};
 
 use crate::replay_stops::bad_replay;
 use std::alloc::Global;
@@ -69,7 +69,7 @@ pub(crate) fn replay_list(
     requires goal { IsMainGoal (language_data language.now) (goal_of goal.now) }
     requires few { length list.now ≤ 67108864 }
     ensures step { Gives tree
-        (Replays file.now (language_data language.now) (goal_of goal.now) list.now) result }
+        (ReplaysMainGoal file.now (language_data language.now) (goal_of goal.now) list.now) result }
     ensures good { IfOk result (λ t. IsTermOf (language_data language.now) Out (tree t)) }
     ensures no_fault { IsNoFault result }
 {

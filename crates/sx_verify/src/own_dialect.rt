@@ -3,7 +3,7 @@
 ghost use Rattle.std.specs.Prelude.{◌≡◌, ℕ, List};
 ghost use Rattle.sx_notation.specs.Language.{IsLanguage, language_data};
 ghost use Rattle.sx_typing.specs.Dialects.{IsDialectOf, dialect_of};
-ghost use Rattle.sx_typing.specs.Growing.{unextended};
+ghost use Rattle.sx_typing.specs.Growing.{unextended_dialect};
 ghost use Rattle.sx_accepting.specs.ExtendedLanguages.{extended_data};
 ghost use Rattle.sx_accepting.specs.ExtendedLanguages.{unextended as begun};
 ghost use Rattle.sx_accepting.specs.ReadLanguage.{HasText};
@@ -20,7 +20,7 @@ pub(crate) fn own_dialect<'a>(language: &'a Language, extended: &'a Extended) ->
     requires extended { extended_data language.now extended.now ≡
         begun (language_data language.now) }
     ensures is { IsDialectOf result }
-    ensures data { dialect_of result ≡ unextended (language_data language.entry.now) }
+    ensures data { dialect_of result ≡ unextended_dialect (language_data language.entry.now) }
     ensures language { result.language.now ≡ language.entry.now }
 {
     let own = dialect(language, extended);

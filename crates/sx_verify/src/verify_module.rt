@@ -10,7 +10,7 @@ ghost use Rattle.sx_steps.specs.Stop.{Gives, OnlyReads, IsNoFault};
 ghost use Rattle.sx_steps.specs.Work.{plan_of};
 ghost use Rattle.sx_verify.specs.AskedFiles.{HasFiles};
 ghost use Rattle.sx_verify.specs.VerifyModule as spec;
-ghost use Rattle.sx_verify.specs.WrittenFiles.{IsWritten, written_of};
+ghost use Rattle.sx_verify.specs.WrittenFiles.{AreWrittenFiles, written_of};
 ghost use Rattle.sx_term.specs.Limits.{most_bytes};
 
 use crate::asked::Asked;
@@ -38,7 +38,7 @@ fn verify_language<S: Shelf>(
     shelf: &mut S,
 ) -> Result<Work, StepError>
     requires files { HasFiles asked.now }
-    requires written { IsWritten written.now }
+    requires written { AreWrittenFiles written.now }
     requires short { length bytes.now ≤ most_bytes }
     requires found { found.bytes ≡ sha256 bytes.now }
     requires imports { AllByRecursion IsShort (interfaces_of imports.now) }
@@ -75,7 +75,7 @@ fn verify_imports<S: Shelf>(
     shelf: &mut S,
 ) -> Result<Work, StepError>
     requires files { HasFiles asked.now }
-    requires written { IsWritten written.now }
+    requires written { AreWrittenFiles written.now }
     requires short { length bytes.now ≤ most_bytes }
     requires found { found.bytes ≡ sha256 bytes.now }
     ensures step { WhereTold (S.content shelf.old)
@@ -104,7 +104,7 @@ fn verify_bytes<S: Shelf>(
     shelf: &mut S,
 ) -> Result<Work, StepError>
     requires files { HasFiles asked.now }
-    requires written { IsWritten written.now }
+    requires written { AreWrittenFiles written.now }
     requires short { length bytes.now ≤ most_bytes }
     ensures step { WhereTold (S.content shelf.old)
         (λ files. Gives plan_of (spec.VerifiesDigest asked.now.name.now files
@@ -134,7 +134,7 @@ fn verify_written<S: Shelf>(
     shelf: &mut S,
 ) -> Result<Work, StepError>
     requires files { HasFiles asked.now }
-    requires written { IsWritten written.now }
+    requires written { AreWrittenFiles written.now }
     ensures step { WhereTold (S.content shelf.old)
         (λ files. Gives plan_of (spec.VerifiesWritten asked.now.name.now files
         (written_of written.now)) result) }

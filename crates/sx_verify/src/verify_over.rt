@@ -8,7 +8,7 @@ ghost use Rattle.sx_term.specs.Term.{tree};
 ghost use Rattle.sx_rules.specs.Views.{goal as goal_of};
 ghost use Rattle.sx_notation.specs.Language.{language_data};
 ghost use Rattle.sx_typing.specs.Dialects.{IsDialectOf, dialect_of};
-ghost use Rattle.sx_typing.specs.Growing.{unextended};
+ghost use Rattle.sx_typing.specs.Growing.{unextended_dialect};
 ghost use Rattle.sx_typing.specs.BodySource.{IsTermFor};
 ghost use Rattle.sx_environment.specs.SeenFrom.{interfaces_of};
 ghost use Rattle.sx_interface.specs.FreeNames.{AreFree};
@@ -156,7 +156,7 @@ fn verify_body<S: Shelf>(
     requires over { IsOver over.now }
     requires dialect { IsDialectOf dialect.now }
     requires bare { dialect_of dialect.now ≡
-        unextended (language_data over.now.language.now.language) }
+        unextended_dialect (language_data over.now.language.now.language) }
     requires environment { IsTermFor (dialect_of dialect.now) In (tree environment.now) }
     ensures step { WhereTold (S.content shelf.old)
         (λ files. Gives plan_of (spec.VerifiesBody asked.now.name.now files
@@ -189,7 +189,7 @@ fn verify_dialect<S: Shelf>(
     requires over { IsOver over.now }
     requires dialect { IsDialectOf dialect.now }
     requires bare { dialect_of dialect.now ≡
-        unextended (language_data over.now.language.now.language) }
+        unextended_dialect (language_data over.now.language.now.language) }
     requires same { dialect.now.language.now ≡ over.now.language.now.language }
     requires free { AreFree (literals_of over.now.language.now.language.grammar.parts)
         over.now.written.now.base.header.imports.items }

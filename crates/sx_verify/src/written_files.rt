@@ -2,15 +2,15 @@
 
 ghost use Rattle.std.specs.Prelude.{◌≡◌, ◌≤◌, IfOk, length};
 ghost use Rattle.sx_interface.specs.InterfaceView.{interface_view};
-ghost use Rattle.sx_interface.specs.StatedHeader.{AreNames};
+ghost use Rattle.sx_interface.specs.StatedHeader.{ArePlainNames};
 ghost use Rattle.sx_outside.specs.Told.{WhereTold};
 ghost use Rattle.sx_steps.specs.Stop.{Gives, OnlyReads, IsNoFault};
-ghost use Rattle.sx_headers.specs.ReadInterface.{interface_of};
+ghost use Rattle.sx_headers.specs.ReadInterface.{held_interface};
 ghost use Rattle.sx_headers.specs.ReadModule.{module_of};
 ghost use Rattle.sx_verify.specs.AskedFiles.{HasFiles};
 ghost use Rattle.sx_verify.specs.BaseFits.{IsBaseOf};
 ghost use Rattle.sx_verify.specs.VerifyModule as spec;
-ghost use Rattle.sx_verify.specs.WrittenFiles.{IsWritten, written_of};
+ghost use Rattle.sx_verify.specs.WrittenFiles.{AreWrittenFiles, written_of};
 ghost use Rattle.sx_term.specs.Limits.{most_bytes};
 
 use crate::asked::Asked;
@@ -54,10 +54,10 @@ fn compare_base(asked: &Asked, interface: &Interface, base: &ModuleFile) -> Resu
 fn beside(asked: &Asked, interface: Interface, base: ModuleFile) -> Result<WrittenFiles, StepError>
     requires files { HasFiles asked.now }
     requires short { length base.bytes.items ≤ most_bytes }
-    requires names { AreNames base.header.imports.items }
+    requires names { ArePlainNames base.header.imports.items }
     ensures step { Gives written_of
         (spec.FitsBase asked.now.name.now (interface_view interface) (module_of base)) result }
-    ensures good { IfOk result IsWritten }
+    ensures good { IfOk result AreWrittenFiles }
     ensures no_fault { IsNoFault result }
 {
     match compare_base(asked, &interface, &base) {
@@ -78,9 +78,9 @@ fn read_base<S: Shelf>(
 ) -> Result<WrittenFiles, StepError>
     requires { HasFiles asked.now }
     ensures step { WhereTold (S.content shelf.old)
-        (λ files. Gives written_of (spec.ReadsBase asked.now.name.now files (interface_of held))
+        (λ files. Gives written_of (spec.ReadsBase asked.now.name.now files (held_interface held))
         result) }
-    ensures good { IfOk result IsWritten }
+    ensures good { IfOk result AreWrittenFiles }
     ensures reads { OnlyReads (S.content shelf.old) (S.content shelf.new)
         (S.read_faults shelf.old) (S.read_faults shelf.new)
         (S.write_faults shelf.old) (S.write_faults shelf.new) result }
@@ -104,7 +104,7 @@ pub(crate) fn read_written<S: Shelf>(
     requires { HasFiles asked.now }
     ensures step { WhereTold (S.content shelf.old)
         (λ files. Gives written_of (spec.ReadsWritten asked.now.name.now files) result) }
-    ensures good { IfOk result IsWritten }
+    ensures good { IfOk result AreWrittenFiles }
     ensures reads { OnlyReads (S.content shelf.old) (S.content shelf.new)
         (S.read_faults shelf.old) (S.read_faults shelf.new)
         (S.write_faults shelf.old) (S.write_faults shelf.new) result }

@@ -17,8 +17,9 @@ use Rattle.sx_steps.specs.declared.step_error.StepError.{StepError}
 use Rattle.sx_steps.specs.declared.step_error.StepError.TheVariants as errors
 use Rattle.sx_steps.proofs.Ones.{IsOne, as_answer, then_one, ok_same, err_same, ok_no_err}
 use Rattle.sx_steps.proofs.Ones.{none_some}
-use Rattle.sx_walking.specs.Reached.{TellsCycle, Found, uses_in, IsFound, IsTold, Reaches}
-use Rattle.sx_walking.specs.Kinds.{Kind, Fits, Visits}
+use Rattle.sx_walking.specs.Reached.{TellsCycle, Found, uses_in, AreVisitsFound, IsWalkTold}
+use Rattle.sx_walking.specs.Reached.{Reaches}
+use Rattle.sx_walking.specs.Kinds.{Kind, FileFits, Visits}
 use Rattle.sx_walking.specs.Laws.{AnswerAlike, ReadsOne, WalksAgree}
 
 -- ---- walks by more that is known
@@ -104,12 +105,12 @@ cycles_alike file names s t h k = record {
 
 module _ {A : Type 0} (uses : A → List Name) (Comes : Name → Result A Stop → Type 0)
     (one : (name : Name) → IsOne (Comes name)) (file : List ℕ) (roots : List Name) where
-  not_found : (found : Found A) → IsFound Comes found → (name : Name) (stop : Stop) →
+  not_found : (found : Found A) → AreVisitsFound Comes found → (name : Name) (stop : Stop) →
       Comes name (Err stop) → IsNoReadFault {A = A} (Err stop) → found name ≡ None
   not_found found are name stop h sure = none_of (found name)
       (λ x is. ok_no_err x stop (one name (Ok x) (Err stop) (are name x is) h tt sure))
 
-  module _ (found other : Found A) (are : IsFound Comes found) (too : IsFound Comes other) where
+  module _ (found other : Found A) (are : AreVisitsFound Comes found) (too : AreVisitsFound Comes other) where
     abbrev both : Found A
     both = λ name. either (found name) (other name)
 
@@ -119,7 +120,7 @@ module _ {A : Type 0} (uses : A → List Name) (Comes : Name → Result A Stop �
 
     -- both walks stop at a name only where it is unknown to both
     still : (some : Found A) (end : End) (x : Result (List A) Stop) →
-        IsTold Comes file some end x → IsNoReadFault x → StillStops (uses_in uses both) end
+        IsWalkTold Comes file some end x → IsNoReadFault x → StillStops (uses_in uses both) end
     still some (Ok order) x told sure = tt
     still some (Err (missing name)) (Ok values) told sure = absurd told
     still some (Err (missing name)) (Err stop) told sure =
@@ -144,8 +145,8 @@ module _ {A : Type 0} (uses : A → List Name) (Comes : Name → Result A Stop �
         let tail = same_values names xs ys c d in
         λ i. head i ∷ tail i
 
-    told_alike : (end : End) (x y : Result (List A) Stop) → IsTold Comes file found end x →
-        IsTold Comes file other end y → IsNoReadFault x → IsNoReadFault y →
+    told_alike : (end : End) (x y : Result (List A) Stop) → IsWalkTold Comes file found end x →
+        IsWalkTold Comes file other end y → IsNoReadFault x → IsNoReadFault y →
         AnswersBy AnswerAlike (as_answer x) (as_answer y)
     told_alike (Ok order) (Ok xs) (Ok ys) h k n m = same_values order xs ys h k
     told_alike (Ok order) (Err s) y h k n m = absurd h
@@ -173,7 +174,7 @@ module _ {A : Type 0} (uses : A → List Name) (Comes : Name → Result A Stop �
       (still h.found k.found h.visited k.visited k.found k.end y k.told m) in
       let same : h.end ≡ k.end = one_end wider 256 roots h.end k.end one_walk other_walk in
       told_alike h.found k.found h.visited k.visited k.end x y
-      (subst (λ (e : End). IsTold Comes file h.found e x) same h.told) k.told n m
+      (subst (λ (e : End). IsWalkTold Comes file h.found e x) same h.told) k.told n m
 
   -- so of what the code's step answers
   abbrev Answers : Result (List A) StepError → Type 0
@@ -193,7 +194,7 @@ module _ {A : Type 0} (uses : A → List Name) (Comes : Name → Result A Stop �
 -- ---- kinds
 
 module _ {A : Type 0} (k : Kind A) where
-  fits_one : (name : Name) (given : A) → IsOne (Fits k name given)
+  fits_one : (name : Name) (given : A) → IsOne (FileFits k name given)
   fits_one name given (Ok x) (Ok y) h j n m = ap Ok (h.1 ∙ sym j.1)
   fits_one name given (Ok x) (Err t) h j n m = absurd (true≢false (sym h.0 ∙ j.0))
   fits_one name given (Err s) (Ok y) h j n m = absurd (true≢false (sym j.0 ∙ h.0))
@@ -201,7 +202,7 @@ module _ {A : Type 0} (k : Kind A) where
 
   visits_one : (files : Files) → ReadsOne k files → (name : Name) → IsOne (Visits k files name)
   visits_one files one name =
-      then_one (k.Reads files name) (Fits k name) (one name) (λ given reads. fits_one name given)
+      then_one (k.Reads files name) (FileFits k name) (one name) (λ given reads. fits_one name given)
 
   pub walks_alike : WalksAgree k
   walks_alike files one file roots x y h j n m =

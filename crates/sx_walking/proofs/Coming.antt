@@ -8,8 +8,8 @@ use Rattle.sx_imports.proofs.Wholes.{order_is_whole}
 use Rattle.sx_steps.specs.declared.stop.Stop.{Stop}
 use Rattle.sx_steps.proofs.StepsOn.{went}
 use Rattle.sx_steps.proofs.Ones.{some_same}
-use Rattle.sx_walking.specs.Reached.{Found, uses_in, IsFound, IsTold, Reaches}
-use Rattle.sx_walking.specs.Kinds.{Kind, Fits, Visits}
+use Rattle.sx_walking.specs.Reached.{Found, uses_in, AreVisitsFound, IsWalkTold, Reaches}
+use Rattle.sx_walking.specs.Kinds.{Kind, FileFits, Visits}
 use Rattle.sx_walking.specs.Laws.{ReadsNamed, ComesAfter, AllComeAfter, AreVisited}
 use Rattle.sx_walking.specs.Laws.{ThoseComeFirst}
 
@@ -26,7 +26,7 @@ module _ {A : Type 0} (name_of : A → Name) where
 
 module _ {A : Type 0} (name_of : A → Name) (uses : A → List Name)
     (Comes : Name → Result A Stop → Type 0) (named : VisitsNamed name_of Comes) where
-  module _ (found : Found A) (visited : IsFound Comes found) where
+  module _ (found : Found A) (visited : AreVisitsFound Comes found) where
     pub names_are : (order : List Name) (xs : List A) → map found order ≡ map Some xs →
         map name_of xs ≡ order
     names_are [] [] e = refl
@@ -90,7 +90,7 @@ module _ {A : Type 0} (name_of : A → Name) (uses : A → List Name)
       all_hold = (stands, all_visited xs e, has_roots)
 
   module _ (file : List ℕ) (roots : List Name) (xs : List A) where
-    come_by : (found : Found A) (visited : IsFound Comes found) (order : List Name) →
+    come_by : (found : Found A) (visited : AreVisitsFound Comes found) (order : List Name) →
         Walks (uses_in uses found) 256 roots (Ok order) → map found order ≡ map Some xs →
         AllComeAfter name_of uses xs × AreVisited name_of Comes xs ×
         ((name : Name) → Contains roots name → Contains (map name_of xs) name)
@@ -100,8 +100,8 @@ module _ {A : Type 0} (name_of : A → Name) (uses : A → List Name)
         (subst (λ (l : List Name). Walks (uses_in uses found) 256 roots (Ok l)) (sym same) walks)
         (subst (λ (l : List Name). map found l ≡ map Some xs) (sym same) told)
 
-    end_hold : (found : Found A) (visited : IsFound Comes found) (end : End) →
-        Walks (uses_in uses found) 256 roots end → IsTold Comes file found end (Ok xs) →
+    end_hold : (found : Found A) (visited : AreVisitsFound Comes found) (end : End) →
+        Walks (uses_in uses found) 256 roots end → IsWalkTold Comes file found end (Ok xs) →
         AllComeAfter name_of uses xs × AreVisited name_of Comes xs ×
         ((name : Name) → Contains roots name → Contains (map name_of xs) name)
     end_hold found visited (Ok order) walks told = come_by found visited order walks told
@@ -116,7 +116,7 @@ module _ {A : Type 0} (name_of : A → Name) (uses : A → List Name)
 module _ {A : Type 0} (k : Kind A) (files : Files) (named : ReadsNamed k files) where
   pub visits_named : VisitsNamed k.name_of (Visits k files)
   visits_named name x reads =
-      let w = went (k.Reads files name) (Fits k name) x reads in
+      let w = went (k.Reads files name) (FileFits k name) x reads in
       ap k.name_of w.goes.1 ∙ named name w.given w.begins
 
 pub those_first : {A : Type 0} (k : Kind A) → ThoseComeFirst k

@@ -7,7 +7,7 @@ use Rattle.sx_imports.specs.Walk.{Name, Imports, End, leaving, Meets, comes_roun
 use Rattle.sx_imports.specs.Walk.{is_missing, is_past, is_entered, Goes, all_met, stops, goes_on}
 use Rattle.sx_imports.specs.Walk.{Walks}
 use Rattle.sx_steps.specs.declared.stop.Stop.{Stop}
-use Rattle.sx_walking.specs.Reached.{Found, uses_in, IsTold, Reaches}
+use Rattle.sx_walking.specs.Reached.{Found, uses_in, IsWalkTold, Reaches}
 use Rattle.sx_walking.specs.Kinds.{Kind, Visits}
 use Rattle.sx_walking.specs.Laws.{FewAreReached}
 
@@ -64,7 +64,7 @@ module _ {A : Type 0} where
 module _ {A : Type 0} (uses : A → List Name) (Comes : Name → Result A Stop → Type 0)
     (file : List ℕ) (roots : List Name) (xs : List A) where
   few_told : (found : Found A) (end : End) → Walks (uses_in uses found) 256 roots end →
-      IsTold Comes file found end (Ok xs) → length xs ≤ 256
+      IsWalkTold Comes file found end (Ok xs) → length xs ≤ 256
   few_told found (Ok order) walks told =
       few_files (uses_in uses found) roots order found xs walks (sym told)
   few_told found (Err why) walks told = absurd told

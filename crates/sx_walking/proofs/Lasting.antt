@@ -6,7 +6,7 @@ use Rattle.sx_imports.specs.Walk.{is_missing, is_past, is_entered, Goes, all_met
 use Rattle.sx_imports.specs.Walk.{Walks}
 use Rattle.sx_imports.proofs.Lists.{not_in_none}
 use Rattle.sx_steps.specs.declared.stop.Stop.{Stop}
-use Rattle.sx_walking.specs.Reached.{Found, uses_in, IsFound, IsTold, Reaches}
+use Rattle.sx_walking.specs.Reached.{Found, uses_in, AreVisitsFound, IsWalkTold, Reaches}
 use Rattle.sx_walking.specs.Kinds.{Kind, Visits}
 use Rattle.sx_walking.specs.Laws.{RootIsLast}
 use Rattle.sx_walking.proofs.Coming.{VisitsNamed, names_are, visits_named}
@@ -50,8 +50,8 @@ module _ (imports : Imports) (most : ℕ) where
 module _ {A : Type 0} (name_of : A → Name) (uses : A → List Name)
     (Comes : Name → Result A Stop → Type 0) (named : VisitsNamed name_of Comes) (file : List ℕ)
     (root : Name) (xs : List A) where
-  end_last : (found : Found A) (visited : IsFound Comes found) (end : End) →
-      Walks (uses_in uses found) 256 (root ∷ []) end → IsTold Comes file found end (Ok xs) →
+  end_last : (found : Found A) (visited : AreVisitsFound Comes found) (end : End) →
+      Walks (uses_in uses found) 256 (root ∷ []) end → IsWalkTold Comes file found end (Ok xs) →
       (before : List Name) × (map name_of xs ≡ before ++ root ∷ [])
   end_last found visited (Ok order) walks told =
       let last = goes_last (uses_in uses found) 256 root walks refl refl in

@@ -17,11 +17,11 @@ use Rattle.sx_steps.specs.Stop.{Gives}
 use Rattle.sx_steps.specs.declared.step_error.StepError.{StepError}
 use Rattle.sx_steps.specs.declared.step_error.StepError.TheVariants as errors
 use Rattle.sx_steps.proofs.Ones.{none_some}
-use Rattle.sx_walking.specs.Reached.{Found, IsFound}
-use Rattle.sx_walking.specs.Kinds.{Kind, Visits, ReachesBy, IsSound, AreReached}
-use Rattle.sx_walking.specs.FileTable.{seen_as, IsTaken}
-use Rattle.sx_walking.specs.Opened.{AreOpened, found_in, imports_for, AreOnce, AreHeld}
-use Rattle.sx_walking.specs.Turns.{IsWalked}
+use Rattle.sx_walking.specs.Reached.{Found, AreVisitsFound}
+use Rattle.sx_walking.specs.Kinds.{Kind, Visits, ReachesBy, IsSound, AreFilesReached}
+use Rattle.sx_walking.specs.FileTable.{seen_as, IsFileTaken}
+use Rattle.sx_walking.specs.Opened.{AreOpened, found_in, imports_for, AreOnce, AreFilesHeld}
+use Rattle.sx_walking.specs.Turns.{AreFilesWalked}
 use Rattle.sx_walking.proofs.Tables.{is_there, some_seen}
 use Rattle.sx_walking.proofs.Visits.{found_held}
 
@@ -64,7 +64,7 @@ module _ {A : Type 0} (k : Kind A) where
       )
 
   held_all : (held : Found A) (names : List Name) → AllFound (found_in k held) names →
-      AreHeld held names
+      AreFilesHeld held names
   held_all held [] h = tt
   held_all held (name ∷ names) h = (
     is_there (held name) h.0.0 (found_held k h.0.0 (held name) h.0.1).0,
@@ -90,7 +90,7 @@ module _ {A : Type 0} (k : Kind A) where
     order_found = found_from (found_in k held) order [] order refl
         (order_is_whole (imports_for k held) 256 roots order walks).0
 
-    pub order_held : AreHeld held order
+    pub order_held : AreFilesHeld held order
     order_held = held_all held order order_found
 
 -- ---- files as plain data
@@ -99,7 +99,7 @@ module _ {F A : Type 0} (says : F → A) (held : Found F) where
   some_held : (o : Option F) → IsSome (option_map says o) → IsSome o
   some_held o h = some_seen says o ∙ h
 
-  pub files_held : (names : List Name) → AreHeld (seen_as says held) names → AreHeld held names
+  pub files_held : (names : List Name) → AreFilesHeld (seen_as says held) names → AreFilesHeld held names
   files_held [] h = tt
   files_held (name ∷ names) h = (some_held (held name) h.0, files_held names h.1)
 
@@ -128,7 +128,7 @@ module _ {F : Type 0} where
   same_self held (name ∷ names) = (refl, same_self held names)
 
   pub same_taken : (name : Name) (old new held : Found F) (names : List Name) →
-      IsTaken name old new → ¬ (Contains names name) → SameOn old held names →
+      IsFileTaken name old new → ¬ (Contains names name) → SameOn old held names →
       SameOn new held names
   same_taken name old new held [] taken apart s = tt
   same_taken name old new held (other ∷ names) taken apart s = (
@@ -149,17 +149,17 @@ pub record IsTaking {F : Type 0} (all now : Found F) (order rest : List Name)
   pub whole : map Some taken ++ map all rest ≡ map all order
   pub same : SameOn now all rest
   pub once : AreOnce rest
-  pub held : AreHeld all rest
+  pub held : AreFilesHeld all rest
 
 pub takes_start : {F : Type 0} (all : Found F) (order : List Name) (taken : List F) → taken ≡ [] →
-    AreOnce order → AreHeld all order → IsTaking all all order order taken
+    AreOnce order → AreFilesHeld all order → IsTaking all all order order taken
 takes_start all order taken e once held =
     subst (λ (l : List _). IsTaking all all order order l) (sym e)
     (record { whole = refl; same = same_self all order; once = once; held = held })
 
 module _ {F : Type 0} (all now : Found F) (order rest : List Name) (name : Name) (taken : List F)
     (t : IsTaking all now order (name ∷ rest) taken) where
-  takes_next : (new : Found F) (file : F) → Some file ≡ now name → IsTaken name now new →
+  takes_next : (new : Found F) (file : F) → Some file ≡ now name → IsFileTaken name now new →
       IsTaking all new order rest (taken ++ file ∷ [])
   takes_next new file is gone =
       let here : Some file ≡ all name = is ∙ t.same.0 in
@@ -183,7 +183,7 @@ drop_next order i name below is =
 
 pub takes_more : {F : Type 0} (all now new : Found F) (order : List Name) (i : ℕ) (name : Name)
     (taken more : List F) (file : F) → i < length order → name ≡ get_or order i name →
-    IsTaking all now order (drop i order) taken → Some file ≡ now name → IsTaken name now new →
+    IsTaking all now order (drop i order) taken → Some file ≡ now name → IsFileTaken name now new →
     more ≡ taken ++ file ∷ [] → IsTaking all new order (drop (i + 1) order) more
 takes_more all now new order i name taken more file below is t at gone grown =
     subst (λ (l : List _). IsTaking all new order (drop (i + 1) order) l) (sym grown)
@@ -210,20 +210,20 @@ module _ {A : Type 0} (k : Kind A) (told : Option Files) where
       ((are name x (sym head)).stated, stated_all held are names xs tail)
 
   visits_found : (held : Found A) → AreOpened k told held → (files : Files) →
-      told ≡ Some files → IsFound (Visits k files) (found_in k held)
+      told ≡ Some files → AreVisitsFound (Visits k files) (found_in k held)
   visits_found held are files t = λ name x h.
       let f = found_held k x (held name) h in
       record { given = Ok x; begins = (are name x f.0).read files t; goes = (f.1, refl) }
 
-  sound_found : (held : Found A) → AreOpened k told held → IsFound (IsSound k) (found_in k held)
+  sound_found : (held : Found A) → AreOpened k told held → AreVisitsFound (IsSound k) (found_in k held)
   sound_found held are = λ name x h.
       let f = found_held k x (held name) h in
       let o = are name x f.0 in
       (o.named, f.1, o.stated)
 
   module _ (file : List ℕ) (roots : List Name) (held : Found A) where
-    pub read_sound : (order : Vec Name) (xs : List A) → IsWalked k told file roots held (Ok order) →
-        map Some xs ≡ map held order.items → AreReached k file roots xs
+    pub read_sound : (order : Vec Name) (xs : List A) → AreFilesWalked k told file roots held (Ok order) →
+        map Some xs ≡ map held order.items → AreFilesReached k file roots xs
     read_sound order xs w e = record {
       found = found_in k held;
       visited = sound_found held w.0;
@@ -232,7 +232,7 @@ module _ {A : Type 0} (k : Kind A) (told : Option Files) where
       told = same_found k held order.items (order_found k held roots order.items w.1) ∙ sym e;
     }
 
-    pub read_whole : (order : Vec Name) (xs : List A) → IsWalked k told file roots held (Ok order) →
+    pub read_whole : (order : Vec Name) (xs : List A) → AreFilesWalked k told file roots held (Ok order) →
         map Some xs ≡ map held order.items →
         WhereTold told (λ files. ReachesBy k file roots files (Ok xs))
     read_whole order xs w e = λ files t. record {
@@ -244,12 +244,12 @@ module _ {A : Type 0} (k : Kind A) (told : Option Files) where
     }
 
     pub whole_stated : (order : Vec Name) (xs : List A) →
-        IsWalked k told file roots held (Ok order) → map Some xs ≡ map held order.items →
+        AreFilesWalked k told file roots held (Ok order) → map Some xs ≡ map held order.items →
         AllByRecursion k.IsStated xs
     whole_stated order xs w e = stated_all held w.0 order.items xs e
 
     pub read_stop : {F : Type 0} (says : F → A) (e : StepError) →
-        IsWalked k told file roots held (Err e) →
+        AreFilesWalked k told file roots held (Err e) →
         WhereTold told (λ files. Gives (λ (xs : Vec F). map says xs.items)
         (ReachesBy k file roots files) (Err e))
     read_stop says errors.Memory w = λ files t. tt

@@ -7,7 +7,7 @@ use Rattle.sx_steps.specs.Stop.{Gives}
 use Rattle.sx_steps.specs.declared.stop.Stop.{Stop}
 use Rattle.sx_steps.specs.declared.step_error.StepError.{StepError}
 use Rattle.sx_steps.specs.declared.step_error.StepError.TheVariants as errors
-use Rattle.sx_walking.specs.Reached.{Found, IsToldAs, IsTold, Reaches}
+use Rattle.sx_walking.specs.Reached.{Found, IsToldAs, IsWalkTold, Reaches}
 
 module _ {A : Type 0} (uses : A → List Name) (One Other : Name → Result A Stop → Type 0)
     (each : (name : Name) (r : Result A Stop) → One name r → Other name r) (file : List ℕ) where
@@ -18,7 +18,7 @@ module _ {A : Type 0} (uses : A → List Name) (One Other : Name → Result A St
   stop_told too_many stop h = h
 
   end_told : (found : Found A) (end : End) (r : Result (List A) Stop) →
-      IsTold One file found end r → IsTold Other file found end r
+      IsWalkTold One file found end r → IsWalkTold Other file found end r
   end_told found (Ok order) (Ok values) h = h
   end_told found (Ok order) (Err stop) h = absurd h
   end_told found (Err why) (Ok values) h = absurd h

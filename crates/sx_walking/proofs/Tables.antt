@@ -13,7 +13,7 @@ use Rattle.std.proofs.lemmas.Slice.Eq.{bytes_eq-Decides}
 use Rattle.sx_imports.specs.Walk.{Name}
 use Rattle.sx_steps.proofs.Ones.{some_same, none_some}
 use Rattle.sx_walking.specs.Reached.{Found}
-use Rattle.sx_walking.specs.FileTable.{FileMap, files_by, seen_as, IsPut, IsTaken}
+use Rattle.sx_walking.specs.FileTable.{FileMap, files_by, seen_as, IsFilePut, IsFileTaken}
 
 -- ---- what a table holds
 
@@ -28,9 +28,9 @@ module _ {F : Type 0} where
 
   pub put_held : (old new : FileMap F) (key name : Name) (v : F) → key ≡ name →
       hash.UpdatesBy string_eq (λ k. bytes_eq key (string_bytes k)) old new (Some v) →
-      IsPut name v (files_by old) (files_by new)
+      IsFilePut name v (files_by old) (files_by new)
   put_held old new key name v e u =
-      subst (λ (n : Name). IsPut n v (files_by old) (files_by new)) e
+      subst (λ (n : Name). IsFilePut n v (files_by old) (files_by new)) e
       (λ other. hash_map_updates_text key old new (Some v) u other
       ∙ chosen (bytes_eq key other) v (get_by_text old other))
 
@@ -51,8 +51,8 @@ unlike name other h e = true≢false (sym ((bytes_eq-Decides name other).1 e) �
 
 pub taken_others : {F : Type 0} (old new : FileMap F) (key name : Name) → key ≡ name →
     hash.UpdatesBy string_eq (λ k. bytes_eq key (string_bytes k)) old new None →
-    IsTaken name (files_by old) (files_by new)
-taken_others old new key name e u = subst (λ (n : Name). IsTaken n (files_by old) (files_by new)) e
+    IsFileTaken name (files_by old) (files_by new)
+taken_others old new key name e u = subst (λ (n : Name). IsFileTaken n (files_by old) (files_by new)) e
     (λ other apart. hash_map_updates_text key old new None u other
     ∙ skipped (bytes_eq key other) (get_by_text old other) (differ key other apart))
 
@@ -64,8 +64,8 @@ module _ {F A : Type 0} (says : F → A) where
   seen_put true v o = refl
   seen_put false v o = refl
 
-  pub put_seen : (name : Name) (v : F) (old new : Found F) → IsPut name v old new →
-      IsPut name (says v) (seen_as says old) (seen_as says new)
+  pub put_seen : (name : Name) (v : F) (old new : Found F) → IsFilePut name v old new →
+      IsFilePut name (says v) (seen_as says old) (seen_as says new)
   put_seen name v old new put other =
       ap (λ (o : Option F). option_map says o) (put other)
       ∙ seen_put (bytes_eq name other) v (old other)
@@ -80,7 +80,7 @@ module _ {F A : Type 0} (says : F → A) where
 
 -- ---- what a table holds after a put
 
-module _ {A : Type 0} (name : Name) (x : A) (old new : Found A) (put : IsPut name x old new) where
+module _ {A : Type 0} (name : Name) (x : A) (old new : Found A) (put : IsFilePut name x old new) where
   put_so : (other : Name) (y : A) (b : Bool) → bytes_eq name other ≡ b →
       (if b then Some x else old other) ≡ Some y →
       ((name ≡ other) × (x ≡ y)) ⊎ (old other ≡ Some y)

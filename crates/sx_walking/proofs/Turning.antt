@@ -7,7 +7,7 @@ use Rattle.sx_outside.specs.Faults.{Rose}
 use Rattle.sx_imports.specs.Walk.{Name, Imports, missing, cycle, too_many}
 use Rattle.sx_imports.specs.Progress.{Progress, IsOn, visits, Asked}
 use Rattle.sx_imports.specs.States.{Comes}
-use Rattle.sx_imports.specs.Answers.{IsNext}
+use Rattle.sx_imports.specs.Answers.{IsNextVisit}
 use Rattle.sx_imports.specs.declared.error.WalkError.{WalkError}
 use Rattle.sx_imports.specs.declared.error.WalkError.TheVariants as walk_error
 use Rattle.sx_imports.specs.declared.walk.Next.{Next}
@@ -21,14 +21,14 @@ use Rattle.sx_walking.specs.Reached.{Found}
 use Rattle.sx_walking.specs.Kinds.{Kind}
 use Rattle.sx_walking.specs.Opened.{AreOpened, Keeps, found_in, imports_for, Covers}
 use Rattle.sx_walking.specs.Turns.{IsVisit, walk_stop, IsStopOr, Enters, StopsSo, TakesTurn}
-use Rattle.sx_walking.specs.Turns.{IsWalked}
+use Rattle.sx_walking.specs.Turns.{AreFilesWalked}
 use Rattle.sx_walking.specs.declared.turn.Turn.{Turn}
 use Rattle.sx_walking.specs.declared.turn.Turn.TheVariants.{On, Whole}
 use Rattle.sx_walking.proofs.Visits.{if_so, found_held}
 
 pub came : (before : Progress) (next : Next) (asked : Asked) → next ≡ Visit asked →
-    IsNext before (Ok next) → Comes before asked
-came before next asked e h = subst (λ (n : Next). IsNext before (Ok n)) e h
+    IsNextVisit before (Ok next) → Comes before asked
+came before next asked e h = subst (λ (n : Next). IsNextVisit before (Ok n)) e h
 
 module _ {A : Type 0} (k : Kind A) where
   mapped : (o : Option A) (x : A) (lines : List Name) → o ≡ Some x → lines ≡ k.stands_on x →
@@ -38,14 +38,14 @@ module _ {A : Type 0} (k : Kind A) where
 
 module _ {A : Type 0} (k : Kind A) (told : Option Files) (file : List ℕ) (before : Progress) where
   pub turn_whole : (held : Found A) (next : Next) (order : Vec Name) → next ≡ Order order →
-      IsNext before (Ok next) → TakesTurn k told file held held before (Ok (Whole order))
+      IsNextVisit before (Ok next) → TakesTurn k told file held held before (Ok (Whole order))
   turn_whole held next order e h =
-      let ends : IsNext before (Ok (Order order)) =
-      subst (λ (n : Next). IsNext before (Ok n)) e h in
+      let ends : IsNextVisit before (Ok (Order order)) =
+      subst (λ (n : Next). IsNextVisit before (Ok n)) e h in
       (refl, λ imports roots on. ends imports 256 roots on)
 
   pub turn_stop : (held : Found A) (error : WalkError) (e : StepError) → AreOpened k told held →
-      IsNext before (Err error) → IsStopOr (walk_stop file error) e →
+      IsNextVisit before (Err error) → IsStopOr (walk_stop file error) e →
       TakesTurn k told file held held before (Err e)
   turn_stop held error errors.Memory are h s = tt
   turn_stop held walk_error.Memory (errors.Stopped stop) are h s = absurd (none_some stop s)
@@ -157,13 +157,13 @@ module _ {A : Type 0} (k : Kind A) (told now : Option Files) (same : now ≡ tol
 
   pub walked_whole : (order : Vec Name) → AreOpened k told old → HasCome k roots old before →
       TakesTurn k now file old new before (Ok (Whole order)) →
-      IsWalked k told file roots new (Ok order)
+      AreFilesWalked k told file roots new (Ok order)
   walked_whole order are on t =
-      subst (λ (f : Found A). IsWalked k told file roots f (Ok order)) (sym t.0)
+      subst (λ (f : Found A). AreFilesWalked k told file roots f (Ok order)) (sym t.0)
       (are, t.1 (imports_for k old) roots (on (imports_for k old) (covers_self k old)))
 
   pub walked_err : (e : StepError) → HasCome k roots old before →
-      TakesTurn k now file old new before (Err e) → IsWalked k told file roots new (Err e)
+      TakesTurn k now file old new before (Err e) → AreFilesWalked k told file roots new (Err e)
   walked_err errors.Memory on t = tt
   walked_err (errors.Stopped stop) on t = (
     subst (λ (s : Option Files). AreOpened k s new) same t.1,

@@ -8,13 +8,13 @@ use Rattle.sx_steps.specs.Refusal.{about}
 use Rattle.sx_steps.specs.declared.stop.Stop.{Stop}
 use Rattle.sx_steps.specs.TypeErrors.{IsTypeError}
 use Rattle.sx_steps.proofs.TypeErrors.{no_type_error, Final}
-use Rattle.sx_walking.specs.Reached.{Found, too_many_files, IsTold, Reaches}
+use Rattle.sx_walking.specs.Reached.{Found, too_many_files, IsWalkTold, Reaches}
 
 module _ (Q : Stop → Type 0) {A : Type 0} (uses : A → List Name)
     (Comes : Name → Result A Stop → Type 0) (final : (name : Name) → Final Q (Comes name))
     (file : List ℕ) where
   told_final : (found : Found A) (end : End) (stop : Stop) →
-      IsTold Comes file found end (Err stop) → IsTypeError stop → Q stop
+      IsWalkTold Comes file found end (Err stop) → IsTypeError stop → Q stop
   told_final found (Ok order) stop h = absurd h
   told_final found (Err (missing name)) stop h = final name stop h
   told_final found (Err (cycle names)) stop h =

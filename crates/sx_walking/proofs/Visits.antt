@@ -12,7 +12,7 @@ use Rattle.sx_steps.specs.declared.step_error.StepError.TheVariants as errors
 use Rattle.sx_steps.proofs.Ones.{some_same, none_some}
 use Rattle.sx_walking.specs.Reached.{Found}
 use Rattle.sx_walking.specs.Kinds.{Kind, StandsOn}
-use Rattle.sx_walking.specs.FileTable.{IsPut}
+use Rattle.sx_walking.specs.FileTable.{IsFilePut}
 use Rattle.sx_walking.specs.Opened.{IsOpened, AreOpened, if_fit, IsBegun}
 use Rattle.sx_walking.specs.Turns.{OpensFile, IsVisit}
 use Rattle.sx_walking.proofs.Tables.{put_cases, put_same, put_keeps, is_none, is_there}
@@ -21,7 +21,7 @@ module _ {A : Type 0} (k : Kind A) (told : Option Files) where
   -- ---- the table
 
   pub put_opened : (name : Name) (x : A) (old new : Found A) → IsOpened k told name x →
-      AreOpened k told old → IsPut name x old new → AreOpened k told new
+      AreOpened k told old → IsFilePut name x old new → AreOpened k told new
   put_opened name x old new o are put other y h = elim (put_cases name x old new put other y h) [
     | inl s ↦ subst (λ (n : Name). IsOpened k told n y) s.0
         (subst (λ (z : A). IsOpened k told name z) s.1 o)
@@ -33,7 +33,7 @@ module _ {A : Type 0} (k : Kind A) (told : Option Files) where
   opens_held name held are is = (λ n x h. h, are, is)
 
   pub opens_new : (name : Name) (x : A) (old new : Found A) → is_some (old name) ≡ false →
-      IsOpened k told name x → AreOpened k told old → IsPut name x old new →
+      IsOpened k told name x → AreOpened k told old → IsFilePut name x old new →
       OpensFile k told name old new (Ok tt)
   opens_new name x old new none o are put = (
     put_keeps name x old new put (is_none (old name) none),

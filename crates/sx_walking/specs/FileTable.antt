@@ -18,8 +18,8 @@ abbrev pub files_by : {F : Type 0} → FileMap F → Found F
 files_by files = λ name. get_by_text files name
 
 -- those that the table holds
-abbrev pub files_in : {F : Type 0} → FileTable F → Found F
-files_in table = files_by table.files
+abbrev pub table_files : {F : Type 0} → FileTable F → Found F
+table_files table = files_by table.files
 
 -- what was found, as plain data
 abbrev pub seen_as : {F A : Type 0} → (F → A) → Found F → Found A
@@ -27,13 +27,13 @@ seen_as says found = λ name. option_map says (found name)
 
 -- so of those that the table holds
 abbrev pub held_in : {F A : Type 0} → (F → A) → FileTable F → Found A
-held_in says table = seen_as says (files_in table)
+held_in says table = seen_as says (table_files table)
 
 -- this was put under the name, and each other name has what it had
-abbrev pub IsPut : {A : Type 0} → Name → A → (old new : Found A) → Type 0
-IsPut name x old new = (other : Name) →
+abbrev pub IsFilePut : {A : Type 0} → Name → A → (old new : Found A) → Type 0
+IsFilePut name x old new = (other : Name) →
     new other ≡ (if bytes_eq name other then Some x else old other)
 
 -- each other name has what it had
-abbrev pub IsTaken : {A : Type 0} → Name → (old new : Found A) → Type 0
-IsTaken name old new = (other : Name) → (name ≡ other → ⊥) → new other ≡ old other
+abbrev pub IsFileTaken : {A : Type 0} → Name → (old new : Found A) → Type 0
+IsFileTaken name old new = (other : Name) → (name ≡ other → ⊥) → new other ≡ old other

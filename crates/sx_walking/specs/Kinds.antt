@@ -18,13 +18,13 @@ pub record Kind (A : Type 0) : Type 1 where
   pub IsStated : A → Type 0
 
 -- the file with this name fits, and any other is refused
-abbrev pub Fits : {A : Type 0} → Kind A → Name → A → Result A Stop → Type 0
-Fits k name given (Ok x) = (k.fits given ≡ true) × (x ≡ given)
-Fits k name given (Err stop) = (k.fits given ≡ false) × (stop ≡ k.misfit name given)
+abbrev pub FileFits : {A : Type 0} → Kind A → Name → A → Result A Stop → Type 0
+FileFits k name given (Ok x) = (k.fits given ≡ true) × (x ≡ given)
+FileFits k name given (Err stop) = (k.fits given ≡ false) × (stop ≡ k.misfit name given)
 
 -- the file with this name, which is to fit
 abbrev pub Visits : {A : Type 0} → Kind A → Files → Name → Result A Stop → Type 0
-Visits k files name = Then (k.Reads files name) (Fits k name)
+Visits k files name = Then (k.Reads files name) (FileFits k name)
 
 -- the files that are reached from the roots, all of which fit; a cycle, and that there are too
 -- many, are told of the file
@@ -38,9 +38,10 @@ IsSound k name (Ok x) = (k.name_of x ≡ name) × (k.fits x ≡ true) × k.IsSta
 IsSound k name (Err stop) = ⊥
 
 -- by such files alone, these are reached from the roots
-abbrev pub AreReached : {A : Type 0} → Kind A → (file : List ℕ) → (roots : List Name) → List A →
+abbrev pub AreFilesReached : {A : Type 0} → Kind A → (file : List ℕ) → (roots : List Name) →
+    List A →
     Type 0
-AreReached k file roots xs = Reaches k.stands_on (IsSound k) file roots (Ok xs)
+AreFilesReached k file roots xs = Reaches k.stands_on (IsSound k) file roots (Ok xs)
 
 -- what the file with this name stands on, where it fits
 abbrev pub StandsOn : {A : Type 0} → Kind A → Name → A → Result (List Name) Stop → Type 0

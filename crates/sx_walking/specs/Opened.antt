@@ -6,7 +6,7 @@ use Rattle.sx_outside.specs.Told.{WhereTold}
 use Rattle.sx_imports.specs.Walk.{Name, Imports}
 use Rattle.sx_walking.specs.Reached.{Found, uses_in}
 use Rattle.sx_walking.specs.Kinds.{Kind}
-use Rattle.sx_walking.specs.FileTable.{IsPut}
+use Rattle.sx_walking.specs.FileTable.{IsFilePut}
 
 -- ---- what was read
 
@@ -46,7 +46,7 @@ Covers {A} k found imports = (name : Name) (x : A) → found name ≡ Some x →
 -- the file that was read before is held, and no other
 abbrev pub IsBegun : {A : Type 0} → Kind A → Option A → Found A → Type 0
 IsBegun k None held = (name : Name) → held name ≡ None
-IsBegun k (Some x) held = IsPut (k.name_of x) x (λ name. None) held
+IsBegun k (Some x) held = IsFilePut (k.name_of x) x (λ name. None) held
 
 -- ---- the files of an order
 
@@ -56,6 +56,6 @@ AreOnce [] = Unit {0}
 AreOnce (name ∷ names) = ¬ (Contains names name) × AreOnce names
 
 -- each of them is held
-abbrev pub AreHeld : {A : Type 0} → Found A → List Name → Type 0
-AreHeld held [] = Unit {0}
-AreHeld held (name ∷ names) = IsSome (held name) × AreHeld held names
+abbrev pub AreFilesHeld : {A : Type 0} → Found A → List Name → Type 0
+AreFilesHeld held [] = Unit {0}
+AreFilesHeld held (name ∷ names) = IsSome (held name) × AreFilesHeld held names

@@ -32,8 +32,8 @@ abbrev pub uses_in : {A : Type 0} → (A → List Name) → Found A → Imports
 uses_in uses found = λ name. option_map uses (found name)
 
 -- all of it was found by visits
-abbrev pub IsFound : {A : Type 0} → (Name → Result A Stop → Type 0) → Found A → Type 0
-IsFound {A} Visits found = (name : Name) (a : A) → found name ≡ Some a → Visits name (Ok a)
+abbrev pub AreVisitsFound : {A : Type 0} → (Name → Result A Stop → Type 0) → Found A → Type 0
+AreVisitsFound {A} Visits found = (name : Name) (a : A) → found name ≡ Some a → Visits name (Ok a)
 
 -- The stop of a walk as it is told. Where a visit gives nothing its own stop is told, and the
 -- others are told of the file.
@@ -44,12 +44,12 @@ IsToldAs Visits file (cycle names) stop = TellsCycle file names stop
 IsToldAs Visits file too_many stop = stop ≡ too_many_files file
 
 -- the end of a walk as it is told: what was found under the names in order, or its stop
-abbrev pub IsTold : {A : Type 0} → (Name → Result A Stop → Type 0) → (file : List ℕ) → Found A →
+abbrev pub IsWalkTold : {A : Type 0} → (Name → Result A Stop → Type 0) → (file : List ℕ) → Found A →
     End → Result (List A) Stop → Type 0
-IsTold Visits file found (Ok order) (Ok values) = map found order ≡ map Some values
-IsTold Visits file found (Err why) (Err stop) = IsToldAs Visits file why stop
-IsTold Visits file found (Ok order) (Err stop) = ⊥
-IsTold Visits file found (Err why) (Ok values) = ⊥
+IsWalkTold Visits file found (Ok order) (Ok values) = map found order ≡ map Some values
+IsWalkTold Visits file found (Err why) (Err stop) = IsToldAs Visits file why stop
+IsWalkTold Visits file found (Ok order) (Err stop) = ⊥
+IsWalkTold Visits file found (Err why) (Ok values) = ⊥
 
 -- What is reached from the roots by what each uses, each once and after all that it uses, in the
 -- order in which a depth-first walk leaves them; or the first stop that the walk comes to. It
@@ -57,7 +57,7 @@ IsTold Visits file found (Err why) (Ok values) = ⊥
 pub record Reaches {A : Type 0} (uses : A → List Name) (Visits : Name → Result A Stop → Type 0)
     (file : List ℕ) (roots : List Name) (result : Result (List A) Stop) : Type 0 where
   pub found : Found A
-  pub visited : IsFound Visits found
+  pub visited : AreVisitsFound Visits found
   pub end : End
   pub walks : Walks (uses_in uses found) 256 roots end
-  pub told : IsTold Visits file found end result
+  pub told : IsWalkTold Visits file found end result

@@ -83,10 +83,10 @@ TakesTurn k told file old new before (Err (errors.Stopped stop)) =
     IsOn (imports_for k new) 256 roots before → StopsSo k told file roots new stop)
 
 -- the walk from the roots
-abbrev pub IsWalked : {A : Type 0} → Kind A → (told : Option Files) → (file : List ℕ) →
+abbrev pub AreFilesWalked : {A : Type 0} → Kind A → (told : Option Files) → (file : List ℕ) →
     (roots : List Name) → Found A → Result (Vec Name) StepError → Type 0
-IsWalked k told file roots held (Ok order) = AreOpened k told held ×
+AreFilesWalked k told file roots held (Ok order) = AreOpened k told held ×
     Walks (imports_for k held) 256 roots (Ok order.items)
-IsWalked k told file roots held (Err errors.Memory) = Unit {0}
-IsWalked k told file roots held (Err (errors.Stopped stop)) = AreOpened k told held ×
+AreFilesWalked k told file roots held (Err errors.Memory) = Unit {0}
+AreFilesWalked k told file roots held (Err (errors.Stopped stop)) = AreOpened k told held ×
     StopsSo k told file roots held stop

@@ -4,9 +4,9 @@ ghost use Rattle.std.specs.Prelude.{◌≡◌, ◌≤◌, IfOk, IfSome, Ok, Some
 ghost use Rattle.std.specs.List.{AllByRecursion};
 ghost use Rattle.sx_outside.specs.Told.{WhereTold};
 ghost use Rattle.sx_steps.specs.Stop.{Gives, OnlyReads};
-ghost use Rattle.sx_walking.specs.FileTable.{files_in, held_in};
-ghost use Rattle.sx_walking.specs.Kinds.{ReachesBy, AreReached};
-ghost use Rattle.sx_walking.specs.Opened.{IsBegun, AreOnce, AreHeld};
+ghost use Rattle.sx_walking.specs.FileTable.{table_files, held_in};
+ghost use Rattle.sx_walking.specs.Kinds.{ReachesBy, AreFilesReached};
+ghost use Rattle.sx_walking.specs.Opened.{IsBegun, AreOnce, AreFilesHeld};
 
 use crate::file_table::FileTable;
 use crate::walked_kind::WalkedKind;
@@ -43,9 +43,9 @@ fn take_files<F: Drop>(
     files: &mut FileTable<F>,
 ) -> Result<Vec<F>, NoMemory>
     requires once { AreOnce order.now }
-    requires held { AreHeld (files_in files.now) order.now }
+    requires held { AreFilesHeld (table_files files.now) order.now }
     ensures { IfOk result (λ taken.
-        map Some taken.items ≡ map (files_in files.old) order.now) }
+        map Some taken.items ≡ map (table_files files.old) order.now) }
 {
     let mut taken = Vec::new(alloc);
     for i in 0..order.len() {
@@ -78,7 +78,7 @@ pub fn read_reached<K: WalkedKind, S: Shelf>(
     ensures step { WhereTold (S.content shelf.old) (λ files. Gives (λ xs. map K.says xs.items)
         (ReachesBy (K.kind kind.now) file.now roots.items files) result) }
     ensures sound { IfOk result (λ xs.
-        AreReached (K.kind kind.now) file.now roots.items (map K.says xs.items)) }
+        AreFilesReached (K.kind kind.now) file.now roots.items (map K.says xs.items)) }
     ensures stated { IfOk result (λ xs.
         AllByRecursion (K.kind kind.now).IsStated (map K.says xs.items)) }
     ensures few { IfOk result (λ xs. length xs.items ≤ 256) }

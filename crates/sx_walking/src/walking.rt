@@ -5,7 +5,7 @@ ghost use Rattle.sx_steps.specs.Stop.{OnlyReads};
 ghost use Rattle.sx_walking.specs.FileTable.{held_in};
 ghost use Rattle.sx_walking.specs.Opened.{AreOpened};
 ghost use Rattle.sx_walking.specs.Turns.{walk_stop as stop_of_walk, IsStopOr, Enters};
-ghost use Rattle.sx_walking.specs.Turns.{TakesTurn, IsWalked};
+ghost use Rattle.sx_walking.specs.Turns.{TakesTurn, AreFilesWalked};
 
 use crate::file_table::FileTable;
 use crate::turn::Turn;
@@ -91,7 +91,7 @@ pub(crate) fn walk_files<K: WalkedKind, S: Shelf>(
     shelf: &mut S,
 ) -> Result<Vec<Text>, StepError>
     requires { AreOpened (K.kind kind.now) (S.content shelf.now) (held_in K.says files.now) }
-    ensures step { IsWalked (K.kind kind.now) (S.content shelf.old) file.now roots.items
+    ensures step { AreFilesWalked (K.kind kind.now) (S.content shelf.old) file.now roots.items
         (held_in K.says files.new) result }
     ensures reads { OnlyReads (S.content shelf.old) (S.content shelf.new)
         (S.read_faults shelf.old) (S.read_faults shelf.new)

@@ -6,8 +6,12 @@ use Rattle.std.proofs.lemmas.Slice.Eq.{bytes_eq-Decides}
 use Rattle.sx_lines.specs.Words.{is_name}
 use Rattle.sx_words.specs.declared.verb.Verb.{Verb}
 use Rattle.sx_words.specs.declared.verb.Verb.TheVariants.{Build, Compile, Check, Verify}
-use Rattle.sx_words.specs.Commands.{Given, Settings, Meant, samples, verb_word, option_word, nothing_said, with_option, with_options, MayStand, meant, SpellsNamed, SpellsSample, Spells}
-use Rattle.sx_words.specs.Reading.{count_of, next_option, is_option, last_word, then_option, after_verb, sample_of, after_sample, verb_of, command_from, command_of}
+use Rattle.sx_words.specs.Commands.{Given, Settings, Meant, samples, verb_word, option_word}
+use Rattle.sx_words.specs.Commands.{nothing_said, with_option, with_options, MayStand, meant}
+use Rattle.sx_words.specs.Commands.{SpellsNamed, SpellsSample, SpellsCommand}
+use Rattle.sx_words.specs.Reading.{count_of, next_option, is_option, last_word, then_option}
+use Rattle.sx_words.specs.Reading.{after_verb, sample_of, after_sample, verb_of, command_from}
+use Rattle.sx_words.specs.Reading.{command_of}
 use Rattle.sx_words.proofs.OptionLaws.{count_found, count_again, next_found, next_again, option_begins, name_no_option}
 
 abbrev done : Meant → Result Meant ℕ
@@ -111,7 +115,7 @@ sample_found (word ∷ rest) c e = number_case word rest c (count_of 300 word) r
         let h = count_found 300 word n (omega arith) is in
         record { number = n; least = h.1; most = h.2; parts = ap (λ (x : List ℕ). codes "sample" ∷ x ∷ []) h.0; is = sym (same_command (samples n) c e) }
 
-from_found : (word : List ℕ) (words : List (List ℕ)) (c : Meant) (o : Option Verb) → verb_of word ≡ o → command_from word o words ≡ Ok c → Spells (word ∷ words) c
+from_found : (word : List ℕ) (words : List (List ℕ)) (c : Meant) (o : Option Verb) → verb_of word ≡ o → command_from word o words ≡ Ok c → SpellsCommand (word ∷ words) c
 unfolding command_from
 from_found word words c (Some verb) is e =
     let h = verb_found verb 2 nothing_said words c e in
@@ -127,14 +131,14 @@ from_found word words c (Some verb) is e =
     })
 from_found word words c None is e = sample_case word words c (bytes_eq word (codes "sample")) refl e
   where
-    sample_case : (word : List ℕ) (words : List (List ℕ)) (c : Meant) (test : Bool) → bytes_eq word (codes "sample") ≡ test → cond test (after_sample words) (Err 1) ≡ Ok c → Spells (word ∷ words) c
+    sample_case : (word : List ℕ) (words : List (List ℕ)) (c : Meant) (test : Bool) → bytes_eq word (codes "sample") ≡ test → cond test (after_sample words) (Err 1) ≡ Ok c → SpellsCommand (word ∷ words) c
     sample_case word words c false is e = absurd cc
     sample_case word words c true is e =
         let same = (bytes_eq-Decides word (codes "sample")).0 is in
         inr (subst (λ (x : List ℕ). SpellsSample (x ∷ words) c) (sym same) (sample_found words c e))
 
 -- what is read is spelled
-pub command_found : (words : List (List ℕ)) (c : Meant) → command_of words ≡ Ok c → Spells words c
+pub command_found : (words : List (List ℕ)) (c : Meant) → command_of words ≡ Ok c → SpellsCommand words c
 unfolding command_of
 command_found [] c e = absurd cc
 command_found (word ∷ words) c e = from_found word words c (verb_of word) refl e
@@ -157,9 +161,9 @@ sample_again words c h =
     ap command_of h.parts ∙ read ∙ ap done (sym h.is)
 
 -- what is spelled is read
-pub command_again : (words : List (List ℕ)) (c : Meant) → Spells words c → command_of words ≡ Ok c
+pub command_again : (words : List (List ℕ)) (c : Meant) → SpellsCommand words c → command_of words ≡ Ok c
 command_again words c (inl h) = named_again words c h
 command_again words c (inr h) = sample_again words c h
 
-pub one_command : (words : List (List ℕ)) (one other : Meant) → Spells words one → Spells words other → one ≡ other
+pub one_command : (words : List (List ℕ)) (one other : Meant) → SpellsCommand words one → SpellsCommand words other → one ≡ other
 one_command words one other h k = same_command one other (sym (command_again words one h) ∙ command_again words other k)

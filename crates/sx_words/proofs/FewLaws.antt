@@ -2,7 +2,10 @@
 use Rattle.std.proofs.Common.{ℕ, ◌+◌, ◌≤◌, List, [], ◌∷◌, sym, subst, inl, inr, arith}
 use Rattle.sx_words.specs.declared.verb.Verb.{Verb}
 use Rattle.sx_words.specs.declared.verb.Verb.TheVariants.{Build, Compile, Check, Verify}
-use Rattle.sx_words.specs.Commands.{Given, core, tries, nodes, audit, Settings, Meant, builds, compiles, checks, verifies, samples, IsGiven, nothing_said, with_option, with_options, MayStand, or_most, meant, Spells}
+use Rattle.sx_words.specs.Commands.{Given, core, tries, nodes, audit, Settings, Meant, builds}
+use Rattle.sx_words.specs.Commands.{compiles, checks, verifies, samples, IsGiven, nothing_said}
+use Rattle.sx_words.specs.Commands.{with_option, with_options, MayStand, or_most, meant}
+use Rattle.sx_words.specs.Commands.{SpellsCommand}
 
 -- no more tries than 1,000,000 are said
 IsWithin : Settings → Type 0
@@ -40,7 +43,7 @@ meant_few Check s name within = within
 meant_few Verify s name within = tt
 
 -- each command that words spell has few tries to spend
-pub spelled_few : (words : List (List ℕ)) (command : Meant) → Spells words command → HasFew command
+pub spelled_few : (words : List (List ℕ)) (command : Meant) → SpellsCommand words command → HasFew command
 spelled_few words command (inl h) =
     subst HasFew (sym h.is) (meant_few h.verb (with_options 2 nothing_said h.options) h.name (options_within h.verb 2 nothing_said h.options h.stand none_within))
 spelled_few words command (inr h) = subst HasFew (sym h.is) tt

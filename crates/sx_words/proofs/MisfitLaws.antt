@@ -8,10 +8,13 @@ use Rattle.sx_words.specs.declared.verb.Verb.{Verb}
 use Rattle.sx_words.specs.declared.verb.Verb.TheVariants.{Build}
 use Rattle.sx_words.specs.declared.words_error.WordsError.{WordsError}
 use Rattle.sx_words.specs.declared.words_error.WordsError.TheVariants.{Memory, Words}
-use Rattle.sx_lines.specs.Reading.{Gives}
-use Rattle.sx_words.specs.Commands.{Given, Settings, Meant, samples, nothing_said, with_option, meant, Spells, NoneSpells, IsMisfit}
-use Rattle.sx_words.specs.Reading.{count_of, next_option, is_option, last_word, then_option, after_verb, sample_of, after_sample, verb_of, command_from, command_of}
-use Rattle.sx_words.specs.View.{command_view, Refuses, IsAnswer}
+use Rattle.sx_lines.specs.Reading.{GivesRead}
+use Rattle.sx_words.specs.Commands.{Given, Settings, Meant, samples, nothing_said, with_option}
+use Rattle.sx_words.specs.Commands.{meant, SpellsCommand, NoneSpells, IsWordMisfit}
+use Rattle.sx_words.specs.Reading.{count_of, next_option, is_option, last_word, then_option}
+use Rattle.sx_words.specs.Reading.{after_verb, sample_of, after_sample, verb_of, command_from}
+use Rattle.sx_words.specs.Reading.{command_of}
+use Rattle.sx_words.specs.View.{command_view, RefusesWords, IsCommandAnswer}
 use Rattle.sx_words.proofs.OptionLaws.{name_no_option, count_again}
 use Rattle.sx_words.proofs.CommandLaws.{command_found, command_again}
 
@@ -169,7 +172,7 @@ none_spells : (front rest : List (List ℕ)) → NoneRead command_of front rest 
 none_spells front [] h = λ c s. h c (command_again front c s)
 none_spells front (word ∷ rest) h = λ more c s. h more c (command_again (front ++ word ∷ more) c s)
 
-misfit : (words : List (List ℕ)) (n : ℕ) → Stops command_of 1 words n → IsMisfit words n
+misfit : (words : List (List ℕ)) (n : ℕ) → Stops command_of 1 words n → IsWordMisfit words n
 misfit words n h = record {
   front = h.front;
   rest = h.rest;
@@ -251,10 +254,10 @@ command_stops (word ∷ words) n e = from_stops word words n (verb_of word) refl
 
 -- ---- of a call's result
 
-pub is_answer : (words : List (List ℕ)) (r : Result Command WordsError) → Gives command_view Refuses r (command_of words) → IsAnswer words r
+pub is_answer : (words : List (List ℕ)) (r : Result Command WordsError) → GivesRead command_view RefusesWords r (command_of words) → IsCommandAnswer words r
 is_answer words (Ok c) e = command_found words (command_view c) e
 is_answer words (Err Memory) e = tt
 is_answer words (Err (Words n)) e = misfit words n (command_stops words n e)
 
-pub is_only : (words : List (List ℕ)) (r : Result Command WordsError) (c : Meant) → Spells words c → Gives command_view Refuses r (command_of words) → Gives command_view Refuses r (Ok c)
-is_only words r c s e = subst (λ (x : Result Meant ℕ). Gives command_view Refuses r x) (command_again words c s) e
+pub is_only : (words : List (List ℕ)) (r : Result Command WordsError) (c : Meant) → SpellsCommand words c → GivesRead command_view RefusesWords r (command_of words) → GivesRead command_view RefusesWords r (Ok c)
+is_only words r c s e = subst (λ (x : Result Meant ℕ). GivesRead command_view RefusesWords r x) (command_again words c s) e

@@ -205,26 +205,26 @@ pub record SpellsSample (words : List (List ℕ)) (command : Meant) : Type 0 whe
   pub is : command ≡ samples number
 
 -- the words spell the command
-abbrev pub Spells : List (List ℕ) → Meant → Type 0
-Spells words command = SpellsNamed words command ⊎ SpellsSample words command
+abbrev pub SpellsCommand : List (List ℕ) → Meant → Type 0
+SpellsCommand words command = SpellsNamed words command ⊎ SpellsSample words command
 
 -- ---- the first word that does not fit
 
 -- with the next word too, or at the end of the words where there is none, the words are those of no
 -- command
 abbrev pub NoneSpells : List (List ℕ) → List (List ℕ) → Type 0
-NoneSpells front [] = (command : Meant) → Spells front command → ⊥
+NoneSpells front [] = (command : Meant) → SpellsCommand front command → ⊥
 NoneSpells front (word ∷ rest) = (more : List (List ℕ)) (command : Meant) →
-    Spells (front ++ word ∷ more) command → ⊥
+    SpellsCommand (front ++ word ∷ more) command → ⊥
 
 -- The word of this number is the first after which no command can follow, or the number is one more
 -- than that of the words where one is missing: the words before it begin those of a command.
-pub record IsMisfit (words : List (List ℕ)) (number : ℕ) : Type 0 where
+pub record IsWordMisfit (words : List (List ℕ)) (number : ℕ) : Type 0 where
   pub front : List (List ℕ)
   pub rest : List (List ℕ)
   pub parts : words ≡ front ++ rest
   pub place : number ≡ length front + 1
   pub more : List (List ℕ)
   pub command : Meant
-  pub good : Spells (front ++ more) command
+  pub good : SpellsCommand (front ++ more) command
   pub bad : NoneSpells front rest

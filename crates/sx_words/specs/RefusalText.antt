@@ -84,15 +84,15 @@ extension_text (extension.Drops text) = joined (text ∷ codes " is not used" �
 extension_text extension.NoPlain = joined (codes "no plain body" ∷ [])
 
 -- goals that are stuck
-abbrev pub goal_text : GoalDefect → List ℕ
-goal_text (goal.NoRule goal) = joined (codes "no rule concludes " ∷ goal ∷ [])
-goal_text (goal.Equal goal premise rule) = joined
+abbrev pub stuck_goal_text : GoalDefect → List ℕ
+stuck_goal_text (goal.NoRule goal) = joined (codes "no rule concludes " ∷ goal ∷ [])
+stuck_goal_text (goal.Equal goal premise rule) = joined
     (goal ∷ codes ": premise " ∷ decimal premise ∷ codes " of " ∷ rule ∷ codes " does not hold" ∷
     [])
-goal_text (goal.Mismatch goal premise rule) =
+stuck_goal_text (goal.Mismatch goal premise rule) =
     joined (goal ∷ codes " is not what premise " ∷ decimal premise ∷ codes " of " ∷ rule ∷
     codes " asks for" ∷ [])
-goal_text (goal.NotStated goal) = joined (goal ∷ codes " is not the stated conclusion" ∷ [])
+stuck_goal_text (goal.NotStated goal) = joined (goal ∷ codes " is not the stated conclusion" ∷ [])
 
 -- budgets of derivations
 abbrev pub budget_text : BudgetDefect → List ℕ
@@ -103,11 +103,13 @@ budget_text (budget.Nodes n) =
 budget_text budget.RewriteDepth = joined (codes "rewritten derivation deeper than 3000" ∷ [])
 
 -- derivation lists that fit nothing
-abbrev pub list_text : ListDefect → List ℕ
-list_text (list.WrongAt n) = joined (codes "entry " ∷ decimal n ∷ codes " fits no derivation" ∷ [])
-list_text list.EndsEarly = joined (codes "list ends early" ∷ [])
-list_text (list.LongList n) = joined (codes "entry " ∷ decimal n ∷ codes " is left over" ∷ [])
-list_text (list.DeepList n) =
+abbrev pub list_defect_text : ListDefect → List ℕ
+list_defect_text (list.WrongAt n) = joined (codes "entry " ∷ decimal n ∷
+    codes " fits no derivation" ∷ [])
+list_defect_text list.EndsEarly = joined (codes "list ends early" ∷ [])
+list_defect_text (list.LongList n) = joined (codes "entry " ∷ decimal n ∷ codes " is left over" ∷
+    [])
+list_defect_text (list.DeepList n) =
     joined (codes "entry " ∷ decimal n ∷ codes " is deeper than 3000" ∷ [])
 
 -- defects of grammars
@@ -132,15 +134,15 @@ part_text print.Signature = joined (codes "printed signature " ∷ [])
 part_text print.Stated = joined (codes "printed stated signature " ∷ [])
 
 -- printed texts that cannot be written, after the name of the part
-abbrev pub print_text : PrintDefect → List ℕ
-print_text (print_defect.Bytes n) =
+abbrev pub print_defect_text : PrintDefect → List ℕ
+print_defect_text (print_defect.Bytes n) =
     joined (codes "has " ∷ decimal n ∷ codes " bytes, over 262144" ∷ [])
-print_text (print_defect.Tokens n) =
+print_defect_text (print_defect.Tokens n) =
     joined (codes "has " ∷ decimal n ∷ codes " tokens, over 10000" ∷ [])
-print_text print_defect.Items = joined (codes "needs more than 2000000 items" ∷ [])
-print_text (print_defect.Depth n) =
+print_defect_text print_defect.Items = joined (codes "needs more than 2000000 items" ∷ [])
+print_defect_text (print_defect.Depth n) =
     joined (codes "has depth " ∷ decimal n ∷ codes ", over 1000" ∷ [])
-print_text (print_defect.Ambiguous one other) =
+print_defect_text (print_defect.Ambiguous one other) =
     joined (codes "has two readings: " ∷ one ∷ codes " and " ∷ other ∷ [])
 
 -- the names, each after a blank
@@ -184,13 +186,13 @@ defect_text (defect.Text x) = text_text x
 defect_text (defect.Grammar x) = grammar_text x
 defect_text (defect.Rule x) = rule_text x
 defect_text (defect.Extension x) = extension_text x
-defect_text (defect.Goal x) = goal_text x
+defect_text (defect.Goal x) = stuck_goal_text x
 defect_text (defect.Budget x) = budget_text x
-defect_text (defect.Print part x) = part_text part ++ print_text x
+defect_text (defect.Print part x) = part_text part ++ print_defect_text x
 defect_text (defect.Captured word) =
     joined (codes "stated signature has the literal " ∷ word ∷ codes " as a name" ∷ [])
 defect_text (defect.Closure x) = closure_text x
-defect_text (defect.List x) = list_text x
+defect_text (defect.List x) = list_defect_text x
 defect_text (defect.Objected auditor node name) =
     joined (auditor ∷ codes " objects to node " ∷ decimal node ∷ codes ", " ∷ name ∷ [])
 

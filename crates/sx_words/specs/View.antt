@@ -12,8 +12,8 @@ use Rattle.sx_words.specs.declared.given.Given.TheVariants as given
 use Rattle.sx_words.specs.declared.words_error.WordsError.{WordsError}
 use Rattle.sx_words.specs.declared.words_error.WordsError.TheVariants.{Memory, Words}
 use Rattle.sx_words.specs.Commands.{Given, core, tries, nodes, audit, AuditWord, Settings, Meant}
-use Rattle.sx_words.specs.Commands.{builds, compiles, checks, verifies, samples, Spells}
-use Rattle.sx_words.specs.Commands.{IsMisfit, has_kind}
+use Rattle.sx_words.specs.Commands.{builds, compiles, checks, verifies, samples, SpellsCommand}
+use Rattle.sx_words.specs.Commands.{IsWordMisfit, has_kind}
 
 -- an option that names an auditor, without where it lies in memory
 abbrev pub audit_view : Audit → AuditWord
@@ -51,15 +51,15 @@ given_view (given.Nodes n) = nodes n
 given_view (given.Audit kind setting) = audit kind.now setting.now
 
 -- an error where memory runs out, or at the word that reading refuses
-abbrev pub Refuses : {Y : Type 0} → WordsError → Result Y ℕ → Type 0
-Refuses Memory read = Unit {0}
-Refuses (Words n) read = read ≡ Err n
+abbrev pub RefusesWords : {Y : Type 0} → WordsError → Result Y ℕ → Type 0
+RefusesWords Memory read = Unit {0}
+RefusesWords (Words n) read = read ≡ Err n
 
 -- the command that the words spell, or the first word that does not fit
-abbrev pub IsAnswer : List (List ℕ) → Result Command WordsError → Type 0
-IsAnswer words (Ok c) = Spells words (command_view c)
-IsAnswer words (Err Memory) = Unit {0}
-IsAnswer words (Err (Words n)) = IsMisfit words n
+abbrev pub IsCommandAnswer : List (List ℕ) → Result Command WordsError → Type 0
+IsCommandAnswer words (Ok c) = SpellsCommand words (command_view c)
+IsCommandAnswer words (Err Memory) = Unit {0}
+IsCommandAnswer words (Err (Words n)) = IsWordMisfit words n
 
 -- two texts, without where they lie in memory
 abbrev pub pair_view : Bor (List ℕ) × Bor (List ℕ) → List ℕ × List ℕ

@@ -1,7 +1,7 @@
 //! Goals that are stuck.
 
 ghost use Rattle.std.specs.Prelude.{◌≡◌, ◌++◌, OnOk};
-ghost use Rattle.sx_words.specs.RefusalText.{goal_text};
+ghost use Rattle.sx_words.specs.RefusalText.{stuck_goal_text};
 
 use crate::parts::{number, put, put_named};
 use std::alloc::Global;
@@ -40,7 +40,7 @@ pub(crate) fn put_goal(
     defect: &GoalDefect,
     into: &mut Vec<u8>,
 ) -> Result<(), NoMemory>
-    ensures { OnOk result (into.new.items ≡ into.old.items ++ goal_text defect.now) }
+    ensures { OnOk result (into.new.items ≡ into.old.items ++ stuck_goal_text defect.now) }
 {
     match defect {
         GoalDefect::NoRule { goal } => put_named(b"no rule concludes ", goal, b"", into),

@@ -36,7 +36,7 @@ pub use line::write_line;
 pub use list_defect::ListDefect;
 pub use position::Position;
 pub use print_defect::{PrintDefect, PrintedPart};
-pub use reading::{one_answer_is_due, read_words};
+pub use reading::{one_command_is_due, read_words};
 pub use refusal::{Defect, Refusal, write_refusal};
 pub use rule_defect::RuleDefect;
 pub use text_defect::TextDefect;

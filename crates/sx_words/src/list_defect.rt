@@ -1,7 +1,7 @@
 //! Derivation lists that fit nothing.
 
 ghost use Rattle.std.specs.Prelude.{◌≡◌, ◌++◌, OnOk};
-ghost use Rattle.sx_words.specs.RefusalText.{list_text};
+ghost use Rattle.sx_words.specs.RefusalText.{list_defect_text};
 
 use crate::parts::{put_number, put_words};
 use std::alloc::Global;
@@ -26,7 +26,7 @@ pub(crate) fn put_list(
     defect: &ListDefect,
     into: &mut Vec<u8>,
 ) -> Result<(), NoMemory>
-    ensures { OnOk result (into.new.items ≡ into.old.items ++ list_text defect.now) }
+    ensures { OnOk result (into.new.items ≡ into.old.items ++ list_defect_text defect.now) }
 {
     match defect {
         ListDefect::WrongAt(n) => put_number(alloc, b"entry ", *n, b" fits no derivation", into),

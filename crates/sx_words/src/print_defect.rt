@@ -1,7 +1,7 @@
 //! Printed texts that cannot be written.
 
 ghost use Rattle.std.specs.Prelude.{◌≡◌, ◌++◌, OnOk};
-ghost use Rattle.sx_words.specs.RefusalText.{part_text, print_text};
+ghost use Rattle.sx_words.specs.RefusalText.{part_text, print_defect_text};
 
 use crate::parts::{put, put_number, put_words};
 use std::alloc::Global;
@@ -50,7 +50,7 @@ pub(crate) fn put_print(
     defect: &PrintDefect,
     into: &mut Vec<u8>,
 ) -> Result<(), NoMemory>
-    ensures { OnOk result (into.new.items ≡ into.old.items ++ print_text defect.now) }
+    ensures { OnOk result (into.new.items ≡ into.old.items ++ print_defect_text defect.now) }
 {
     match defect {
         PrintDefect::Bytes(n) => put_number(alloc, b"has ", *n, b" bytes, over 262144", into),

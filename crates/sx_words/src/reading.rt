@@ -2,11 +2,11 @@
 
 ghost use Rattle.std.specs.Prelude.{◌≡◌, ◌+◌, ◌≤◌, ◌<◌, ◌^◌, ℕ, List, [], ◌∷◌, drop, length};
 ghost use Rattle.std.specs.Prelude.{slice_index, is_some, Ok};
-ghost use Rattle.sx_lines.specs.Reading.{Gives};
+ghost use Rattle.sx_lines.specs.Reading.{GivesRead};
 ghost use Rattle.sx_words.specs.Commands as command;
-ghost use Rattle.sx_words.specs.Commands.{Meant, Spells, IsMisfit};
+ghost use Rattle.sx_words.specs.Commands.{Meant, SpellsCommand, IsWordMisfit};
 ghost use Rattle.sx_words.specs.Reading as spec;
-ghost use Rattle.sx_words.specs.View.{command_view, settings_view, Refuses, IsAnswer};
+ghost use Rattle.sx_words.specs.View.{command_view, settings_view, RefusesWords, IsCommandAnswer};
 
 use crate::command::Command;
 use crate::given::count_of;
@@ -36,7 +36,7 @@ fn last_word(
     rest: &[Text],
 ) -> Result<Command, WordsError>
     requires { place + 1 < 2 ^ 64 }
-    ensures { Gives command_view Refuses result
+    ensures { GivesRead command_view RefusesWords result
         (spec.last_word verb place (settings_view said) name.now rest.now) }
 {
     if !is_name(false, name.bytes()) {
@@ -54,7 +54,7 @@ fn last_word(
 
 /// The command that the words after its first one make.
 fn after_verb(alloc: Global, verb: Verb, words: &[Text]) -> Result<Command, WordsError>
-    ensures { Gives command_view Refuses result
+    ensures { GivesRead command_view RefusesWords result
         (spec.after_verb verb 2 command.nothing_said words.now) }
 {
     let mut said = Options::new(alloc);
@@ -87,7 +87,7 @@ fn after_verb(alloc: Global, verb: Verb, words: &[Text]) -> Result<Command, Word
 
 /// The sample of the size that a word spells, where no word follows it.
 fn sample(size: &Text, rest: &[Text]) -> Result<Command, WordsError>
-    ensures { Gives command_view Refuses result
+    ensures { GivesRead command_view RefusesWords result
         (spec.sample_of (spec.count_of 300 size.now) rest.now) }
 {
     match count_of(300, size.bytes()) {
@@ -104,7 +104,7 @@ fn sample(size: &Text, rest: &[Text]) -> Result<Command, WordsError>
 /// The command that the words after `sample` make.
 #[tactic(auto, unfolding(crate::specs::Reading::after_sample))]
 fn after_sample(words: &[Text]) -> Result<Command, WordsError>
-    ensures { Gives command_view Refuses result (spec.after_sample words.now) }
+    ensures { GivesRead command_view RefusesWords result (spec.after_sample words.now) }
 {
     match words.split_first() {
         None => Err(WordsError::Words(2)),
@@ -133,7 +133,7 @@ fn verb_of(word: &[u8]) -> Option<Verb>
 /// The command that the words make whose first one is this.
 #[tactic(auto, unfolding(crate::specs::Reading::command_from))]
 fn command_from(alloc: Global, first: &Text, rest: &[Text]) -> Result<Command, WordsError>
-    ensures { Gives command_view Refuses result
+    ensures { GivesRead command_view RefusesWords result
         (spec.command_from first.now (spec.verb_of first.now) rest.now) }
 {
     match verb_of(first.bytes()) {
@@ -150,7 +150,7 @@ fn command_from(alloc: Global, first: &Text, rest: &[Text]) -> Result<Command, W
 /// The command that the words make, read from the left.
 #[tactic(auto, unfolding(crate::specs::Reading::command_of))]
 fn command_of(alloc: Global, words: &[Text]) -> Result<Command, WordsError>
-    ensures { Gives command_view Refuses result (spec.command_of words.now) }
+    ensures { GivesRead command_view RefusesWords result (spec.command_of words.now) }
 {
     match words.split_first() {
         None => Err(WordsError::Words(1)),
@@ -170,19 +170,20 @@ fn command_of(alloc: Global, words: &[Text]) -> Result<Command, WordsError>
 /// which none can follow. The place of an auditor is below 2^32: where more words stand before it,
 /// memory is lacking.
 pub fn read_words(alloc: Global, words: &[Text]) -> Result<Command, WordsError>
-    ensures answer { IsAnswer words.now result }
+    ensures answer { IsCommandAnswer words.now result }
     // What is spelled is read, unless memory runs out.
-    ensures only { (c : Meant) → Spells words.now c → Gives command_view Refuses result (Ok c) }
+    ensures only { (c : Meant) → SpellsCommand words.now c →
+        GivesRead command_view RefusesWords result (Ok c) }
 {
     command_of(alloc, words)
 }
 
 /// Words have one answer: they spell one command, or they have one first word that does not fit.
-pub fn one_answer_is_due()
+pub fn one_command_is_due()
     ensures command { (words : List (List ℕ)) (one other : Meant) →
-        Spells words one → Spells words other → one ≡ other }
+        SpellsCommand words one → SpellsCommand words other → one ≡ other }
     ensures misfit { (words : List (List ℕ)) (one other : ℕ) →
-        IsMisfit words one → IsMisfit words other → one ≡ other }
+        IsWordMisfit words one → IsWordMisfit words other → one ≡ other }
     ensures either { (words : List (List ℕ)) (c : Meant) (n : ℕ) →
-        Spells words c → IsMisfit words n → ⊥ }
+        SpellsCommand words c → IsWordMisfit words n → ⊥ }
 {}

@@ -4,7 +4,7 @@ use std::alloc::Global;
 use std::test::*;
 use sx_directives::{
     Directive, FileKind, FormLine, FormSymbol, PlainLine, Row, RowError, SpelledSort, lexical_kind,
-    read_directive, read_row,
+    read_directive_row, read_row,
 };
 use sx_grammar::{Production, SortLine, Symbol};
 use sx_term::{LexKind, Role};
@@ -279,7 +279,7 @@ fn lexical_kinds(rt: HostRuntime) {
 
 /// Whether the line is a `prod` line.
 fn is_prod(rt: &HostRuntime, line: &[u8]) -> bool {
-    let read = read_directive(rt.alloc(), line);
+    let read = read_directive_row(rt.alloc(), line);
     let answer = match &read {
         Ok(Directive::Prod(_)) => true,
         _ => false,
@@ -290,7 +290,7 @@ fn is_prod(rt: &HostRuntime, line: &[u8]) -> bool {
 
 /// Whether the line is no directive.
 fn is_no_directive(rt: &HostRuntime, line: &[u8]) -> bool {
-    let read = read_directive(rt.alloc(), line);
+    let read = read_directive_row(rt.alloc(), line);
     let answer = match &read {
         Err(RowError::Shape) => true,
         _ => false,
@@ -311,7 +311,7 @@ fn other_directives(rt: HostRuntime) {
 
 #[test]
 fn a_directive(rt: HostRuntime) {
-    let read = read_directive(rt.alloc(), b"var e : Exp");
+    let read = read_directive_row(rt.alloc(), b"var e : Exp");
     let is_read = match &read {
         Ok(Directive::Var { stem, sort }) => {
             stem.bytes() == b"e".as_slice() && sort.bytes() == b"Exp".as_slice()

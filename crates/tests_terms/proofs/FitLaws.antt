@@ -8,7 +8,7 @@ use Rattle.sx_term.specs.Term.{tree}
 use Rattle.sx_term.specs.Instances.{Stands, StandsInKids}
 use Rattle.sx_term.proofs.Kids.{trees, tree-at_node, trees-drop, trees-drop_all}
 use Rattle.sx_plain.specs.Plain.{Body, Table}
-use Rattle.sx_plain.specs.Tables.{IsTable, HasParts, FitsTable, FitTable}
+use Rattle.sx_plain.specs.Tables.{IsPlainTable, HasParts, FitsTable, FitTable}
 
 -- a variable that stands in a kid stands in the node
 pub stands-found : (v : ℕ) (t : Term) (label : ℕ) (kids : Vec Term Global) (ts : List Term) (i : ℕ) (k : Term) → t ≡ Node label kids → ts ≡ kids.items →
@@ -79,7 +79,7 @@ same_count n arity flat parts not last = go (cases n arity)
     go (inr (inl e)) = e
     go (inr (inr l)) = pred n l last
 
-pub has_parts : (base : ℕ) (table : Table) (label : ℕ) (ts : List Term) (flat : Tree) → IsTable base table → option_map (λ (b : Body). b.flat) (table label) ≡ Some flat →
+pub has_parts : (base : ℕ) (table : Table) (label : ℕ) (ts : List Term) (flat : Tree) → IsPlainTable base table → option_map (λ (b : Body). b.flat) (table label) ≡ Some flat →
     (Stands (length ts) flat → ⊥) → ((m : ℕ) → length ts ≡ m + 1 → Stands m flat) → HasParts (table label) (trees ts)
 has_parts base table label ts flat is e not last = go (table label) refl e
   where

@@ -23,7 +23,8 @@ use Rattle.sx_rules.specs.ProofView.{proof}
 use Rattle.sx_rules.specs.Rules.{Hypotheses}
 use Rattle.sx_rules.specs.Sets.{shapes_in, forms_in, bare_rules_in}
 use Rattle.sx_rules.specs.Sorts.{GoalIsSorted, JudgementsAreSorted}
-use Rattle.sx_rules.specs.Views.{FormData, hypotheses, judgement, pair, modes_of, sorts_of, subjects_in, places_at}
+use Rattle.sx_rules.specs.Views.{FormData, hypotheses, judgement, pair, modes_of, sorts_of}
+use Rattle.sx_rules.specs.Views.{subjects_in, places_at}
 use Rattle.sx_derive.specs.declared.derive_error.DeriveError.{DeriveError}
 use Rattle.sx_derive.specs.declared.derived.Derived.{Derived}
 use Rattle.sx_derive.specs.declared.listed.Listed.{Listed}
@@ -53,7 +54,7 @@ use Rattle.sx_expand.specs.declared.expanded.Expanded.{Expanded}
 use Rattle.sx_expand.specs.Boxes.{HasList}
 use Rattle.sx_expand.specs.Expansions.{IsListedFrom, IsExpanding}
 use Rattle.sx_expand.specs.Readings.{AllSmall, IsGiven, AreGiven}
-use Rattle.tests_uses.specs.Held.{IsHeld, FitPlaces, FitsForm}
+use Rattle.tests_uses.specs.Held.{IsHypothesisHeld, FitPlaces, FitsForm}
 use Rattle.tests_uses.proofs.Compared.{found_each}
 
 -- hypotheses whose terms fit the places of their forms
@@ -85,7 +86,7 @@ module _ (base : RuleSet) where
   all-shallow [] h = tt
   all-shallow (j ∷ js) h = (all-near (map tree j.places.items) h.0.small, all-shallow js h.1)
 
-  module _ (given : Hyps) (held : IsHeld base given) where
+  module _ (given : Hyps) (held : IsHypothesisHeld base given) where
     pub held-near : ShallowJudgements (hypotheses given).judgements
     held-near = all-shallow given.holds.items held.each
 
@@ -101,10 +102,10 @@ module _ (base : RuleSet) where
     pub held-few : length given.holds.items < 2 ^ 32
     held-few = let e = held.one in omega (arith, e)
 
-pub held-given : (set : AcceptedOf) (given : Hyps) → IsHeld set.base given → AreGiven set (hypotheses given)
+pub held-given : (set : AcceptedOf) (given : Hyps) → IsHypothesisHeld set.base given → AreGiven set (hypotheses given)
 held-given set given held = record { below = held-below set.base given held; each = all-given set.base given.holds.items held.each }
 
-pub held-good : (set : AcceptedOf) (given : Hyps) → IsHeld set.base given → AreGood (length (shapes_in set.base)) (hypotheses given)
+pub held-good : (set : AcceptedOf) (given : Hyps) → IsHypothesisHeld set.base given → AreGood (length (shapes_in set.base)) (hypotheses given)
 held-good set given held = record { below = held-below set.base given held; near = held-near set.base given held }
 
 -- the rules of a set, and a goal that is asked from hypotheses
@@ -144,7 +145,7 @@ module _ (sig : Signature) (base shapes : List Shape) (a : Accepted) (ok : IsAcc
     open-boxed y h = let g = good (record { proof = proof y.proof.value; judgement = judgement y.judgement; copied = y.copied }) h in (g.places, g.height, g.binds)
 
 -- so it is of what the two calls answer
-module _ (set : AcceptedOf) (ok : IsAccepted (signature set) (shapes_in set.base) (shapes_in set.rules) (accepted set)) (given : Hyps) (held : IsHeld set.base given) (goal : Goal)
+module _ (set : AcceptedOf) (ok : IsAccepted (signature set) (shapes_in set.base) (shapes_in set.rules) (accepted set)) (given : Hyps) (held : IsHypothesisHeld set.base given) (goal : Goal)
     (sorted : GoalIsSorted (shapes_in set.rules) (signature set).forms (signature set).modes [] goal) (list : List Entry) (answer : Answer) (is : IsListedFrom (signature set).modes (plain_of (accepted set)) (hypotheses given) goal list answer) (budget : ℕ) where
   pub held-listed : (r : Result Expanded RewriteError) (x : Expanded) → r ≡ Ok x → IsExpanding (plain_of (accepted set)) (signature set).subjects (hypotheses given) answer.0 budget r →
       AreShallow (map tree x.judgement.places.items) × ((p : Proof) × HasList (bare_rules_in set.base) (hypotheses given) (judgement x.judgement) (entries x.entries.items) p × HasShallowBinds p)
@@ -160,7 +161,7 @@ module _ (set : AcceptedOf) (ok : IsAccepted (signature set) (shapes_in set.base
 
 -- so it is of what the two searches answer
 module _ (set : AcceptedOf) (ok : IsAccepted (signature set) (shapes_in set.base) (shapes_in set.rules) (accepted set)) (rules_are : bare_rules_in set.plain_rules ≡ extended_rules (plain_of (accepted set))) (forms_are : forms_in set.plain_rules ≡ forms_in set.base)
-    (x : RuleSet) (same : x ≡ set.plain_rules) (given : Hyps) (held : IsHeld set.base given) (goal : Goal) (low : AreShallow goal.terms) (sorted : GoalIsSorted (shapes_in set.rules) (signature set).forms (signature set).modes [] goal) (budget : ℕ) where
+    (x : RuleSet) (same : x ≡ set.plain_rules) (given : Hyps) (held : IsHypothesisHeld set.base given) (goal : Goal) (low : AreShallow goal.terms) (sorted : GoalIsSorted (shapes_in set.rules) (signature set).forms (signature set).modes [] goal) (budget : ℕ) where
   pub open-answers : (listed : Result Listed DeriveError) (derived : Result Derived DeriveError) (l : Listed) (d : Derived) (list : List EntryOf) (p : ProofOf) → listed ≡ Ok l → derived ≡ Ok d → list ≡ l.entries.items → p ≡ d.proof.value →
       IfOk listed (λ y. ListsFirst (modes_of (forms_in x)) (bare_rules_in x) (hypotheses given) goal None budget y) → IsDerived (modes_of (forms_in x)) (subjects_in (forms_in x)) (bare_rules_in x) (hypotheses given) goal None budget derived →
       (outs : List Tree) × IsListedFrom (signature set).modes (plain_of (accepted set)) (hypotheses given) goal (entries list) (proof p, outs)
@@ -212,7 +213,7 @@ none-apart [] e = refl
 none-apart (p ∷ ps) e = absurd (omega (arith, e))
 
 pub one-held : (base : RuleSet) (given : Hyps) (it : JudgementOf) (all : List Shape) (ps : List Place) (ts : List Term) → given.holds.items ≡ it ∷ [] → length given.apart.items ≡ 0 → all ≡ shapes_in base →
-    ps ≡ places_at (forms_in base) it.form → ts ≡ it.places.items → FitPlaces all ps ts → IsHeld base given
+    ps ≡ places_at (forms_in base) it.form → ts ≡ it.places.items → FitPlaces all ps ts → IsHypothesisHeld base given
 one-held base given it all ps ts holds apart a p t h =
     let own : FitsForm base it =
     subst (λ (ss : List Shape). FitPlaces ss (places_at (forms_in base) it.form) it.places.items) a

@@ -22,7 +22,7 @@ abbrev pub FitsForm : RuleSet → Judgement → Type 0
 FitsForm base j = FitPlaces (shapes_in base) (places_at (forms_in base) j.form) j.places.items
 
 -- so it is of each hypothesis, of which there is one
-pub record IsHeld (base : RuleSet) (given : Hyps) : Type 0 where
+pub record IsHypothesisHeld (base : RuleSet) (given : Hyps) : Type 0 where
   pub one : length given.holds.items ≡ 1
   pub apart : given.apart.items ≡ []
   pub each : AllByRecursion (FitsForm base) given.holds.items

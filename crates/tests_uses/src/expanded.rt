@@ -14,7 +14,7 @@ ghost use Rattle.sx_rules.specs.Views.{goal as goal_of, hypotheses};
 ghost use Rattle.sx_notation.specs.Language.{IsLanguage};
 ghost use Rattle.sx_rewrite.specs.AcceptedView.{accepted, signature};
 ghost use Rattle.sx_expand.specs.Expansions.{HasOneSubject, IsListedAnswer};
-ghost use Rattle.sx_uses.specs.ExtensionFile.{extension_of, IsStated};
+ghost use Rattle.sx_uses.specs.ExtensionFile.{extension_of, IsHeaderStated};
 ghost use Rattle.sx_accepting.specs.ReadLanguage.{HasText};
 
 use crate::goals::{inputs_fit, one_goal, subject_count, term};
@@ -232,7 +232,7 @@ fn tell_extended<L: Ledger>(
     requires some { 0 < blank.parts }
     requires language { IsLanguage language.now }
     requires text { (name : List ℕ) × HasText name language.now }
-    requires files { AllByRecursion IsStated (map extension_of files.now) }
+    requires files { AllByRecursion IsHeaderStated (map extension_of files.now) }
     requires few { length files.now ≤ 256 }
     requires shallow { AreShallow (goal_of asked.goal.now).terms }
     requires given { IfSome asked.given (λ h. ShallowJudgements (hypotheses h.now).judgements) }
@@ -264,7 +264,7 @@ fn sums(alloc: Global, shelf: &mut MemShelf) -> Result<LanguageFile, StepError>
 
 /// The extension in its file.
 fn extension(alloc: Global, name: &str, shelf: &mut MemShelf) -> Option<ExtensionFile>
-    ensures { IfSome result (λ x. IsStated (extension_of x)) }
+    ensures { IfSome result (λ x. IsHeaderStated (extension_of x)) }
 {
     let name = Text::of_str(alloc, name).ok()?;
     match read_extension_file(alloc, &name, shelf) {

@@ -6,7 +6,7 @@ ghost use Rattle.std.specs.List.{AllByRecursion};
 ghost use Rattle.sx_term.specs.Term.{tree};
 ghost use Rattle.sx_term.specs.Tree.{depth_of};
 ghost use Rattle.sx_notation.specs.Language.{IsLanguage};
-ghost use Rattle.sx_language.specs.States.{States};
+ghost use Rattle.sx_language.specs.States.{IsLanguageIn};
 ghost use Rattle.sx_plain.specs.Views.{table_of};
 ghost use Rattle.sx_rewrite.specs.ExtensionView.{ext_rule};
 ghost use Rattle.sx_extension.specs.Fitting.{ExtensionIsUsable};
@@ -25,7 +25,8 @@ use tests_given::extensions::{FOR, NULL, PAIR, SHOW, TWICE};
 /// The language.
 fn lam(alloc: Global) -> Result<Language, NotationError>
     ensures fit { IfOk result IsLanguage }
-    ensures stated { IfOk result (λ l. (name : List ℕ) × (bytes : List ℕ) × States name bytes l
+    ensures stated { IfOk result (λ l. (name : List ℕ) × (bytes : List ℕ) ×
+        IsLanguageIn name bytes l
         × (length bytes ≤ 262144)) }
 {
     let bytes = LAM_LANG;
@@ -54,7 +55,7 @@ fn read_first(
     bytes: &[u8],
 ) -> Result<ReadExtension, ExtensionError>
     requires fit { IsLanguage language.now }
-    requires stated { (name : List ℕ) × (bytes : List ℕ) × States name bytes language.now
+    requires stated { (name : List ℕ) × (bytes : List ℕ) × IsLanguageIn name bytes language.now
         × (length bytes ≤ 262144) }
     ensures { IfOk result (λ x. ExtensionIsUsable x.extension) }
 {

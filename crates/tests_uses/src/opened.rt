@@ -17,7 +17,7 @@ ghost use Rattle.sx_rewrite.specs.AcceptedView.{accepted, signature};
 ghost use Rattle.sx_rewrite.specs.PlainRules.{plain_of};
 ghost use Rattle.sx_expand.specs.Boxes.{HasList};
 ghost use Rattle.sx_expand.specs.Expansions.{HasOneSubject, IsListedFrom};
-ghost use Rattle.tests_uses.specs.Held.{FitPlaces, IsHeld};
+ghost use Rattle.tests_uses.specs.Held.{FitPlaces, IsHypothesisHeld};
 
 use crate::expanded::{Asked, MOST, Told, both, same_terms, tell_asked};
 use crate::goals::{one_goal, term};
@@ -98,7 +98,7 @@ fn compare(
     requires one { HasOneSubject (forms_in set.now.base) asked.goal.now.form }
     requires sorted { GoalIsSorted (shapes_in set.now.rules) (signature set.now).forms
         (signature set.now).modes [] (goal_of asked.goal.now) }
-    requires held { IsHeld set.now.base given.now }
+    requires held { IsHypothesisHeld set.now.base given.now }
     requires lowered { depth_of (tree asked.lowered.now) ≤ 1000 }
     requires listed { (outs : List Tree) × IsListedFrom (signature set.now).modes
         (plain_of (accepted set.now)) (hypotheses given.now) (goal_of asked.goal.now)
@@ -141,7 +141,7 @@ fn tell<L: Ledger>(
     requires one { HasOneSubject (forms_in set.now.base) asked.goal.now.form }
     requires sorted { GoalIsSorted (shapes_in set.now.rules) (signature set.now).forms
         (signature set.now).modes [] (goal_of asked.goal.now) }
-    requires held { IsHeld set.now.base given.now }
+    requires held { IsHypothesisHeld set.now.base given.now }
     requires lowered { depth_of (tree asked.lowered.now) ≤ 1000 }
 {
     set.facts();
@@ -180,7 +180,7 @@ fn places_fit(all: &Shapes, places: &[Place], terms: &[Term]) -> bool
 /// Whether there is one hypothesis, which is base and has a term within the limits for each place.
 fn is_held(base: &RuleSet, given: &Hyps) -> bool
     requires { ShallowJudgements (hypotheses given.now).judgements }
-    ensures { result ≡ true → IsHeld base.now given.now }
+    ensures { result ≡ true → IsHypothesisHeld base.now given.now }
 {
     let holds = given.holds.as_slice();
     let apart = given.apart.as_slice();

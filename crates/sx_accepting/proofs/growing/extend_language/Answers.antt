@@ -9,7 +9,7 @@ use Rattle.sx_uses.specs.ExtensionFile.{Extension, extension_of}
 use Rattle.sx_accepting.specs.declared.extended.Extended.{Extended}
 use Rattle.sx_accepting.specs.ExtendedLanguages.{ExtendedData, base_of, extended_data, unextended}
 use Rattle.sx_accepting.specs.ExtendedLanguages.{CanExtend, CanExtendBy}
-use Rattle.sx_accepting.specs.Extending.{Extends}
+use Rattle.sx_accepting.specs.Extending.{ExtendsLanguage}
 use Rattle.sx_accepting.proofs.Begun.{first_can}
 use Rattle.sx_accepting.proofs.InOrder.{nothing_extends, LeadsOn, leads_first, leads_next}
 use Rattle.sx_accepting.proofs.InOrder.{leads_stop, leads_end, rest_is, none_left, short_at}
@@ -23,10 +23,10 @@ returns-in_err-so_far-clause-step g c =
     let s = c.args.steps.now in
     let budgets = c.args.budgets in
     err_is (λ (result : Result Extended StepError). Does (extended_data l)
-    (Extends (base_of l) budgets files (unextended (language_data l))) result s s)
+    (ExtendsLanguage (base_of l) budgets files (unextended (language_data l))) result s s)
     c.from_residual.result _ c.from_residual.ensures.1
     (λ e is. subst (λ (e : StepError). Does (extended_data l)
-    (Extends (base_of l) budgets files (unextended (language_data l))) (Err e) s s) (sym is)
+    (ExtendsLanguage (base_of l) budgets files (unextended (language_data l))) (Err e) s s) (sym is)
     (nothing_extends l budgets files (unextended (language_data l)) s))
 
 pub loop-i-init : goal.loop-i-init

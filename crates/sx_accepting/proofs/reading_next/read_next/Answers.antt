@@ -1,7 +1,7 @@
 use Rattle.std.proofs.Common.{ℕ, List, refl, subst}
 use Rattle.sx_extension.specs.Fitting.{FitsAfter}
 use Rattle.sx_extension.specs.Grounds.{Ground, ground}
-use Rattle.sx_extension.specs.States.{States}
+use Rattle.sx_extension.specs.States.{IsExtensionIn}
 use Rattle.sx_accepting.proofs.QuietStops.{extension_quiet}
 use Rattle.sx_accepting.proofs.reading_next.read_next.Goals as goal
 
@@ -11,8 +11,8 @@ returns-in-Ok-clause-step c =
     let at = ground c.before-before.result in
     record {
       whole = read;
-      states = subst (λ (g : Ground). States g c.args.file.now.bytes.items read)
-          c.before-before.ensures (subst (λ (bytes : List ℕ). States at bytes read)
+      states = subst (λ (g : Ground). IsExtensionIn g c.args.file.now.bytes.items read)
+          c.before-before.ensures (subst (λ (bytes : List ℕ). IsExtensionIn at bytes read)
           c.deref.ensures.value c.in-Ok.ensures.stated);
       fits = subst (λ (g : Ground). FitsAfter g read) c.before-before.ensures c.in-Ok.ensures.fits;
       is = refl;

@@ -5,7 +5,7 @@ use Rattle.sx_term.specs.Term.{tree}
 use Rattle.sx_term.proofs.Kids.{depth_of-kid}
 use Rattle.sx_arena.specs.Arena.{trees, tree_at}
 use Rattle.sx_arena.specs.Matching.{match}
-use Rattle.sx_arena.specs.Binds.{envs, env_at, IsFit}
+use Rattle.sx_arena.specs.Binds.{envs, env_at, IsChainFit}
 use Rattle.sx_arena.proofs.Arenas.{below_at}
 use Rattle.sx_arena.proofs.BindChains.{binds_same, binds_then}
 use Rattle.sx_arena.proofs.Patterns.{nodes_fit, kids_of_branch, lengths_fit, fitting_more, fitting_none, fitting_end, same_lengths, other_lengths, other_is}
@@ -61,5 +61,5 @@ returns-then-len-clause-fit t c =
 
 pub returns-in-Var-clause-fit : goal.returns-in-Var-clause-fit
 returns-in-Var-clause-fit t c =
-    subst (λ (p : Term). IfOk c.fit_variable.result (λ r. IsFit (trees c.args.arena.now) c.fit_variable.new.binds (match (tree p) (tree_at (trees c.args.arena.now) c.args.term) (env_at (envs (trees c.args.arena.now) c.args.binds.now) c.args.env)) r))
+    subst (λ (p : Term). IfOk c.fit_variable.result (λ r. IsChainFit (trees c.args.arena.now) c.fit_variable.new.binds (match (tree p) (tree_at (trees c.args.arena.now) c.args.term) (env_at (envs (trees c.args.arena.now) c.args.binds.now) c.args.env)) r))
     (sym c.in-Var.is) c.fit_variable.ensures.fit

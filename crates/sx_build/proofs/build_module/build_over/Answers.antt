@@ -6,9 +6,9 @@ use Rattle.sx_steps.specs.declared.step_error.StepError.TheVariants.{Memory}
 use Rattle.sx_steps.proofs.StepsOn.{goes_from}
 use Rattle.sx_accepting.specs.ReadLanguage.{stated_of}
 use Rattle.sx_headers.specs.ReadModule.{module_of}
-use Rattle.sx_build.specs.BuildModules.{Progress, begun, MakesAfter, whole_plan}
+use Rattle.sx_build.specs.BuildModules.{Progress, none_made, MakesAfter, whole_plan}
 use Rattle.sx_build.specs.Buildings.{mades_view}
-use Rattle.sx_build.specs.Remembering.{imports_in}
+use Rattle.sx_build.specs.Remembering.{remembered_imports}
 use Rattle.sx_outside.specs.Views.{clean_files_of}
 use Rattle.sx_compiling.proofs.KeptReads.{none_kept}
 use Rattle.sx_build.proofs.Recalled.{none_remembered}
@@ -16,7 +16,7 @@ use Rattle.sx_build.proofs.build_module.build_over.Goals as goal
 
 pub make_all-requires-clause-remembers : goal.make_all-requires-clause-remembers
 make_all-requires-clause-remembers g c =
-    none_remembered [] (imports_in c.new-2.result) c.new-2.ensures
+    none_remembered [] (remembered_imports c.new-2.result) c.new-2.ensures
 
 pub make_all-requires-clause-kept : goal.make_all-requires-clause-kept
 make_all-requires-clause-kept g c = λ files told.
@@ -25,7 +25,7 @@ make_all-requires-clause-kept g c = λ files told.
 pub returns-in-Ok-whole_work-clause-step : goal.returns-in-Ok-whole_work-clause-step
 returns-in-Ok-whole_work-clause-step g c = λ files told.
     let asked = c.args.asked.now in
-    let start = begun (map (λ b. (goal.Auditor-dyn g (b.vtable, b.value)).meaning b.value)
+    let start = none_made (map (λ b. (goal.Auditor-dyn g (b.vtable, b.value)).meaning b.value)
     c.args.auditors.items) in
     let end : Progress = record {
       made = mades_view c.make_all.new.building.made.items;
@@ -42,7 +42,7 @@ returns-in-Ok-whole_work-clause-step g c = λ files told.
 pub returns-in-Err-whole_work-clause-step : goal.returns-in-Err-whole_work-clause-step
 returns-in-Err-whole_work-clause-step g c = λ files told.
     let asked = c.args.asked.now in
-    let start = begun (map (λ b. (goal.Auditor-dyn g (b.vtable, b.value)).meaning b.value)
+    let start = none_made (map (λ b. (goal.Auditor-dyn g (b.vtable, b.value)).meaning b.value)
     c.args.auditors.items) in
     let end : Progress = record {
       made = mades_view c.make_all.new.building.made.items;

@@ -5,11 +5,11 @@ use Rattle.sx_accepting.specs.ReadLanguage.{stated_of, HasText}
 use Rattle.sx_headers.specs.ReadModule.{Module, module_of}
 use Rattle.sx_importing.proofs.Results.{reads_on_from, reads_err}
 use Rattle.sx_walking.specs.Opened.{AreOnce}
-use Rattle.sx_closure.specs.ReadModules.{IsStated}
-use Rattle.sx_build.specs.BuildModules.{Progress, begun, language_in, MakesAfter}
-use Rattle.sx_build.specs.Buildings.{mades_view, AreDistinct}
+use Rattle.sx_closure.specs.ReadModules.{IsModuleStated}
+use Rattle.sx_build.specs.BuildModules.{Progress, none_made, language_in, MakesAfter}
+use Rattle.sx_build.specs.Buildings.{mades_view, AreNamedApart}
 use Rattle.sx_build.specs.MadeModules.{Made}
-use Rattle.sx_build.specs.Remembering.{imports_in, Remembers}
+use Rattle.sx_build.specs.Remembering.{remembered_imports, Remembers}
 use Rattle.sx_compiling.proofs.Members.{holds_at}
 use Rattle.sx_build.proofs.MakingOn.{goes_on, goes_stop, goes_end}
 use Rattle.sx_build.proofs.Ordered.{source_at, names_next, imports_among, name_is_new}
@@ -23,7 +23,7 @@ loop-i-init g c =
     let sources = c.args.sources.now in
     let ms = map module_of sources in
     let start : Progress =
-    begun (map (λ b. (goal.Auditor-dyn g (b.vtable, b.value)).meaning b.value)
+    none_made (map (λ b. (goal.Auditor-dyn g (b.vtable, b.value)).meaning b.value)
     c.args.building.now.auditors.items) in
     record {
       step = λ files told. (
@@ -35,9 +35,9 @@ loop-i-init g c =
             c.requires.begun h),
       );
       names = ap (λ (mades : List Made). map (λ (x : Made). x.name) mades) c.requires.begun;
-      distinct = subst AreDistinct (sym c.requires.begun) tt;
+      distinct = subst AreNamedApart (sym c.requires.begun) tt;
       remembers = subst (λ (ms : List Made). Remembers ms
-          (imports_in c.args.building.now.remembered)) (sym c.requires.begun)
+          (remembered_imports c.args.building.now.remembered)) (sym c.requires.begun)
           c.requires.remembers;
       kept = c.requires.kept;
       content = refl;
@@ -52,7 +52,7 @@ make_next-requires g c =
     let sources = c.args.sources.now in
     let ms = map module_of sources in
     let start : Progress =
-    begun (map (λ b. (goal.Auditor-dyn g (b.vtable, b.value)).meaning b.value)
+    none_made (map (λ b. (goal.Auditor-dyn g (b.vtable, b.value)).meaning b.value)
     c.args.building.now.auditors.items) in
     let i = c.loop-i.i in
     let source = c.index-sources-i.result in
@@ -65,7 +65,7 @@ make_next-requires g c =
     source c.loop-i-test.true c.index-sources-i.is can.same in
     record {
       can = record {
-        stated = holds_at IsStated module_of sources i source c.loop-i-test.true
+        stated = holds_at IsModuleStated module_of sources i source c.loop-i-test.true
             c.index-sources-i.is can.stated;
         language = record {
           language = can.fit;
@@ -88,7 +88,7 @@ loop-i-preserved g c =
     let sources = c.args.sources.now in
     let ms = map module_of sources in
     let start : Progress =
-    begun (map (λ b. (goal.Auditor-dyn g (b.vtable, b.value)).meaning b.value)
+    none_made (map (λ b. (goal.Auditor-dyn g (b.vtable, b.value)).meaning b.value)
     c.args.building.now.auditors.items) in
     let i = c.loop-i.i in
     let source = c.index-sources-i.result in
@@ -136,7 +136,7 @@ returns-in-Err-clause-step g c = λ files told.
     let sources = c.args.sources.now in
     let ms = map module_of sources in
     let start : Progress =
-    begun (map (λ b. (goal.Auditor-dyn g (b.vtable, b.value)).meaning b.value)
+    none_made (map (λ b. (goal.Auditor-dyn g (b.vtable, b.value)).meaning b.value)
     c.args.building.now.auditors.items) in
     let i = c.loop-i.i in
     let source = c.index-sources-i.result in
@@ -170,7 +170,7 @@ returns-clause-step g c = λ files told.
     let sources = c.args.sources.now in
     let ms = map module_of sources in
     let start : Progress =
-    begun (map (λ b. (goal.Auditor-dyn g (b.vtable, b.value)).meaning b.value)
+    none_made (map (λ b. (goal.Auditor-dyn g (b.vtable, b.value)).meaning b.value)
     c.args.building.now.auditors.items) in
     let now : Progress = record {
       made = mades_view c.loop-i.building.made.items;

@@ -3,7 +3,7 @@ use Rattle.sx_steps.specs.Stop.{Gives}
 use Rattle.sx_importing.specs.ReadImports.{import_of, ReadsImport}
 use Rattle.sx_build.specs.Buildings.{made_view, mades_view}
 use Rattle.sx_build.specs.MadeModules.{with_made}
-use Rattle.sx_build.specs.Remembering.{imports_in}
+use Rattle.sx_build.specs.Remembering.{remembered_imports}
 use Rattle.sx_build.proofs.MadeFiles.{interface_stands}
 use Rattle.sx_build.proofs.Recalled.{recalled, read_own, remembers_left}
 use Rattle.sx_build.proofs.imports_made.import_named.Goals as goal
@@ -20,7 +20,7 @@ returns-in-Some-clause-is c =
 pub returns-in-Some-clause-remembers : goal.returns-in-Some-clause-remembers
 returns-in-Some-clause-remembers c =
     remembers_left (mades_view c.args.mades.now) c.args.name.now
-    (imports_in c.args.remembered.now) (imports_in c.take.new.self) c.in-Some.ensures.others
+    (remembered_imports c.args.remembered.now) (remembered_imports c.take.new.self) c.in-Some.ensures.others
     c.requires.remembers
 
 pub returns-in-None-clause-step : goal.returns-in-None-clause-step
@@ -41,5 +41,5 @@ returns-in-None-clause-is c =
 pub returns-in-None-clause-remembers : goal.returns-in-None-clause-remembers
 returns-in-None-clause-remembers c =
     remembers_left (mades_view c.args.mades.now) c.args.name.now
-    (imports_in c.args.remembered.now) (imports_in c.take.new.self) c.in-None.ensures.others
+    (remembered_imports c.args.remembered.now) (remembered_imports c.take.new.self) c.in-None.ensures.others
     c.requires.remembers

@@ -12,7 +12,7 @@ use Rattle.sx_steps.proofs.StepsOn.{stops_first}
 use Rattle.sx_build.proofs.Imported.{next_given, next_short, next_named}
 use Rattle.sx_build.specs.Buildings.{mades_view}
 use Rattle.sx_build.specs.MadeModules.{with_made}
-use Rattle.sx_build.specs.Remembering.{IsOwn}
+use Rattle.sx_build.specs.Remembering.{IsOwnImport}
 use Rattle.sx_build.proofs.Recalled.{own_next}
 use Rattle.sx_build.proofs.imports_made.imports_made.Goals as goal
 
@@ -28,7 +28,7 @@ loop-i-init c =
       short = subst (λ (is : List Import). AllByRecursion IsShort (interfaces_of is)) none tt;
       names = subst (λ (is : List Import).
           Have names (map (λ (it : InterfaceParts). it.name) (interfaces_of is)) 0) none refl;
-      own = subst (λ (is : List Import). AllByRecursion (IsOwn (mades_view c.args.mades.now)) is)
+      own = subst (λ (is : List Import). AllByRecursion (IsOwnImport (mades_view c.args.mades.now)) is)
           none tt;
       remembers = c.requires.remembers;
     }

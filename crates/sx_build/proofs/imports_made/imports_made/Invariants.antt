@@ -6,7 +6,7 @@ use Rattle.sx_importing.specs.ReadImports.{import_of, ReadsImport}
 use Rattle.sx_importing.proofs.EachLoops.{GoesOn, Have}
 use Rattle.sx_build.specs.Buildings.{mades_view}
 use Rattle.sx_build.specs.MadeModules.{with_made}
-use Rattle.sx_build.specs.Remembering.{imports_in, IsOwn, Remembers}
+use Rattle.sx_build.specs.Remembering.{remembered_imports, IsOwnImport, Remembers}
 use Rattle.sx_build.proofs.imports_made.imports_made.Given as goal
 
 -- what comes of the names that are left comes of all; the interfaces so far are short, have their
@@ -17,6 +17,6 @@ invariant-loop-i l = record {
       (map import_of l.imports.items) l.i;
   short : AllByRecursion IsShort (interfaces_of l.imports.items);
   names : Have l.names (map (λ it. it.name) (interfaces_of l.imports.items)) l.i;
-  own : AllByRecursion (IsOwn (mades_view l.mades)) l.imports.items;
-  remembers : Remembers (mades_view l.mades) (imports_in l.remembered);
+  own : AllByRecursion (IsOwnImport (mades_view l.mades)) l.imports.items;
+  remembers : Remembers (mades_view l.mades) (remembered_imports l.remembered);
 }

@@ -14,7 +14,7 @@ use Rattle.sx_build.specs.Buildings.{mades_view}
 use Rattle.sx_build.specs.MadeModules.{with_made}
 use Rattle.std.specs.List.{AllByRecursion}
 use Rattle.sx_build.specs.declared.remembered.Remembered.{Remembered}
-use Rattle.sx_build.specs.Remembering.{imports_in, IsOwn, Remembers}
+use Rattle.sx_build.specs.Remembering.{remembered_imports, IsOwnImport, Remembers}
 use Rattle.sx_build.proofs.Recalled.{remembers_on}
 use Rattle.sx_build.proofs.making.make_next.Goals as goal
 
@@ -82,11 +82,11 @@ returns-in-Ok-clause-remembers g c =
     let mades = mades_view c.args.building.now.made.items in
     remembers_on c.make_with-done.result mades
     (mades_view c.make_with-done.new.building.made.items)
-    (imports_in c.make_with-done.new.building.remembered) (imports_in c.keep_all.new.self)
+    (remembered_imports c.make_with-done.new.building.remembered) (remembered_imports c.keep_all.new.self)
     c.in-Ok.imports.items c.make_with-done.ensures.more
-    (subst (λ (r : Remembered). Remembers mades (imports_in r))
+    (subst (λ (r : Remembered). Remembers mades (remembered_imports r))
     (sym c.make_with-done.ensures.remembered)
     (subst (λ (ms : List Made). Remembers (mades_view ms)
-    (imports_in c.imports_made.new.remembered)) c.deref.ensures.value c.in-Ok.ensures.remembers))
-    (subst (λ (ms : List Made). AllByRecursion (IsOwn (mades_view ms)) c.in-Ok.imports.items)
+    (remembered_imports c.imports_made.new.remembered)) c.deref.ensures.value c.in-Ok.ensures.remembers))
+    (subst (λ (ms : List Made). AllByRecursion (IsOwnImport (mades_view ms)) c.in-Ok.imports.items)
     c.deref.ensures.value c.in-Ok.ensures.own) c.keep_all.ensures

@@ -10,12 +10,12 @@ use Rattle.sx_build.specs.BuildModules.{Progress, given_in, ShowsUnit}
 use Rattle.sx_build.specs.Buildings.{mades_view}
 use Rattle.sx_outside.specs.Views.{clean_files_of}
 use Rattle.sx_outside.specs.declared.clean.CleanShelf.{CleanShelf}
-use Rattle.sx_compiling.specs.KeptFiles.{AreOf}
+use Rattle.sx_compiling.specs.KeptFiles.{AreKeptOf}
 use Rattle.sx_build.proofs.making.make_with.Goals as goal
 
 pub returns-in-Ok-clause-kept : goal.returns-in-Ok-clause-kept
 returns-in-Ok-clause-kept g c = λ files told.
-    subst (λ (k : CleanShelf). AreOf (clean_files_of k) files) (sym c.show_made.ensures.extensions)
+    subst (λ (k : CleanShelf). AreKeptOf (clean_files_of k) files) (sym c.show_made.ensures.extensions)
     (c.in-Ok.ensures.kept files told)
 
 pub returns-in-Ok-clause-step : goal.returns-in-Ok-clause-step

@@ -1,6 +1,6 @@
 use Rattle.std.proofs.Common.{refl}
 use Rattle.std.specs.Prelude.{Ok, Err}
-use Rattle.sx_unit.specs.Modules.{module_of}
+use Rattle.sx_unit.specs.Modules.{module_data}
 use Rattle.sx_unit.specs.Written.{unit_of}
 use Rattle.sx_steps.specs.declared.step_error.StepError.TheVariants as errors
 use Rattle.sx_steps.proofs.StepsOn.{trying_by_view}
@@ -11,7 +11,7 @@ use Rattle.sx_compiling.proofs.compile_module.compile_module.Goals as goal
 
 pub returns-in-Ok-clause-step : goal.returns-in-Ok-clause-step
 returns-in-Ok-clause-step g c =
-    let m = module_of c.args.given.now in
+    let m = module_data c.args.given.now in
     let b = c.args.budgets in
     trying_by_view unit_of (CompilingTries b m) (Compiles c.args.file.now b m)
     (Ok c.in-Ok.compiled) c.args.steps.now c.compile.new.steps
@@ -20,7 +20,7 @@ returns-in-Ok-clause-step g c =
 
 pub returns-in-Ok-bad_module-clause-step : goal.returns-in-Ok-bad_module-clause-step
 returns-in-Ok-bad_module-clause-step g c =
-    let m = module_of c.args.given.now in
+    let m = module_data c.args.given.now in
     let b = c.args.budgets in
     let file = c.args.file.now in
     trying_by_view unit_of (CompilingTries b m) (Compiles file b m)
@@ -32,7 +32,7 @@ returns-in-Ok-bad_module-clause-step g c =
 
 pub returns-in-Err-bad_module-clause-step : goal.returns-in-Err-bad_module-clause-step
 returns-in-Err-bad_module-clause-step g c =
-    let m = module_of c.args.given.now in
+    let m = module_data c.args.given.now in
     let b = c.args.budgets in
     trying_by_view unit_of (CompilingTries b m) (Compiles c.args.file.now b m)
     (Err errors.Memory) c.args.steps.now c.compile.new.steps tt
@@ -42,5 +42,5 @@ returns-in-Err-bad_module-clause-step g c =
 pub returns-in-Ok-clause-list : goal.returns-in-Ok-clause-list
 returns-in-Ok-clause-list g c =
     let given = c.args.given.now in
-    list_derives (module_of given) c.requires.dialect.is c.args.budgets
+    list_derives (module_data given) c.requires.dialect.is c.args.budgets
     (unit_of c.in-Ok.compiled) c.in-Ok.ensures.answer given.source.dialect.language.now.rules refl

@@ -14,7 +14,7 @@ use Rattle.sx_uses.specs.ExtensionFile.{extension_of}
 use Rattle.sx_accepting.specs.ExtendedLanguages.{extended_data}
 use Rattle.sx_dialects.specs.Dialects.{dialect_in}
 use Rattle.sx_importing.specs.MakeEnvironment.{SeesImports}
-use Rattle.sx_compiling.specs.CanMake.{HasList, given_of}
+use Rattle.sx_compiling.specs.CanMake.{HasDerivationList, given_of}
 use Rattle.sx_compiling.specs.Given.{interfaces_in, seen_in, use_mark}
 use Rattle.sx_compiling.specs.MakeUnit.{MakesIn, MakesSeeing}
 use Rattle.sx_compiling.proofs.SeenGiven.{seen_same}
@@ -55,5 +55,5 @@ returns-in-Err-clause-step g c =
 
 pub returns-clause-list : goal.returns-clause-list
 returns-clause-list g c =
-    subst (λ (l : Language). IfOk c.make_seen-unit.result (HasList l)) c.dialect.ensures.language
+    subst (λ (l : Language). IfOk c.make_seen-unit.result (HasDerivationList l)) c.dialect.ensures.language
     c.make_seen-unit.ensures.list

@@ -4,7 +4,7 @@ use Rattle.sx_term.specs.Term.{tree}
 use Rattle.sx_grammar.specs.Grammar.{Text}
 use Rattle.sx_grammar.specs.Tables.{literals_of}
 use Rattle.sx_interface.specs.Interfaces.{InterfaceParts}
-use Rattle.sx_interface.specs.StatedHeader.{AreNames}
+use Rattle.sx_interface.specs.StatedHeader.{ArePlainNames}
 use Rattle.sx_notation.specs.Language.{LanguageData}
 use Rattle.sx_interface.specs.FreeNames.{AreFree}
 use Rattle.sx_unit.specs.Written.{unit_of}
@@ -31,7 +31,7 @@ make_environment-requires g c =
       dialect = c.requires.dialect;
       short = can.within;
       named = named_free (literals_of d.parts) its
-          (subst AreNames (sym can.named) can.headed.1.states.imports)
+          (subst ArePlainNames (sym can.named) can.headed.1.states.imports)
           (subst (λ (names : List Text). AreFree (literals_of d.parts) names) (sym can.named)
           free);
     }

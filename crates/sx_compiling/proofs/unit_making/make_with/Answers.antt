@@ -4,7 +4,7 @@ use Rattle.sx_unit.specs.Written.{unit_of}
 use Rattle.sx_steps.proofs.StepsOn.{goes_from, stops_at}
 use Rattle.sx_uses.specs.ExtensionFile.{extension_of}
 use Rattle.sx_accepting.specs.ExtendedLanguages.{base_of, extended_data, unextended}
-use Rattle.sx_accepting.specs.Extending.{Extends}
+use Rattle.sx_accepting.specs.Extending.{ExtendsLanguage}
 use Rattle.sx_compiling.specs.CanMake.{given_of}
 use Rattle.sx_compiling.specs.Given.{seen_in}
 use Rattle.sx_compiling.specs.MakeUnit.{MakesSeeing}
@@ -30,7 +30,7 @@ returns-in-Ok-clause-step g c =
     let l = c.args.given.now.language.now.language in
     let b = c.args.budgets in
     let xs = map extension_of c.args.files.now in
-    goes_from unit_of (Extends (base_of l) b xs (unextended (language_data l)))
+    goes_from unit_of (ExtendsLanguage (base_of l) b xs (unextended (language_data l)))
     (λ x. MakesSeeing b given (seen_in given xs x)) (extended_data l c.in-Ok.extended)
     c.make_extended-unit.result c.args.steps.now c.extend_language.new.steps
     c.make_extended-unit.new.steps c.in-Ok.ensures.step c.make_extended-unit.ensures.step
@@ -41,6 +41,6 @@ returns-in-Err-clause-step g c =
     let l = c.args.given.now.language.now.language in
     let b = c.args.budgets in
     let xs = map extension_of c.args.files.now in
-    stops_at (extended_data l) unit_of (Extends (base_of l) b xs (unextended (language_data l)))
+    stops_at (extended_data l) unit_of (ExtendsLanguage (base_of l) b xs (unextended (language_data l)))
     (λ x. MakesSeeing b given (seen_in given xs x)) c.in-Err.e c.args.steps.now
     c.extend_language.new.steps c.in-Err.ensures.step

@@ -10,7 +10,7 @@ use Rattle.sx_arena.specs.Binds.{env_at}
 use Rattle.sx_derive.specs.Handing.{hyps_in}
 use Rattle.sx_derive.specs.Quiet.{IsQuiet}
 use Rattle.sx_derive.specs.Store.{store_trees, store_envs}
-use Rattle.sx_arena.specs.Views.{rules_of, modes_of, judgement_of}
+use Rattle.sx_arena.specs.Views.{rules_of, set_modes, judgement_of}
 use Rattle.sx_derive.proofs.Asked.{quiet_level, made_grows, made_events, ask_none, ask_differs, ask_matches, facts_unique}
 use Rattle.sx_arena.proofs.Growing.{extends-length}
 use Rattle.sx_arena.proofs.Parted.{pairs_more_terms}
@@ -21,7 +21,7 @@ use Rattle.sx_derive.proofs.ask.ask.Goals as goal
 
 pub overflow_sub-below : goal.overflow_sub-below
 overflow_sub-below c =
-    let m = modes_of c.args.given.now.rules.now in
+    let m = set_modes c.args.given.now.rules.now in
     let rs = rules_of c.args.given.now.rules.now in
     let s = c.args.store.now in
     let j = judgement_of c.args.judgement.now in
@@ -31,7 +31,7 @@ overflow_sub-below c =
 
 pub first_answer-requires-clause-facts : goal.first_answer-requires-clause-facts
 first_answer-requires-clause-facts c =
-    let m = modes_of c.args.given.now.rules.now in
+    let m = set_modes c.args.given.now.rules.now in
     let s = c.args.store.now in
     let t = c.made_inputs.new.store in
     let j = judgement_of c.args.judgement.now in
@@ -41,7 +41,7 @@ first_answer-requires-clause-facts c =
 
 pub first_answer-requires-clause-store : goal.first_answer-requires-clause-store
 first_answer-requires-clause-store c =
-    let m = modes_of c.args.given.now.rules.now in
+    let m = set_modes c.args.given.now.rules.now in
     let rs = rules_of c.args.given.now.rules.now in
     let s = c.args.store.now in
     let t = c.made_inputs.new.store in
@@ -51,7 +51,7 @@ first_answer-requires-clause-store c =
 
 pub first_answer-requires-clause-pairs : goal.first_answer-requires-clause-pairs
 first_answer-requires-clause-pairs c =
-    let m = modes_of c.args.given.now.rules.now in
+    let m = set_modes c.args.given.now.rules.now in
     let s = c.args.store.now in
     let t = c.made_inputs.new.store in
     let j = judgement_of c.args.judgement.now in
@@ -60,7 +60,7 @@ first_answer-requires-clause-pairs c =
 
 pub first_answer-requires-clause-quiet : goal.first_answer-requires-clause-quiet
 first_answer-requires-clause-quiet c =
-    let m = modes_of c.args.given.now.rules.now in
+    let m = set_modes c.args.given.now.rules.now in
     let rs = rules_of c.args.given.now.rules.now in
     let s = c.args.store.now in
     let t = c.made_inputs.new.store in
@@ -74,7 +74,7 @@ first_answer-requires-clause-quiet c =
 
 pub fit_places-requires-clause-arena : goal.fit_places-requires-clause-arena
 fit_places-requires-clause-arena c =
-    let m = modes_of c.args.given.now.rules.now in
+    let m = set_modes c.args.given.now.rules.now in
     let rs = rules_of c.args.given.now.rules.now in
     let s = c.args.store.now in
     let t = c.made_inputs.new.store in
@@ -87,7 +87,7 @@ fit_places-requires-clause-arena c =
 
 pub fit_places-requires-clause-binds : goal.fit_places-requires-clause-binds
 fit_places-requires-clause-binds c =
-    let m = modes_of c.args.given.now.rules.now in
+    let m = set_modes c.args.given.now.rules.now in
     let rs = rules_of c.args.given.now.rules.now in
     let s = c.args.store.now in
     let t = c.made_inputs.new.store in
@@ -100,7 +100,7 @@ fit_places-requires-clause-binds c =
 
 pub fit_places-requires-clause-env : goal.fit_places-requires-clause-env
 fit_places-requires-clause-env c =
-    let m = modes_of c.args.given.now.rules.now in
+    let m = set_modes c.args.given.now.rules.now in
     let rs = rules_of c.args.given.now.rules.now in
     let s = c.args.store.now in
     let t = c.made_inputs.new.store in
@@ -114,7 +114,7 @@ fit_places-requires-clause-env c =
 
 pub fit_places-requires-clause-terms : goal.fit_places-requires-clause-terms
 fit_places-requires-clause-terms c =
-    let m = modes_of c.args.given.now.rules.now in
+    let m = set_modes c.args.given.now.rules.now in
     let rs = rules_of c.args.given.now.rules.now in
     let s = c.args.store.now in
     let t = c.made_inputs.new.store in
@@ -127,7 +127,7 @@ fit_places-requires-clause-terms c =
 
 pub returns-in-None-clause-grows : goal.returns-in-None-clause-grows
 returns-in-None-clause-grows c =
-    let m = modes_of c.args.given.now.rules.now in
+    let m = set_modes c.args.given.now.rules.now in
     let rs = rules_of c.args.given.now.rules.now in
     let s = c.args.store.now in
     let t = c.made_inputs.new.store in
@@ -140,7 +140,7 @@ returns-in-None-clause-grows c =
 
 pub returns-in-None-clause-answered : goal.returns-in-None-clause-answered
 returns-in-None-clause-answered c =
-    let m = modes_of c.args.given.now.rules.now in
+    let m = set_modes c.args.given.now.rules.now in
     let rs = rules_of c.args.given.now.rules.now in
     let s = c.args.store.now in
     let t = c.made_inputs.new.store in
@@ -152,7 +152,7 @@ returns-in-None-clause-answered c =
 
 pub returns-in-None-fit-clause-grows : goal.returns-in-None-fit-clause-grows
 returns-in-None-fit-clause-grows c =
-    let m = modes_of c.args.given.now.rules.now in
+    let m = set_modes c.args.given.now.rules.now in
     let rs = rules_of c.args.given.now.rules.now in
     let s = c.args.store.now in
     let t = c.made_inputs.new.store in
@@ -165,7 +165,7 @@ returns-in-None-fit-clause-grows c =
 
 pub returns-in-Some-fit-clause-grows : goal.returns-in-Some-fit-clause-grows
 returns-in-Some-fit-clause-grows c =
-    let m = modes_of c.args.given.now.rules.now in
+    let m = set_modes c.args.given.now.rules.now in
     let rs = rules_of c.args.given.now.rules.now in
     let s = c.args.store.now in
     let t = c.made_inputs.new.store in
@@ -178,7 +178,7 @@ returns-in-Some-fit-clause-grows c =
 
 pub returns-in-None-fit-clause-answered : goal.returns-in-None-fit-clause-answered
 returns-in-None-fit-clause-answered c =
-    let m = modes_of c.args.given.now.rules.now in
+    let m = set_modes c.args.given.now.rules.now in
     let rs = rules_of c.args.given.now.rules.now in
     let s = c.args.store.now in
     let t = c.made_inputs.new.store in
@@ -191,7 +191,7 @@ returns-in-None-fit-clause-answered c =
 
 pub returns-in-Some-fit-clause-answered : goal.returns-in-Some-fit-clause-answered
 returns-in-Some-fit-clause-answered c =
-    let m = modes_of c.args.given.now.rules.now in
+    let m = set_modes c.args.given.now.rules.now in
     let rs = rules_of c.args.given.now.rules.now in
     let s = c.args.store.now in
     let t = c.made_inputs.new.store in

@@ -6,7 +6,7 @@ use Rattle.sx_term.specs.Tree.{Tree}
 use Rattle.sx_rules.specs.Sets.{shapes_in, forms_in}
 use Rattle.sx_arena.specs.Binds.{env_at}
 use Rattle.sx_arena.specs.Places.{selected}
-use Rattle.sx_arena.specs.Views.{rules_of, modes_of, judgement_of}
+use Rattle.sx_arena.specs.Views.{rules_of, set_modes, judgement_of}
 use Rattle.sx_derive.specs.Handing.{hyps_in}
 use Rattle.sx_derive.specs.Open.{IsOpen}
 use Rattle.sx_derive.specs.Store.{store_trees, store_envs}
@@ -16,7 +16,7 @@ use Rattle.sx_derive.proofs.ask.ask_known.Goals as goal
 
 pub returns-then-is_open-clause-grows : goal.returns-then-is_open-clause-grows
 returns-then-is_open-clause-grows c =
-    let m = modes_of c.args.given.now.rules.now in
+    let m = set_modes c.args.given.now.rules.now in
     let rs = rules_of c.args.given.now.rules.now in
     let s = c.args.store.now in
     let t = c.made_inputs.new.store in
@@ -26,7 +26,7 @@ returns-then-is_open-clause-grows c =
 
 pub returns-then-is_open-clause-answered : goal.returns-then-is_open-clause-answered
 returns-then-is_open-clause-answered c =
-    let m = modes_of c.args.given.now.rules.now in
+    let m = set_modes c.args.given.now.rules.now in
     let rs = rules_of c.args.given.now.rules.now in
     let s = c.args.store.now in
     let t = c.made_inputs.new.store in

@@ -1,23 +1,23 @@
 use Rattle.std.proofs.Common.{suc, subst, ◌∙◌, Some, None}
-use Rattle.sx_arena.specs.Views.{rules_of, modes_of}
+use Rattle.sx_arena.specs.Views.{rules_of, set_modes}
 use Rattle.sx_arena.proofs.Patterns.{ok_weaker}
 use Rattle.sx_derive.specs.Descents.{spot_goal, RulesLead, IsFirstFact}
 use Rattle.sx_derive.specs.Stuck.{IsStuck}
-use Rattle.sx_derive.specs.Ways.{subjects_of}
+use Rattle.sx_derive.specs.Ways.{subject_modes}
 use Rattle.sx_derive.proofs.Led.{descent_weaker, quiet_rules, stuck_at_fact, stuck_at_rules}
 use Rattle.sx_derive.proofs.candidate_descent.descend.Goals as goal
 
 pub descend_rules-requires-clause-quiet : goal.descend_rules-requires-clause-quiet
 descend_rules-requires-clause-quiet c =
-    let m = modes_of c.args.given.now.rules.now in
+    let m = set_modes c.args.given.now.rules.now in
     let rs = rules_of c.args.given.now.rules.now in
     let s = c.args.store.now in
     (c.requires.quiet.0, c.requires.quiet.1, quiet_rules m rs c.requires.quiet.0 c.args.known c.args.bounds.budget c.args.bounds.levels (spot_goal s c.args.spot) c.requires.quiet.2)
 
 pub returns-in_ok-got-in-Some-clause-descent : goal.returns-in_ok-got-in-Some-clause-descent
 returns-in_ok-got-in-Some-clause-descent c =
-    let m = modes_of c.args.given.now.rules.now in
-    let su = subjects_of c.args.given.now.rules.now in
+    let m = set_modes c.args.given.now.rules.now in
+    let su = subject_modes c.args.given.now.rules.now in
     let rs = rules_of c.args.given.now.rules.now in
     let s = c.args.store.now in
     let f = subst (λ is. IsFirstFact c.args.spot.form is c.args.given.now.facts.now (Some c.in-Some.fact.now)) c.deref.ensures.value c.in-Some.ensures in
@@ -25,8 +25,8 @@ returns-in_ok-got-in-Some-clause-descent c =
 
 pub returns-in-None-clause-descent : goal.returns-in-None-clause-descent
 returns-in-None-clause-descent c =
-    let m = modes_of c.args.given.now.rules.now in
-    let su = subjects_of c.args.given.now.rules.now in
+    let m = set_modes c.args.given.now.rules.now in
+    let su = subject_modes c.args.given.now.rules.now in
     let rs = rules_of c.args.given.now.rules.now in
     let s = c.args.store.now in
     let f = subst (λ is. IsFirstFact c.args.spot.form is c.args.given.now.facts.now None) c.deref.ensures.value c.in-None.ensures in

@@ -1,12 +1,12 @@
 use Rattle.sx_derive.proofs.Stored.{grows_then}
 use Rattle.std.proofs.Common.{length, subst, sym}
-use Rattle.sx_arena.specs.Views.{rules_of, modes_of, rule_of}
+use Rattle.sx_arena.specs.Views.{rules_of, set_modes, rule_of}
 use Rattle.sx_arena.proofs.Patterns.{ok_weaker}
 use Rattle.sx_arena.specs.Arena.{AreBelow}
 use Rattle.sx_derive.specs.Store.{store_trees}
 use Rattle.sx_derive.specs.Candidates.{goal_in}
 use Rattle.sx_derive.specs.Descents.{spot_goal, IsFirstRule}
-use Rattle.sx_derive.specs.Ways.{subjects_of}
+use Rattle.sx_derive.specs.Ways.{subject_modes}
 use Rattle.sx_derive.proofs.Descended.{hyps_stay, spot_stays}
 use Rattle.sx_derive.proofs.Led.{sought_none, sought_env, sought_within, sought_quiet, sought_leads}
 use Rattle.sx_derive.proofs.Resumed.{shallow_at}
@@ -14,8 +14,8 @@ use Rattle.sx_derive.proofs.candidate_descent.descend_rules.Goals as goal
 
 pub rule_at-rule-requires : goal.rule_at-rule-requires
 rule_at-rule-requires c =
-    let m = modes_of c.args.given.now.rules.now in
-    let su = subjects_of c.args.given.now.rules.now in
+    let m = set_modes c.args.given.now.rules.now in
+    let su = subject_modes c.args.given.now.rules.now in
     let rs = rules_of c.args.given.now.rules.now in
     let s = c.args.store.now in
     let t = c.first_rule.new.store in
@@ -31,8 +31,8 @@ descend_premises-requires-clause-shallow c =
 
 pub descend_premises-requires-clause-env : goal.descend_premises-requires-clause-env
 descend_premises-requires-clause-env c =
-    let m = modes_of c.args.given.now.rules.now in
-    let su = subjects_of c.args.given.now.rules.now in
+    let m = set_modes c.args.given.now.rules.now in
+    let su = subject_modes c.args.given.now.rules.now in
     let rs = rules_of c.args.given.now.rules.now in
     let s = c.args.store.now in
     let t = c.first_rule.new.store in
@@ -43,7 +43,7 @@ descend_premises-requires-clause-env c =
 
 pub descend_premises-requires-clause-terms : goal.descend_premises-requires-clause-terms
 descend_premises-requires-clause-terms c =
-    let m = modes_of c.args.given.now.rules.now in
+    let m = set_modes c.args.given.now.rules.now in
     let rs = rules_of c.args.given.now.rules.now in
     let s = c.args.store.now in
     let t = c.first_rule.new.store in
@@ -52,8 +52,8 @@ descend_premises-requires-clause-terms c =
 
 pub descend_premises-requires-clause-quiet : goal.descend_premises-requires-clause-quiet
 descend_premises-requires-clause-quiet c =
-    let m = modes_of c.args.given.now.rules.now in
-    let su = subjects_of c.args.given.now.rules.now in
+    let m = set_modes c.args.given.now.rules.now in
+    let su = subject_modes c.args.given.now.rules.now in
     let rs = rules_of c.args.given.now.rules.now in
     let s = c.args.store.now in
     let t = c.first_rule.new.store in
@@ -64,8 +64,8 @@ descend_premises-requires-clause-quiet c =
 
 pub returns-in-None-clause-descent : goal.returns-in-None-clause-descent
 returns-in-None-clause-descent c =
-    let m = modes_of c.args.given.now.rules.now in
-    let su = subjects_of c.args.given.now.rules.now in
+    let m = set_modes c.args.given.now.rules.now in
+    let su = subject_modes c.args.given.now.rules.now in
     let rs = rules_of c.args.given.now.rules.now in
     let s = c.args.store.now in
     let t = c.first_rule.new.store in
@@ -76,8 +76,8 @@ returns-in-None-clause-descent c =
 
 pub returns-in-Some-clause-descent : goal.returns-in-Some-clause-descent
 returns-in-Some-clause-descent c =
-    let m = modes_of c.args.given.now.rules.now in
-    let su = subjects_of c.args.given.now.rules.now in
+    let m = set_modes c.args.given.now.rules.now in
+    let su = subject_modes c.args.given.now.rules.now in
     let rs = rules_of c.args.given.now.rules.now in
     let s = c.args.store.now in
     let t = c.first_rule.new.store in
@@ -100,6 +100,6 @@ returns-in-None-clause-grows c = c.in_ok-first_rule.ensures.grows
 
 pub returns-in-Some-clause-grows : goal.returns-in-Some-clause-grows
 returns-in-Some-clause-grows c =
-    let m = modes_of c.args.given.now.rules.now in
+    let m = set_modes c.args.given.now.rules.now in
     let rs = rules_of c.args.given.now.rules.now in
     ok_weaker _ _ (λ d h. grows_then m rs c.args.store.now c.first_rule.new.store c.descend_premises.new.store c.in_ok-first_rule.ensures.grows h) c.descend_premises.result c.descend_premises.ensures.grows

@@ -12,7 +12,7 @@ use Rattle.sx_arena.specs.Arena.{tree_at}
 use Rattle.sx_arena.specs.Binds.{env_at}
 use Rattle.sx_derive.specs.declared.store.Store.{Store}
 use Rattle.sx_derive.specs.Store.{store_trees, store_envs}
-use Rattle.sx_arena.specs.Views.{rules_of, modes_of, rule_of, premise_of, judgement_of}
+use Rattle.sx_arena.specs.Views.{rules_of, set_modes, rule_of, premise_of, judgement_of}
 use Rattle.sx_arena.proofs.Patterns.{ok_weaker}
 use Rattle.sx_derive.proofs.Premised.{IsShallowPremise, shallow_premise_at, premise_get}
 use Rattle.sx_derive.proofs.Resumed.{shallow_at, sizes, waits_at, holds_at, resumed_none, resumed_more, kid_store}
@@ -27,7 +27,7 @@ fit_places-requires-clause-shallow c =
 
 pub fit_places-requires-clause-env : goal.fit_places-requires-clause-env
 fit_places-requires-clause-env c =
-    let z = sizes (modes_of c.args.given.now.rules.now) (rules_of c.args.given.now.rules.now) c.args.store.now in
+    let z = sizes (set_modes c.args.given.now.rules.now) (rules_of c.args.given.now.rules.now) c.args.store.now in
     let e = z.envs in
     let w = c.requires.frame.env in
     omega arith
@@ -46,12 +46,12 @@ pub premises-requires-clause-store : goal.premises-requires-clause-store
 premises-requires-clause-store c =
     let s = c.args.store.now in
     let t : Store = record { arena = s.arena; binds = c.fit_places.new.binds; kids = s.kids; frames = s.frames } in
-    kid_store (modes_of c.args.given.now.rules.now) (rules_of c.args.given.now.rules.now) s t (record { arena = s.arena; binds = c.fit_places.new.binds; kids = c.push_kid.new.kids; frames = s.frames }) c.args.frame c.args.head
+    kid_store (set_modes c.args.given.now.rules.now) (rules_of c.args.given.now.rules.now) s t (record { arena = s.arena; binds = c.fit_places.new.binds; kids = c.push_kid.new.kids; frames = s.frames }) c.args.frame c.args.head
     c.requires.store c.requires.frame c.requires.head c.in_ok-fit-in-Holds.ensures.grows refl refl refl refl refl c.in_ok-kids-in-Some.ensures.items refl
 
 pub premises-requires-clause-frames : goal.premises-requires-clause-frames
 premises-requires-clause-frames c =
-    let z = sizes (modes_of c.args.given.now.rules.now) (rules_of c.args.given.now.rules.now) c.args.store.now in
+    let z = sizes (set_modes c.args.given.now.rules.now) (rules_of c.args.given.now.rules.now) c.args.store.now in
     let e = z.frames in
     let w = c.requires.frame.before in
     omega arith
@@ -61,7 +61,7 @@ returns-in-None c =
     let x = waits_at _ _ c.args.store.now _ c.requires.frame _ c.rule_at-rule.ensures in
     let l = holds_at c.rule_at-rule.result.now.premises.items c.args.frame.premise _ _ _ x.1 c.index.ensures c.in-Holds.is in
     let s = c.args.store.now in
-    resumed_none (modes_of c.args.given.now.rules.now) (rules_of c.args.given.now.rules.now) _ s (record { arena = s.arena; binds = c.fit_places.new.binds; kids = s.kids; frames = s.frames }) c.args.frame (rule_of c.rule_at-rule.result.now) (judgement_of c.in-Holds.judgement) c.args.head c.args.outputs.now
+    resumed_none (set_modes c.args.given.now.rules.now) (rules_of c.args.given.now.rules.now) _ s (record { arena = s.arena; binds = c.fit_places.new.binds; kids = s.kids; frames = s.frames }) c.args.frame (rule_of c.rule_at-rule.result.now) (judgement_of c.in-Holds.judgement) c.args.head c.args.outputs.now
     c.requires.store c.requires.pairs c.requires.frame c.rule_at-rule.ensures l.1 c.requires.head c.in_ok-fit-in-Holds.ensures.grows refl refl refl
     ((λ i. match_all (selected (sym c.new-side.ensures.outputs i) (sym c.new-side.ensures.roles i) (map tree (sym c.new-side.ensures.places i))) (map (tree_at (store_trees s)) c.args.outputs.now) (env_at (store_envs s) c.args.frame.env))
     ∙ (rw c.in-None.is at c.in_ok-fit-in-Holds.ensures.fit))
@@ -72,7 +72,7 @@ returns-in_ok-kids-in-Some c =
     let l = holds_at c.rule_at-rule.result.now.premises.items c.args.frame.premise _ _ _ x.1 c.index.ensures c.in-Holds.is in
     let s = c.args.store.now in
     let f = rw c.in-Some.is at c.in_ok-fit-in-Holds.ensures.fit in
-    ok_weaker _ _ (λ step p. resumed_more (modes_of c.args.given.now.rules.now) (rules_of c.args.given.now.rules.now) _ s (record { arena = s.arena; binds = c.fit_places.new.binds; kids = s.kids; frames = s.frames }) c.args.frame (rule_of c.rule_at-rule.result.now) (judgement_of c.in-Holds.judgement) c.args.head c.args.outputs.now
+    ok_weaker _ _ (λ step p. resumed_more (set_modes c.args.given.now.rules.now) (rules_of c.args.given.now.rules.now) _ s (record { arena = s.arena; binds = c.fit_places.new.binds; kids = s.kids; frames = s.frames }) c.args.frame (rule_of c.rule_at-rule.result.now) (judgement_of c.in-Holds.judgement) c.args.head c.args.outputs.now
     c.requires.store c.requires.pairs c.requires.frame c.rule_at-rule.ensures l.1 c.requires.head c.in_ok-fit-in-Holds.ensures.grows refl refl refl
     (record { arena = s.arena; binds = c.fit_places.new.binds; kids = c.push_kid.new.kids; frames = s.frames }) c.premises.new.store c.in-Some.env _ step f.0
     ((λ i. match_all (selected (sym c.new-side.ensures.outputs i) (sym c.new-side.ensures.roles i) (map tree (sym c.new-side.ensures.places i))) (map (tree_at (store_trees s)) c.args.outputs.now) (env_at (store_envs s) c.args.frame.env)) ∙ f.1)

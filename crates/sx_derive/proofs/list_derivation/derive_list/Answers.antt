@@ -1,14 +1,14 @@
 use Rattle.sx_rules.specs.Views.{goal as goal_of, hypotheses}
-use Rattle.sx_arena.specs.Views.{rules_of, modes_of}
+use Rattle.sx_arena.specs.Views.{rules_of, set_modes}
 use Rattle.sx_derive.specs.Listing.{SaysList}
-use Rattle.sx_derive.specs.Ways.{subjects_of}
+use Rattle.sx_derive.specs.Ways.{subject_modes}
 use Rattle.sx_derive.proofs.Told.{told_list, told_none}
 use Rattle.sx_derive.proofs.list_derivation.derive_list.Goals as goal
 
 pub returns-in-Ok-clause-first : goal.returns-in-Ok-clause-first
 returns-in-Ok-clause-first g c =
-    told_list (modes_of c.args.rules.now) (subjects_of c.args.rules.now) (rules_of c.args.rules.now) (hypotheses c.args.given.now) c.facts.ensures.moded (goal_of c.args.goal.now) _ c.args.budget c.answer_list.result (c.answer_list.ensures _ c.in-Ok.ensures.1)
+    told_list (set_modes c.args.rules.now) (subject_modes c.args.rules.now) (rules_of c.args.rules.now) (hypotheses c.args.given.now) c.facts.ensures.moded (goal_of c.args.goal.now) _ c.args.budget c.answer_list.result (c.answer_list.ensures _ c.in-Ok.ensures.1)
 
 pub returns-in-Ok-clause-none : goal.returns-in-Ok-clause-none
 returns-in-Ok-clause-none g c =
-    told_none (modes_of c.args.rules.now) (subjects_of c.args.rules.now) (rules_of c.args.rules.now) (hypotheses c.args.given.now) c.facts.ensures.moded (goal_of c.args.goal.now) _ c.args.budget SaysList c.answer_list.result (c.answer_list.ensures _ c.in-Ok.ensures.1)
+    told_none (set_modes c.args.rules.now) (subject_modes c.args.rules.now) (rules_of c.args.rules.now) (hypotheses c.args.given.now) c.facts.ensures.moded (goal_of c.args.goal.now) _ c.args.budget SaysList c.answer_list.result (c.answer_list.ensures _ c.in-Ok.ensures.1)

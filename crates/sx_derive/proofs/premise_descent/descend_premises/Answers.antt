@@ -1,6 +1,6 @@
 use Rattle.std.proofs.Common.{[], refl, sym, ◌∙◌, subst, length, ◌+◌, ◌<◌, arith}
 use Rattle.sx_arena.specs.Binds.{env_at}
-use Rattle.sx_arena.specs.Views.{rule_of, rules_of, modes_of, judgement_of}
+use Rattle.sx_arena.specs.Views.{rule_of, rules_of, set_modes, judgement_of}
 use Rattle.sx_arena.proofs.Sameness.{nat_same}
 use Rattle.sx_derive.specs.Asking.{asked_events, IsAnswered}
 use Rattle.sx_derive.specs.Descents.{spot_goal, PremisesLead, IsDescent}
@@ -8,7 +8,7 @@ use Rattle.sx_derive.specs.Quiet.{first_given}
 use Rattle.sx_derive.specs.Store.{store_envs}
 use Rattle.sx_derive.specs.declared.descent.Descent.{Descent}
 use Rattle.sx_derive.specs.declared.descent.Descent.TheVariants.{Below}
-use Rattle.sx_derive.specs.Ways.{subjects_of}
+use Rattle.sx_derive.specs.Ways.{subject_modes}
 use Rattle.sx_derive.proofs.Stored.{grows_same, grows_then}
 use Rattle.sx_derive.proofs.Premised.{IsShallowPremise, shallow_premise_at, drop_premise, drop_premises_end}
 use Rattle.sx_derive.proofs.Descended.{hyps_stay, for_hyps, descending_as, descending_at, apart_grown, apart_fails, apart_holds, ask_facts, ask_quiet, ask_silent, answered_below, answered_differs, answered_matched, end_grown, end_stuck}
@@ -29,7 +29,7 @@ instances_apart-requires-clause-second c =
 
 pub instances_apart-requires-clause-pairs : goal.instances_apart-requires-clause-pairs
 instances_apart-requires-clause-pairs c =
-    let m = modes_of c.args.given.now.rules.now in
+    let m = set_modes c.args.given.now.rules.now in
     let rs = rules_of c.args.given.now.rules.now in
     let s = c.args.store.now in
     let x = c.loop-k.invariant.0 in
@@ -38,8 +38,8 @@ instances_apart-requires-clause-pairs c =
 
 pub returns-then-not-branch-clause-grows : goal.returns-then-not-branch-clause-grows
 returns-then-not-branch-clause-grows c =
-    let m = modes_of c.args.given.now.rules.now in
-    let su = subjects_of c.args.given.now.rules.now in
+    let m = set_modes c.args.given.now.rules.now in
+    let su = subject_modes c.args.given.now.rules.now in
     let rs = rules_of c.args.given.now.rules.now in
     let r = rule_of c.args.candidate.now.rule.now in
     let s = c.args.store.now in
@@ -50,8 +50,8 @@ returns-then-not-branch-clause-grows c =
 
 pub returns-then-not-branch-clause-descent : goal.returns-then-not-branch-clause-descent
 returns-then-not-branch-clause-descent c =
-    let m = modes_of c.args.given.now.rules.now in
-    let su = subjects_of c.args.given.now.rules.now in
+    let m = set_modes c.args.given.now.rules.now in
+    let su = subject_modes c.args.given.now.rules.now in
     let rs = rules_of c.args.given.now.rules.now in
     let r = rule_of c.args.candidate.now.rule.now in
     let s = c.args.store.now in
@@ -65,8 +65,8 @@ returns-then-not-branch-clause-descent c =
 
 pub ask_known-requires-clause-facts : goal.ask_known-requires-clause-facts
 ask_known-requires-clause-facts c =
-    let m = modes_of c.args.given.now.rules.now in
-    let su = subjects_of c.args.given.now.rules.now in
+    let m = set_modes c.args.given.now.rules.now in
+    let su = subject_modes c.args.given.now.rules.now in
     let rs = rules_of c.args.given.now.rules.now in
     let r = rule_of c.args.candidate.now.rule.now in
     let s = c.args.store.now in
@@ -77,7 +77,7 @@ ask_known-requires-clause-facts c =
 
 pub ask_known-requires-clause-pairs : goal.ask_known-requires-clause-pairs
 ask_known-requires-clause-pairs c =
-    let m = modes_of c.args.given.now.rules.now in
+    let m = set_modes c.args.given.now.rules.now in
     let rs = rules_of c.args.given.now.rules.now in
     let s = c.args.store.now in
     let x = c.loop-k.invariant.0 in
@@ -92,8 +92,8 @@ ask_known-requires-clause-shallow c =
 
 pub ask_known-requires-clause-quiet : goal.ask_known-requires-clause-quiet
 ask_known-requires-clause-quiet c =
-    let m = modes_of c.args.given.now.rules.now in
-    let su = subjects_of c.args.given.now.rules.now in
+    let m = set_modes c.args.given.now.rules.now in
+    let su = subject_modes c.args.given.now.rules.now in
     let rs = rules_of c.args.given.now.rules.now in
     let r = rule_of c.args.candidate.now.rule.now in
     let s = c.args.store.now in
@@ -104,8 +104,8 @@ ask_known-requires-clause-quiet c =
 
 pub ask_known-requires-clause-silent : goal.ask_known-requires-clause-silent
 ask_known-requires-clause-silent c =
-    let m = modes_of c.args.given.now.rules.now in
-    let su = subjects_of c.args.given.now.rules.now in
+    let m = set_modes c.args.given.now.rules.now in
+    let su = subject_modes c.args.given.now.rules.now in
     let rs = rules_of c.args.given.now.rules.now in
     let r = rule_of c.args.candidate.now.rule.now in
     let s = c.args.store.now in
@@ -121,8 +121,8 @@ ask_known-requires-clause-silent c =
 
 pub returns-in-Unanswered-clause-descent : goal.returns-in-Unanswered-clause-descent
 returns-in-Unanswered-clause-descent c =
-    let m = modes_of c.args.given.now.rules.now in
-    let su = subjects_of c.args.given.now.rules.now in
+    let m = set_modes c.args.given.now.rules.now in
+    let su = subject_modes c.args.given.now.rules.now in
     let rs = rules_of c.args.given.now.rules.now in
     let r = rule_of c.args.candidate.now.rule.now in
     let s = c.args.store.now in
@@ -135,8 +135,8 @@ returns-in-Unanswered-clause-descent c =
 
 pub returns-in-Differs-clause-descent : goal.returns-in-Differs-clause-descent
 returns-in-Differs-clause-descent c =
-    let m = modes_of c.args.given.now.rules.now in
-    let su = subjects_of c.args.given.now.rules.now in
+    let m = set_modes c.args.given.now.rules.now in
+    let su = subject_modes c.args.given.now.rules.now in
     let rs = rules_of c.args.given.now.rules.now in
     let r = rule_of c.args.candidate.now.rule.now in
     let s = c.args.store.now in
@@ -150,8 +150,8 @@ returns-in-Differs-clause-descent c =
 
 pub loop-k-preserved : goal.loop-k-preserved
 loop-k-preserved c =
-    let m = modes_of c.args.given.now.rules.now in
-    let su = subjects_of c.args.given.now.rules.now in
+    let m = set_modes c.args.given.now.rules.now in
+    let su = subject_modes c.args.given.now.rules.now in
     let rs = rules_of c.args.given.now.rules.now in
     let r = rule_of c.args.candidate.now.rule.now in
     let s = c.args.store.now in
@@ -165,8 +165,8 @@ loop-k-preserved c =
 
 pub returns-clause-grows : goal.returns-clause-grows
 returns-clause-grows c =
-    let m = modes_of c.args.given.now.rules.now in
-    let su = subjects_of c.args.given.now.rules.now in
+    let m = set_modes c.args.given.now.rules.now in
+    let su = subject_modes c.args.given.now.rules.now in
     let rs = rules_of c.args.given.now.rules.now in
     let r = rule_of c.args.candidate.now.rule.now in
     let s = c.args.store.now in
@@ -178,8 +178,8 @@ returns-clause-grows c =
 
 pub returns-clause-descent : goal.returns-clause-descent
 returns-clause-descent c =
-    let m = modes_of c.args.given.now.rules.now in
-    let su = subjects_of c.args.given.now.rules.now in
+    let m = set_modes c.args.given.now.rules.now in
+    let su = subject_modes c.args.given.now.rules.now in
     let rs = rules_of c.args.given.now.rules.now in
     let r = rule_of c.args.candidate.now.rule.now in
     let s = c.args.store.now in
@@ -198,7 +198,7 @@ loop-k-init c =
       q.0,
       record {
         are = q.1;
-        grows = grows_same (modes_of c.args.given.now.rules.now) (rules_of c.args.given.now.rules.now) c.args.store.now c.requires.store;
+        grows = grows_same (set_modes c.args.given.now.rules.now) (rules_of c.args.given.now.rules.now) c.args.store.now c.requires.store;
         within = c.requires.env;
         quiet = q.2;
         leads = λ blame h. h;

@@ -1,5 +1,5 @@
 use Rattle.std.proofs.Common.{refl, subst, length, ◌<◌, arith}
-use Rattle.sx_arena.specs.Views.{rule_of, rules_of, modes_of}
+use Rattle.sx_arena.specs.Views.{rule_of, rules_of, set_modes}
 use Rattle.sx_arena.proofs.Growing.{extends-length}
 use Rattle.sx_arena.proofs.Patterns.{ok_weaker}
 use Rattle.sx_arena.proofs.Parted.{pairs_more_terms}
@@ -20,7 +20,7 @@ instances_apart-requires-clause-second c =
 
 pub instances_apart-requires-clause-env : goal.instances_apart-requires-clause-env
 instances_apart-requires-clause-env c =
-    let v = stays (modes_of c.args.given.now.rules.now) (rules_of c.args.given.now.rules.now) c.args.store.now c.loop-k.store c.args.from.env c.args.from.kids c.args.from.before c.loop-k.invariant.grows c.requires.env c.requires.kids c.requires.frames in
+    let v = stays (set_modes c.args.given.now.rules.now) (rules_of c.args.given.now.rules.now) c.args.store.now c.loop-k.store c.args.from.env c.args.from.kids c.args.from.before c.loop-k.invariant.grows c.requires.env c.requires.kids c.requires.frames in
     v.env_within
 
 pub instances_apart-requires-clause-pairs : goal.instances_apart-requires-clause-pairs
@@ -50,17 +50,17 @@ asked-requires-clause-waits c =
 
 pub asked-requires-clause-env : goal.asked-requires-clause-env
 asked-requires-clause-env c =
-    let v = stays (modes_of c.args.given.now.rules.now) (rules_of c.args.given.now.rules.now) c.args.store.now c.loop-k.store c.args.from.env c.args.from.kids c.args.from.before c.loop-k.invariant.grows c.requires.env c.requires.kids c.requires.frames in
+    let v = stays (set_modes c.args.given.now.rules.now) (rules_of c.args.given.now.rules.now) c.args.store.now c.loop-k.store c.args.from.env c.args.from.kids c.args.from.before c.loop-k.invariant.grows c.requires.env c.requires.kids c.requires.frames in
     v.env_within
 
 pub asked-requires-clause-kids : goal.asked-requires-clause-kids
 asked-requires-clause-kids c =
-    let v = stays (modes_of c.args.given.now.rules.now) (rules_of c.args.given.now.rules.now) c.args.store.now c.loop-k.store c.args.from.env c.args.from.kids c.args.from.before c.loop-k.invariant.grows c.requires.env c.requires.kids c.requires.frames in
+    let v = stays (set_modes c.args.given.now.rules.now) (rules_of c.args.given.now.rules.now) c.args.store.now c.loop-k.store c.args.from.env c.args.from.kids c.args.from.before c.loop-k.invariant.grows c.requires.env c.requires.kids c.requires.frames in
     v.kids_within
 
 pub asked-requires-clause-before : goal.asked-requires-clause-before
 asked-requires-clause-before c =
-    let v = stays (modes_of c.args.given.now.rules.now) (rules_of c.args.given.now.rules.now) c.args.store.now c.loop-k.store c.args.from.env c.args.from.kids c.args.from.before c.loop-k.invariant.grows c.requires.env c.requires.kids c.requires.frames in
+    let v = stays (set_modes c.args.given.now.rules.now) (rules_of c.args.given.now.rules.now) c.args.store.now c.loop-k.store c.args.from.env c.args.from.kids c.args.from.before c.loop-k.invariant.grows c.requires.env c.requires.kids c.requires.frames in
     v.frames_within
 
 pub returns-in-Holds : goal.returns-in-Holds
@@ -70,12 +70,12 @@ returns-in-Holds c =
 
 pub concluded-requires-clause-env : goal.concluded-requires-clause-env
 concluded-requires-clause-env c =
-    let v = stays (modes_of c.args.given.now.rules.now) (rules_of c.args.given.now.rules.now) c.args.store.now c.loop-k.store c.args.from.env c.args.from.kids c.args.from.before c.loop-k.invariant.grows c.requires.env c.requires.kids c.requires.frames in
+    let v = stays (set_modes c.args.given.now.rules.now) (rules_of c.args.given.now.rules.now) c.args.store.now c.loop-k.store c.args.from.env c.args.from.kids c.args.from.before c.loop-k.invariant.grows c.requires.env c.requires.kids c.requires.frames in
     v.env_within
 
 pub concluded-requires-clause-kids : goal.concluded-requires-clause-kids
 concluded-requires-clause-kids c =
-    let v = stays (modes_of c.args.given.now.rules.now) (rules_of c.args.given.now.rules.now) c.args.store.now c.loop-k.store c.args.from.env c.args.from.kids c.args.from.before c.loop-k.invariant.grows c.requires.env c.requires.kids c.requires.frames in
+    let v = stays (set_modes c.args.given.now.rules.now) (rules_of c.args.given.now.rules.now) c.args.store.now c.loop-k.store c.args.from.env c.args.from.kids c.args.from.before c.loop-k.invariant.grows c.requires.env c.requires.kids c.requires.frames in
     v.kids_within
 
 pub returns : goal.returns

@@ -4,7 +4,7 @@ use Rattle.sx_rules.specs.Views.{goal as goal_of, hypotheses}
 use Rattle.sx_derive.specs.Candidates.{AreFacts}
 use Rattle.sx_derive.specs.Store.{store_trees}
 use Rattle.sx_derive.specs.Walked.{events_in, IsWalked}
-use Rattle.sx_arena.specs.Views.{rules_of, modes_of, judgement_of}
+use Rattle.sx_arena.specs.Views.{rules_of, set_modes, judgement_of}
 use Rattle.sx_derive.proofs.Tasked.{facts_length}
 use Rattle.sx_derive.proofs.Searching.{searched_ok, searched_err}
 use Rattle.sx_derive.proofs.problem.search.Goals as goal
@@ -13,7 +13,7 @@ pub walk-requires-clause-few : goal.walk-requires-clause-few
 walk-requires-clause-few g c =
     let p = c.in-Ok.problem in
     let h = c.in-Ok.ensures in
-    let a = facts_length (modes_of c.args.rules.now) (store_trees p.store) (hypotheses c.args.given.now).judgements p.facts.items h.facts in
+    let a = facts_length (set_modes c.args.rules.now) (store_trees p.store) (hypotheses c.args.given.now).judgements p.facts.items h.facts in
     let b = length-map c.args.given.now.holds.items judgement_of in
     let d = ap length c.deref.ensures.value in
     let f = c.requires.few in
@@ -21,7 +21,7 @@ walk-requires-clause-few g c =
 
 pub returns-in-Ok-walk : goal.returns-in-Ok-walk
 returns-in-Ok-walk g c =
-    let m = modes_of c.args.rules.now in
+    let m = set_modes c.args.rules.now in
     let rs = rules_of c.args.rules.now in
     let p = c.in-Ok.problem in
     let h = c.in-Ok.ensures in
@@ -32,7 +32,7 @@ returns-in-Ok-walk g c =
 
 pub returns-in-Err-walk : goal.returns-in-Err-walk
 returns-in-Err-walk g c =
-    let m = modes_of c.args.rules.now in
+    let m = set_modes c.args.rules.now in
     let rs = rules_of c.args.rules.now in
     let p = c.in-Ok.problem in
     let h = c.in-Ok.ensures in

@@ -1,6 +1,6 @@
 use Rattle.std.proofs.Common.{◌≡◌, ℕ, suc, ◌+◌, ◌-◌, take, length, refl, ap, ◌∙◌, arith}
 use Rattle.std.specs.Vec.{vec_len}
-use Rattle.sx_arena.specs.Views.{rules_of, modes_of}
+use Rattle.sx_arena.specs.Views.{rules_of, set_modes}
 use Rattle.sx_derive.proofs.Turned.{not_less}
 use Rattle.sx_derive.proofs.Resuming.{last_here, last_dropped}
 use Rattle.sx_derive.proofs.reach.settle.Goals as goal
@@ -13,7 +13,7 @@ returns-then-is_candidate-clause-last c =
 
 pub loop-tasks-preserved-else-is_candidate : goal.loop-tasks-preserved-else-is_candidate
 loop-tasks-preserved-else-is_candidate c = λ pairs js s e.
-    let m = modes_of c.args.given.now.rules.now in
+    let m = set_modes c.args.given.now.rules.now in
     let rs = rules_of c.args.given.now.rules.now in
     let i = c.len-in-loop-tasks.result - 1 in
     let l : length c.loop-tasks.tasks.items ≡ suc i = omega arith in

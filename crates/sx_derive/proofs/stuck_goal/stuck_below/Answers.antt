@@ -1,7 +1,7 @@
 use Rattle.std.proofs.Common.{subst}
-use Rattle.sx_arena.specs.Views.{rules_of, modes_of}
+use Rattle.sx_arena.specs.Views.{rules_of, set_modes}
 use Rattle.sx_arena.proofs.Patterns.{ok_weaker}
-use Rattle.sx_derive.specs.Ways.{subjects_of}
+use Rattle.sx_derive.specs.Ways.{subject_modes}
 use Rattle.sx_derive.specs.declared.descent.Descent.TheVariants.{Stuck}
 use Rattle.sx_derive.proofs.Sunk.{sinking_first, sink_quiet, sink_descent, sink_ends, sink_goes, sunk, From}
 use Rattle.sx_derive.proofs.stuck_goal.stuck_below.Goals as goal
@@ -9,17 +9,17 @@ use Rattle.sx_derive.proofs.stuck_goal.stuck_below.Goals as goal
 pub loop-left-init : goal.loop-left-init
 loop-left-init c =
     let q = c.requires.quiet in
-    (q.0, sinking_first (modes_of c.args.given.now.rules.now) (subjects_of c.args.given.now.rules.now) (rules_of c.args.given.now.rules.now) q.0 c.args.bounds.budget c.args.bounds.levels c.args.store.now c.args.given.now.facts.now c.args.given.now.pairs.now c.args.first c.requires.store c.requires.terms q.1 q.2)
+    (q.0, sinking_first (set_modes c.args.given.now.rules.now) (subject_modes c.args.given.now.rules.now) (rules_of c.args.given.now.rules.now) q.0 c.args.bounds.budget c.args.bounds.levels c.args.store.now c.args.given.now.facts.now c.args.given.now.pairs.now c.args.first c.requires.store c.requires.terms q.1 q.2)
 
 pub descend-requires-clause-quiet : goal.descend-requires-clause-quiet
 descend-requires-clause-quiet c =
-    sink_quiet (modes_of c.args.given.now.rules.now) (subjects_of c.args.given.now.rules.now) (rules_of c.args.given.now.rules.now) c.loop-left.invariant.0 c.args.bounds.budget c.args.bounds.levels c.args.store.now c.args.given.now.facts.now c.args.given.now.pairs.now c.args.first
+    sink_quiet (set_modes c.args.given.now.rules.now) (subject_modes c.args.given.now.rules.now) (rules_of c.args.given.now.rules.now) c.loop-left.invariant.0 c.args.bounds.budget c.args.bounds.levels c.args.store.now c.args.given.now.facts.now c.args.given.now.pairs.now c.args.first
     c.loop-left.store c.loop-left.left c.loop-left.known c.loop-left.here c.loop-left-test.true c.loop-left.invariant.1
 
 pub export_blame-requires-clause-terms : goal.export_blame-requires-clause-terms
 export_blame-requires-clause-terms c =
-    let m = modes_of c.args.given.now.rules.now in
-    let su = subjects_of c.args.given.now.rules.now in
+    let m = set_modes c.args.given.now.rules.now in
+    let su = subject_modes c.args.given.now.rules.now in
     let rs = rules_of c.args.given.now.rules.now in
     let x = c.loop-left.invariant.0 in
     let f = subst (λ d. From m su rs x c.args.bounds.budget c.args.bounds.levels c.args.store.now c.args.given.now.facts.now c.args.given.now.pairs.now c.args.first c.loop-left.store c.loop-left.left c.loop-left.known c.loop-left.here c.loop-left-test.true c.loop-left.invariant.1 c.descend.new.store d) c.in-Stuck.is c.in_ok-spot.ensures.descent in
@@ -27,8 +27,8 @@ export_blame-requires-clause-terms c =
 
 pub export_blame-requires-clause-reason : goal.export_blame-requires-clause-reason
 export_blame-requires-clause-reason c =
-    let m = modes_of c.args.given.now.rules.now in
-    let su = subjects_of c.args.given.now.rules.now in
+    let m = set_modes c.args.given.now.rules.now in
+    let su = subject_modes c.args.given.now.rules.now in
     let rs = rules_of c.args.given.now.rules.now in
     let x = c.loop-left.invariant.0 in
     let f = subst (λ d. From m su rs x c.args.bounds.budget c.args.bounds.levels c.args.store.now c.args.given.now.facts.now c.args.given.now.pairs.now c.args.first c.loop-left.store c.loop-left.left c.loop-left.known c.loop-left.here c.loop-left-test.true c.loop-left.invariant.1 c.descend.new.store d) c.in-Stuck.is c.in_ok-spot.ensures.descent in
@@ -36,8 +36,8 @@ export_blame-requires-clause-reason c =
 
 pub returns-in-Stuck : goal.returns-in-Stuck
 returns-in-Stuck c =
-    let m = modes_of c.args.given.now.rules.now in
-    let su = subjects_of c.args.given.now.rules.now in
+    let m = set_modes c.args.given.now.rules.now in
+    let su = subject_modes c.args.given.now.rules.now in
     let rs = rules_of c.args.given.now.rules.now in
     let x = c.loop-left.invariant.0 in
     let f = subst (λ d. From m su rs x c.args.bounds.budget c.args.bounds.levels c.args.store.now c.args.given.now.facts.now c.args.given.now.pairs.now c.args.first c.loop-left.store c.loop-left.left c.loop-left.known c.loop-left.here c.loop-left-test.true c.loop-left.invariant.1 c.descend.new.store d) c.in-Stuck.is c.in_ok-spot.ensures.descent in
@@ -46,8 +46,8 @@ returns-in-Stuck c =
 
 pub loop-left-preserved : goal.loop-left-preserved
 loop-left-preserved c =
-    let m = modes_of c.args.given.now.rules.now in
-    let su = subjects_of c.args.given.now.rules.now in
+    let m = set_modes c.args.given.now.rules.now in
+    let su = subject_modes c.args.given.now.rules.now in
     let rs = rules_of c.args.given.now.rules.now in
     let x = c.loop-left.invariant.0 in
     let f = subst (λ d. From m su rs x c.args.bounds.budget c.args.bounds.levels c.args.store.now c.args.given.now.facts.now c.args.given.now.pairs.now c.args.first c.loop-left.store c.loop-left.left c.loop-left.known c.loop-left.here c.loop-left-test.true c.loop-left.invariant.1 c.descend.new.store d) c.in-Below.is c.in_ok-spot.ensures.descent in (
@@ -58,5 +58,5 @@ loop-left-preserved c =
 
 pub unreachable-requires : goal.unreachable-requires
 unreachable-requires c =
-    sunk (modes_of c.args.given.now.rules.now) (subjects_of c.args.given.now.rules.now) (rules_of c.args.given.now.rules.now) c.loop-left.invariant.0 c.args.bounds.budget c.args.bounds.levels c.args.store.now c.args.given.now.facts.now c.args.given.now.pairs.now c.args.first
+    sunk (set_modes c.args.given.now.rules.now) (subject_modes c.args.given.now.rules.now) (rules_of c.args.given.now.rules.now) c.loop-left.invariant.0 c.args.bounds.budget c.args.bounds.levels c.args.store.now c.args.given.now.facts.now c.args.given.now.pairs.now c.args.first
     c.loop-left.store c.loop-left.left c.loop-left.known c.loop-left.here c.loop-left-test.false c.loop-left.invariant.1

@@ -1,5 +1,5 @@
 use Rattle.std.proofs.Common.{ap, ◌∙◌}
-use Rattle.sx_derive.specs.Ways.{subject_mask}
+use Rattle.sx_rules.specs.SubjectTerms.{subject_mask}
 use Rattle.sx_derive.proofs.Waying.{subjects_at, no_subjects}
 use Rattle.sx_derive.proofs.subject_way.places_of.Goals as goal
 

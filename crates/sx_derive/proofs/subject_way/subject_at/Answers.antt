@@ -1,6 +1,6 @@
 use Rattle.std.proofs.Common.{sym}
 use Rattle.sx_arena.proofs.Placed.{get_at}
-use Rattle.sx_derive.specs.Ways.{subject_mask}
+use Rattle.sx_rules.specs.SubjectTerms.{subject_mask}
 use Rattle.sx_derive.proofs.Waying.{subject_found, subject_later, subject_none}
 use Rattle.sx_derive.proofs.subject_way.subject_at.Goals as goal
 

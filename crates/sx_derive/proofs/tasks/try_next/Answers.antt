@@ -1,5 +1,5 @@
 use Rattle.std.proofs.Common.{◌≡◌, ◌+◌, ◌-◌, ◌<◌, length, arith}
-use Rattle.sx_arena.specs.Views.{rules_of, modes_of}
+use Rattle.sx_arena.specs.Views.{rules_of, set_modes}
 use Rattle.sx_derive.specs.Store.{store_trees}
 use Rattle.sx_arena.proofs.Patterns.{ok_weaker}
 use Rattle.sx_derive.proofs.Tasked.{fact_at, facts_length, given_is_next, rule_is_next, rule_there}
@@ -13,7 +13,7 @@ try_given-requires-clause-fact c =
 
 pub returns-then-task-given : goal.returns-then-task-given
 returns-then-task-given c =
-    let m = modes_of c.args.given.now.rules.now in
+    let m = set_modes c.args.given.now.rules.now in
     let s = c.args.store.now in
     ok_weaker _ _ (λ step h js a.
     let f = fact_at m (store_trees s) js c.args.given.now.facts.now a c.args.task.now.next c.index-given-task.result c.if-task-given.true in
@@ -23,7 +23,7 @@ returns-then-task-given c =
 
 pub returns : goal.returns
 returns c =
-    let m = modes_of c.args.given.now.rules.now in
+    let m = set_modes c.args.given.now.rules.now in
     let s = c.args.store.now in
     ok_weaker _ _ (λ step h js a.
     let r = c.args.task.now.next - length c.args.given.now.facts.now in

@@ -1,13 +1,13 @@
 use Rattle.std.proofs.Common.{◌+◌, ◌≤◌, List, length, refl, ap, ◌∙◌, arith, subst}
 use Rattle.sx_derive.specs.declared.tasks.Task.{Task}
 use Rattle.sx_derive.specs.Tasks.{events_left, TasksFit, Piled}
-use Rattle.sx_arena.specs.Views.{rules_of, modes_of}
+use Rattle.sx_arena.specs.Views.{rules_of, set_modes}
 use Rattle.sx_derive.proofs.Turned.{events_pop, fits_pop, piled_pop, not_less}
 use Rattle.sx_derive.proofs.turns.next_task.Goals as goal
 
 pub returns-then-is_candidate : goal.returns-then-is_candidate
 returns-then-is_candidate c = λ pairs js s e.
-    let m = modes_of c.args.given.now.rules.now in
+    let m = set_modes c.args.given.now.rules.now in
     let rs = rules_of c.args.given.now.rules.now in (
       c.if-is_candidate.ensures.0 refl,
       c.loop-task.invariant.same pairs js s e ∙ ap (events_left m rs pairs js s) c.in-Some.ensures.items,
@@ -17,7 +17,7 @@ returns-then-is_candidate c = λ pairs js s e.
 
 pub loop-task-preserved : goal.loop-task-preserved
 loop-task-preserved c =
-    let m = modes_of c.args.given.now.rules.now in
+    let m = set_modes c.args.given.now.rules.now in
     let rs = rules_of c.args.given.now.rules.now in
     record {
       same = λ pairs js s e.

@@ -1,6 +1,6 @@
 use Rattle.std.proofs.Common.{◌<◌, ◌++◌, ◌∷◌, [], sym, arith}
 use Rattle.sx_derive.specs.Store.{store_trees}
-use Rattle.sx_arena.specs.Views.{rules_of, modes_of}
+use Rattle.sx_arena.specs.Views.{rules_of, set_modes}
 use Rattle.sx_arena.proofs.Growing.{extends-length}
 use Rattle.sx_arena.proofs.Parted.{pairs_more_terms}
 use Rattle.sx_derive.proofs.Tasked.{facts_length}
@@ -9,30 +9,30 @@ use Rattle.sx_derive.proofs.Walking.{walking_first, facts_now, wanted_below, wal
 use Rattle.sx_derive.proofs.walk.walk_tasks.Goals as goal
 
 pub returns-then-left-eq0 : goal.returns-then-left-eq0
-returns-then-left-eq0 g c = walking_spent (modes_of c.args.given.now.rules.now) (rules_of c.args.given.now.rules.now) c.args.given.now.pairs.now c.args.given.now.facts.now c.args.wanted.now c.args.store.now c.args.budget c.args.tasks.items c.args.steps.now c.loop-task.store c.loop-task.left c.loop-task.steps c.loop-task.tasks.items c.loop-task.invariant c.in-Some.task c.next_task.new.tasks.items (λ js s e. c.in-Some.ensures c.args.given.now.pairs.now js s e) c.if-left-eq0.true
+returns-then-left-eq0 g c = walking_spent (set_modes c.args.given.now.rules.now) (rules_of c.args.given.now.rules.now) c.args.given.now.pairs.now c.args.given.now.facts.now c.args.wanted.now c.args.store.now c.args.budget c.args.tasks.items c.args.steps.now c.loop-task.store c.loop-task.left c.loop-task.steps c.loop-task.tasks.items c.loop-task.invariant c.in-Some.task c.next_task.new.tasks.items (λ js s e. c.in-Some.ensures c.args.given.now.pairs.now js s e) c.if-left-eq0.true
 
 pub turn-requires-clause-facts : goal.turn-requires-clause-facts
 turn-requires-clause-facts g c =
     let b = c.requires.facts in
-    let w = walking_cut (modes_of c.args.given.now.rules.now) (rules_of c.args.given.now.rules.now) c.args.given.now.pairs.now c.args.given.now.facts.now c.args.wanted.now c.args.store.now c.args.budget c.args.tasks.items c.args.steps.now c.loop-task.store c.loop-task.left c.loop-task.steps c.loop-task.tasks.items c.loop-task.invariant c.in-Some.task c.next_task.new.tasks.items (λ js s e. c.in-Some.ensures c.args.given.now.pairs.now js s e) c.requires.pairs c.cut.new.self c.cut.ensures b.0 b.1 in
-    (b.0, facts_now (modes_of c.args.given.now.rules.now) (rules_of c.args.given.now.rules.now) c.args.given.now.pairs.now c.args.given.now.facts.now c.args.wanted.now c.args.store.now c.args.budget c.args.tasks.items c.args.steps.now c.cut.new.self c.loop-task.left c.loop-task.steps (c.next_task.new.tasks.items ++ c.in-Some.task ∷ []) w b.0 b.1)
+    let w = walking_cut (set_modes c.args.given.now.rules.now) (rules_of c.args.given.now.rules.now) c.args.given.now.pairs.now c.args.given.now.facts.now c.args.wanted.now c.args.store.now c.args.budget c.args.tasks.items c.args.steps.now c.loop-task.store c.loop-task.left c.loop-task.steps c.loop-task.tasks.items c.loop-task.invariant c.in-Some.task c.next_task.new.tasks.items (λ js s e. c.in-Some.ensures c.args.given.now.pairs.now js s e) c.requires.pairs c.cut.new.self c.cut.ensures b.0 b.1 in
+    (b.0, facts_now (set_modes c.args.given.now.rules.now) (rules_of c.args.given.now.rules.now) c.args.given.now.pairs.now c.args.given.now.facts.now c.args.wanted.now c.args.store.now c.args.budget c.args.tasks.items c.args.steps.now c.cut.new.self c.loop-task.left c.loop-task.steps (c.next_task.new.tasks.items ++ c.in-Some.task ∷ []) w b.0 b.1)
 
 pub turn-requires-clause-pairs : goal.turn-requires-clause-pairs
 turn-requires-clause-pairs g c =
     let b = c.requires.facts in
-    let w = walking_cut (modes_of c.args.given.now.rules.now) (rules_of c.args.given.now.rules.now) c.args.given.now.pairs.now c.args.given.now.facts.now c.args.wanted.now c.args.store.now c.args.budget c.args.tasks.items c.args.steps.now c.loop-task.store c.loop-task.left c.loop-task.steps c.loop-task.tasks.items c.loop-task.invariant c.in-Some.task c.next_task.new.tasks.items (λ js s e. c.in-Some.ensures c.args.given.now.pairs.now js s e) c.requires.pairs c.cut.new.self c.cut.ensures b.0 b.1 in
+    let w = walking_cut (set_modes c.args.given.now.rules.now) (rules_of c.args.given.now.rules.now) c.args.given.now.pairs.now c.args.given.now.facts.now c.args.wanted.now c.args.store.now c.args.budget c.args.tasks.items c.args.steps.now c.loop-task.store c.loop-task.left c.loop-task.steps c.loop-task.tasks.items c.loop-task.invariant c.in-Some.task c.next_task.new.tasks.items (λ js s e. c.in-Some.ensures c.args.given.now.pairs.now js s e) c.requires.pairs c.cut.new.self c.cut.ensures b.0 b.1 in
     pairs_more_terms _ _ (extends-length _ _ w.grows.trees) _ c.requires.pairs
 
 pub turn-requires-clause-wanted : goal.turn-requires-clause-wanted
 turn-requires-clause-wanted g c =
     let b = c.requires.facts in
-    let w = walking_cut (modes_of c.args.given.now.rules.now) (rules_of c.args.given.now.rules.now) c.args.given.now.pairs.now c.args.given.now.facts.now c.args.wanted.now c.args.store.now c.args.budget c.args.tasks.items c.args.steps.now c.loop-task.store c.loop-task.left c.loop-task.steps c.loop-task.tasks.items c.loop-task.invariant c.in-Some.task c.next_task.new.tasks.items (λ js s e. c.in-Some.ensures c.args.given.now.pairs.now js s e) c.requires.pairs c.cut.new.self c.cut.ensures b.0 b.1 in
+    let w = walking_cut (set_modes c.args.given.now.rules.now) (rules_of c.args.given.now.rules.now) c.args.given.now.pairs.now c.args.given.now.facts.now c.args.wanted.now c.args.store.now c.args.budget c.args.tasks.items c.args.steps.now c.loop-task.store c.loop-task.left c.loop-task.steps c.loop-task.tasks.items c.loop-task.invariant c.in-Some.task c.next_task.new.tasks.items (λ js s e. c.in-Some.ensures c.args.given.now.pairs.now js s e) c.requires.pairs c.cut.new.self c.cut.ensures b.0 b.1 in
     wanted_below _ _ (extends-length _ _ w.grows.trees) _ c.requires.wanted
 
 pub turn-requires-clause-task : goal.turn-requires-clause-task
 turn-requires-clause-task g c =
     let b = c.requires.facts in
-    let w = walking_cut (modes_of c.args.given.now.rules.now) (rules_of c.args.given.now.rules.now) c.args.given.now.pairs.now c.args.given.now.facts.now c.args.wanted.now c.args.store.now c.args.budget c.args.tasks.items c.args.steps.now c.loop-task.store c.loop-task.left c.loop-task.steps c.loop-task.tasks.items c.loop-task.invariant c.in-Some.task c.next_task.new.tasks.items (λ js s e. c.in-Some.ensures c.args.given.now.pairs.now js s e) c.requires.pairs c.cut.new.self c.cut.ensures b.0 b.1 in
+    let w = walking_cut (set_modes c.args.given.now.rules.now) (rules_of c.args.given.now.rules.now) c.args.given.now.pairs.now c.args.given.now.facts.now c.args.wanted.now c.args.store.now c.args.budget c.args.tasks.items c.args.steps.now c.loop-task.store c.loop-task.left c.loop-task.steps c.loop-task.tasks.items c.loop-task.invariant c.in-Some.task c.next_task.new.tasks.items (λ js s e. c.in-Some.ensures c.args.given.now.pairs.now js s e) c.requires.pairs c.cut.new.self c.cut.ensures b.0 b.1 in
     (fits_pop _ _ _ c.cut.new.self c.next_task.new.tasks.items c.in-Some.task w.fits).1
 
 pub turn-requires-clause-next : goal.turn-requires-clause-next
@@ -45,38 +45,38 @@ turn-requires-clause-next g c =
 pub turn-requires-clause-tasks : goal.turn-requires-clause-tasks
 turn-requires-clause-tasks g c =
     let b = c.requires.facts in
-    let w = walking_cut (modes_of c.args.given.now.rules.now) (rules_of c.args.given.now.rules.now) c.args.given.now.pairs.now c.args.given.now.facts.now c.args.wanted.now c.args.store.now c.args.budget c.args.tasks.items c.args.steps.now c.loop-task.store c.loop-task.left c.loop-task.steps c.loop-task.tasks.items c.loop-task.invariant c.in-Some.task c.next_task.new.tasks.items (λ js s e. c.in-Some.ensures c.args.given.now.pairs.now js s e) c.requires.pairs c.cut.new.self c.cut.ensures b.0 b.1 in
+    let w = walking_cut (set_modes c.args.given.now.rules.now) (rules_of c.args.given.now.rules.now) c.args.given.now.pairs.now c.args.given.now.facts.now c.args.wanted.now c.args.store.now c.args.budget c.args.tasks.items c.args.steps.now c.loop-task.store c.loop-task.left c.loop-task.steps c.loop-task.tasks.items c.loop-task.invariant c.in-Some.task c.next_task.new.tasks.items (λ js s e. c.in-Some.ensures c.args.given.now.pairs.now js s e) c.requires.pairs c.cut.new.self c.cut.ensures b.0 b.1 in
     (fits_pop _ _ _ c.cut.new.self c.next_task.new.tasks.items c.in-Some.task w.fits).0
 
 pub returns-in-Err : goal.returns-in-Err
 returns-in-Err g c = λ js a.
     let l : 0 < c.loop-task.left = (let z = c.if-left-eq0.false in omega arith) in
-    walking_failed (modes_of c.args.given.now.rules.now) (rules_of c.args.given.now.rules.now) c.args.given.now.pairs.now c.args.given.now.facts.now c.args.wanted.now c.args.store.now c.args.budget c.args.tasks.items c.args.steps.now c.loop-task.store c.loop-task.left c.loop-task.steps c.loop-task.tasks.items c.loop-task.invariant c.in-Some.task c.next_task.new.tasks.items (λ js s e. c.in-Some.ensures c.args.given.now.pairs.now js s e) c.in-Err.e l js a c.turn.new.store c.tick.new.self c.tick.ensures
+    walking_failed (set_modes c.args.given.now.rules.now) (rules_of c.args.given.now.rules.now) c.args.given.now.pairs.now c.args.given.now.facts.now c.args.wanted.now c.args.store.now c.args.budget c.args.tasks.items c.args.steps.now c.loop-task.store c.loop-task.left c.loop-task.steps c.loop-task.tasks.items c.loop-task.invariant c.in-Some.task c.next_task.new.tasks.items (λ js s e. c.in-Some.ensures c.args.given.now.pairs.now js s e) c.in-Err.e l js a c.turn.new.store c.tick.new.self c.tick.ensures
 
 pub loop-task-preserved : goal.loop-task-preserved
 loop-task-preserved g c =
     let b = c.requires.facts in
-    let w = walking_cut (modes_of c.args.given.now.rules.now) (rules_of c.args.given.now.rules.now) c.args.given.now.pairs.now c.args.given.now.facts.now c.args.wanted.now c.args.store.now c.args.budget c.args.tasks.items c.args.steps.now c.loop-task.store c.loop-task.left c.loop-task.steps c.loop-task.tasks.items c.loop-task.invariant c.in-Some.task c.next_task.new.tasks.items (λ js s e. c.in-Some.ensures c.args.given.now.pairs.now js s e) c.requires.pairs c.cut.new.self c.cut.ensures b.0 b.1 in
+    let w = walking_cut (set_modes c.args.given.now.rules.now) (rules_of c.args.given.now.rules.now) c.args.given.now.pairs.now c.args.given.now.facts.now c.args.wanted.now c.args.store.now c.args.budget c.args.tasks.items c.args.steps.now c.loop-task.store c.loop-task.left c.loop-task.steps c.loop-task.tasks.items c.loop-task.invariant c.in-Some.task c.next_task.new.tasks.items (λ js s e. c.in-Some.ensures c.args.given.now.pairs.now js s e) c.requires.pairs c.cut.new.self c.cut.ensures b.0 b.1 in
     let n = (c.in-Some.ensures c.args.given.now.pairs.now b.0 c.loop-task.store (sym (facts_length _ (store_trees c.args.store.now) b.0 c.args.given.now.facts.now b.1))).0 in
     let l : 0 < c.loop-task.left = (let z = c.if-left-eq0.false in omega arith) in
-    walking_more (modes_of c.args.given.now.rules.now) (rules_of c.args.given.now.rules.now) c.args.given.now.pairs.now c.args.given.now.facts.now c.args.wanted.now c.args.store.now c.args.budget c.args.tasks.items c.args.steps.now c.cut.new.self c.loop-task.left c.loop-task.steps (c.next_task.new.tasks.items ++ c.in-Some.task ∷ []) w c.in-Some.task c.next_task.new.tasks.items (λ js s e. popped_same _ _ c.args.given.now.pairs.now js s _ c.next_task.new.tasks.items c.in-Some.task n) l c.requires.wanted c.turn.new.store c.turn.new.tasks.items (λ js a. rw c.in-Ok-None.field-0-is at (c.in-Ok-None.ensures js a)) b.0 b.1 c.tick.new.self c.tick.ensures
+    walking_more (set_modes c.args.given.now.rules.now) (rules_of c.args.given.now.rules.now) c.args.given.now.pairs.now c.args.given.now.facts.now c.args.wanted.now c.args.store.now c.args.budget c.args.tasks.items c.args.steps.now c.cut.new.self c.loop-task.left c.loop-task.steps (c.next_task.new.tasks.items ++ c.in-Some.task ∷ []) w c.in-Some.task c.next_task.new.tasks.items (λ js s e. popped_same _ _ c.args.given.now.pairs.now js s _ c.next_task.new.tasks.items c.in-Some.task n) l c.requires.wanted c.turn.new.store c.turn.new.tasks.items (λ js a. rw c.in-Ok-None.field-0-is at (c.in-Ok-None.ensures js a)) b.0 b.1 c.tick.new.self c.tick.ensures
 
 pub returns-in-Ok-Some : goal.returns-in-Ok-Some
 returns-in-Ok-Some g c = λ js a.
     let b = c.requires.facts in
-    let w = walking_cut (modes_of c.args.given.now.rules.now) (rules_of c.args.given.now.rules.now) c.args.given.now.pairs.now c.args.given.now.facts.now c.args.wanted.now c.args.store.now c.args.budget c.args.tasks.items c.args.steps.now c.loop-task.store c.loop-task.left c.loop-task.steps c.loop-task.tasks.items c.loop-task.invariant c.in-Some.task c.next_task.new.tasks.items (λ js s e. c.in-Some.ensures c.args.given.now.pairs.now js s e) c.requires.pairs c.cut.new.self c.cut.ensures b.0 b.1 in
+    let w = walking_cut (set_modes c.args.given.now.rules.now) (rules_of c.args.given.now.rules.now) c.args.given.now.pairs.now c.args.given.now.facts.now c.args.wanted.now c.args.store.now c.args.budget c.args.tasks.items c.args.steps.now c.loop-task.store c.loop-task.left c.loop-task.steps c.loop-task.tasks.items c.loop-task.invariant c.in-Some.task c.next_task.new.tasks.items (λ js s e. c.in-Some.ensures c.args.given.now.pairs.now js s e) c.requires.pairs c.cut.new.self c.cut.ensures b.0 b.1 in
     let n = (c.in-Some.ensures c.args.given.now.pairs.now b.0 c.loop-task.store (sym (facts_length _ (store_trees c.args.store.now) b.0 c.args.given.now.facts.now b.1))).0 in
     let l : 0 < c.loop-task.left = (let z = c.if-left-eq0.false in omega arith) in
-    walking_ends (modes_of c.args.given.now.rules.now) (rules_of c.args.given.now.rules.now) c.args.given.now.pairs.now c.args.given.now.facts.now c.args.wanted.now c.args.store.now c.args.budget c.args.tasks.items c.args.steps.now c.cut.new.self c.loop-task.left c.loop-task.steps (c.next_task.new.tasks.items ++ c.in-Some.task ∷ []) w c.in-Some.task c.next_task.new.tasks.items (λ js s e. popped_same _ _ c.args.given.now.pairs.now js s _ c.next_task.new.tasks.items c.in-Some.task n) l c.requires.wanted c.turn.new.store c.turn.new.tasks.items c.in-Ok-Some.ending (λ ks b. rw c.in-Ok-Some.field-0-is at (c.in-Ok-Some.ensures ks b)) c.tick.new.self c.tick.ensures js a
+    walking_ends (set_modes c.args.given.now.rules.now) (rules_of c.args.given.now.rules.now) c.args.given.now.pairs.now c.args.given.now.facts.now c.args.wanted.now c.args.store.now c.args.budget c.args.tasks.items c.args.steps.now c.cut.new.self c.loop-task.left c.loop-task.steps (c.next_task.new.tasks.items ++ c.in-Some.task ∷ []) w c.in-Some.task c.next_task.new.tasks.items (λ js s e. popped_same _ _ c.args.given.now.pairs.now js s _ c.next_task.new.tasks.items c.in-Some.task n) l c.requires.wanted c.turn.new.store c.turn.new.tasks.items c.in-Ok-Some.ending (λ ks b. rw c.in-Ok-Some.field-0-is at (c.in-Ok-Some.ensures ks b)) c.tick.new.self c.tick.ensures js a
 
 pub returns : goal.returns
-returns g c = λ js a. walking_end (modes_of c.args.given.now.rules.now) (rules_of c.args.given.now.rules.now) c.args.given.now.pairs.now c.args.given.now.facts.now c.args.wanted.now c.args.store.now c.args.budget c.args.tasks.items c.args.steps.now c.loop-task.store c.loop-task.left c.loop-task.steps c.loop-task.tasks.items c.loop-task.invariant c.next_task.new.tasks.items (λ ks s e. c.in_default.ensures c.args.given.now.pairs.now ks s e) js a
+returns g c = λ js a. walking_end (set_modes c.args.given.now.rules.now) (rules_of c.args.given.now.rules.now) c.args.given.now.pairs.now c.args.given.now.facts.now c.args.wanted.now c.args.store.now c.args.budget c.args.tasks.items c.args.steps.now c.loop-task.store c.loop-task.left c.loop-task.steps c.loop-task.tasks.items c.loop-task.invariant c.next_task.new.tasks.items (λ ks s e. c.in_default.ensures c.args.given.now.pairs.now ks s e) js a
 
 pub turn-requires-clause-store : goal.turn-requires-clause-store
 turn-requires-clause-store g c =
     let b = c.requires.facts in
-    let w = walking_cut (modes_of c.args.given.now.rules.now) (rules_of c.args.given.now.rules.now) c.args.given.now.pairs.now c.args.given.now.facts.now c.args.wanted.now c.args.store.now c.args.budget c.args.tasks.items c.args.steps.now c.loop-task.store c.loop-task.left c.loop-task.steps c.loop-task.tasks.items c.loop-task.invariant c.in-Some.task c.next_task.new.tasks.items (λ js s e. c.in-Some.ensures c.args.given.now.pairs.now js s e) c.requires.pairs c.cut.new.self c.cut.ensures b.0 b.1 in
+    let w = walking_cut (set_modes c.args.given.now.rules.now) (rules_of c.args.given.now.rules.now) c.args.given.now.pairs.now c.args.given.now.facts.now c.args.wanted.now c.args.store.now c.args.budget c.args.tasks.items c.args.steps.now c.loop-task.store c.loop-task.left c.loop-task.steps c.loop-task.tasks.items c.loop-task.invariant c.in-Some.task c.next_task.new.tasks.items (λ js s e. c.in-Some.ensures c.args.given.now.pairs.now js s e) c.requires.pairs c.cut.new.self c.cut.ensures b.0 b.1 in
     w.grows.store
 
 pub loop-task-init : goal.loop-task-init
-loop-task-init g c = walking_first (modes_of c.args.given.now.rules.now) (rules_of c.args.given.now.rules.now) c.args.given.now.pairs.now c.args.given.now.facts.now c.args.wanted.now c.args.store.now c.args.budget c.args.tasks.items c.args.steps.now c.requires.store c.requires.tasks
+loop-task-init g c = walking_first (set_modes c.args.given.now.rules.now) (rules_of c.args.given.now.rules.now) c.args.given.now.pairs.now c.args.given.now.facts.now c.args.wanted.now c.args.store.now c.args.budget c.args.tasks.items c.args.steps.now c.requires.store c.requires.tasks

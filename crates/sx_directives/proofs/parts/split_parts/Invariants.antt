@@ -1,5 +1,6 @@
 use Rattle.std.proofs.Common.{◌≡◌, ◌++◌, length}
-use Rattle.sx_directives.specs.Parts.{parts_of, texts}
+use Rattle.sx_directives.specs.Parts.{parts_of}
+use Rattle.sx_grammar.specs.Parts.{texts}
 use Rattle.sx_directives.proofs.parts.split_parts.Given as goal
 
 abbrev pub invariant-loop-part : goal.invariant-loop-part

@@ -1,4 +1,4 @@
-use Rattle.sx_directives.specs.Parts.{texts}
+use Rattle.sx_grammar.specs.Parts.{texts}
 use Rattle.sx_directives.proofs.KeywordLaws.{no_prod, no_var}
 use Rattle.sx_directives.proofs.reading.directive_of.Goals as goal
 

@@ -1,5 +1,6 @@
 use Rattle.std.proofs.Common.{◌≡◌, sym, ap, ◌∙◌}
-use Rattle.sx_directives.specs.Parts.{parts_of, texts}
+use Rattle.sx_directives.specs.Parts.{parts_of}
+use Rattle.sx_grammar.specs.Parts.{texts}
 use Rattle.sx_directives.proofs.reading.read_row.Goals as goal
 
 pub returns : goal.returns

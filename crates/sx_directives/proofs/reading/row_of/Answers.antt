@@ -1,4 +1,4 @@
-use Rattle.sx_directives.specs.Parts.{texts}
+use Rattle.sx_grammar.specs.Parts.{texts}
 use Rattle.sx_directives.proofs.BodyLaws.{no_to}
 use Rattle.sx_directives.proofs.reading.row_of.Goals as goal
 

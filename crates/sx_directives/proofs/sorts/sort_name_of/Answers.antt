@@ -1,9 +1,10 @@
 use Rattle.std.proofs.Common.{◌≡◌, ℕ, List, true, false, sym, ◌∙◌, subst}
-use Rattle.std.specs.Prelude.{Option, Some, None, is_some, MatchOption, Result, Ok, Err, MatchResult}
+use Rattle.std.specs.Prelude.{Option, Some, None, is_some, MatchOption, Result, Ok, Err}
+use Rattle.std.specs.Prelude.{MatchResult}
 use Rattle.std.proofs.lemmas.Bool.{false≢true}
 use Rattle.sx_term.specs.declared.lex_kind.LexKind.{LexKind}
 use Rattle.sx_directives.specs.declared.row_error.RowError.{RowError}
-use Rattle.sx_directives.specs.Spelling.{lex_text, NotLexical, IsNamed, IsSortName, NoneIs}
+use Rattle.sx_directives.specs.Spelling.{lex_text, NotLexical, IsSpelledName, IsSortName, NoneIs}
 use Rattle.sx_directives.proofs.SpellingLaws.{none_of}
 use Rattle.sx_directives.proofs.sorts.sort_name_of.Goals as goal
 
@@ -21,11 +22,11 @@ not_lexical part None none is = is
 not_lexical part (Some kind) none is = absurd (false≢true (sym none))
 
 named_sort : (part : List ℕ) (r : Result (List ℕ) RowError) → NotLexical part →
-    MatchResult r (IsNamed part) (NoneIs (IsNamed part)) →
+    MatchResult r (IsSpelledName part) (NoneIs (IsSpelledName part)) →
     MatchResult r (IsSortName part) (NoneIs (IsSortName part))
 named_sort part (Ok name) free is = (is, subst NotLexical is.0 free)
 named_sort part (Err e) free none =
-    none_of (IsNamed part) (IsSortName part) e (λ name named. (name, named.0)) none
+    none_of (IsSpelledName part) (IsSortName part) e (λ name named. (name, named.0)) none
 
 pub returns-then-is_some : goal.returns-then-is_some
 returns-then-is_some c =

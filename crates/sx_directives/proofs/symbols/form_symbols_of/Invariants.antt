@@ -1,5 +1,5 @@
 use Rattle.std.proofs.Common.{take}
-use Rattle.sx_directives.specs.Parts.{texts}
+use Rattle.sx_grammar.specs.Parts.{texts}
 use Rattle.sx_directives.specs.Spelling.{SpellsForm, EachSpelled}
 use Rattle.sx_directives.proofs.symbols.form_symbols_of.Given as goal
 

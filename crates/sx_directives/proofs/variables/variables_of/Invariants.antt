@@ -1,5 +1,5 @@
 use Rattle.std.proofs.Common.{take}
-use Rattle.sx_directives.specs.Parts.{texts}
+use Rattle.sx_grammar.specs.Parts.{texts}
 use Rattle.sx_directives.specs.Spelling.{IsVariable, EachSpelled}
 use Rattle.sx_directives.proofs.variables.variables_of.Given as goal
 

@@ -4,7 +4,7 @@ use Rattle.std.proofs.lemmas.List.{take_all}
 use Rattle.sx_earley.specs.declared.chart_error.ChartError.TheVariants.{TooHard}
 use Rattle.sx_earley.specs.Shown.{plain, tokens_of}
 use Rattle.sx_earley.specs.Chart.{Treated, beginning}
-use Rattle.sx_earley.specs.Dotted.{IsNext, WaitsFor}
+use Rattle.sx_earley.specs.Dotted.{IsNextSymbol, WaitsFor}
 use Rattle.sx_earley.specs.Keys.{IsKeyed}
 use Rattle.sx_earley.proofs.Counting.{no_more_hold}
 use Rattle.sx_earley.proofs.Growth.{still_there, longer}
@@ -42,7 +42,7 @@ loop-item-preserved c =
     let at : slice_get old c.loop-item.next ≡ Some item = sym c.in-Some.ensures in
     let ks = c.loop-item.notes.filed in let more = c.file.new.self in
     let before = c.before_key.result in let filling = c.filling_key.result in
-    let next : IsNext c.args.grammar.now item c.symbol_of-symbol.result = record { is = c.symbol_of-symbol.ensures.is; below = c.symbol_of-symbol.ensures.below; small = c.symbol_of-symbol.ensures.small } in
+    let next : IsNextSymbol c.args.grammar.now item c.symbol_of-symbol.result = record { is = c.symbol_of-symbol.ensures.is; below = c.symbol_of-symbol.ensures.below; small = c.symbol_of-symbol.ensures.small } in
     let waits : WaitsFor g item c.part_of-part.result = waits_for c.args.grammar.now item c.symbol_of-symbol.result _ next c.part_of-part.ensures in
     let turn : Turn g ts c.args.start old c.loop-item.next item ks more before filling = record {
       at = at;
@@ -104,7 +104,7 @@ returns-in-Err-treat-clause-hard c = λ e.
     let at : slice_get old c.loop-item.next ≡ Some item = sym c.in-Some.ensures in
     let ks = c.loop-item.notes.filed in let more = c.file.new.self in
     let before = c.before_key.result in let filling = c.filling_key.result in
-    let next : IsNext c.args.grammar.now item c.symbol_of-symbol.result = record { is = c.symbol_of-symbol.ensures.is; below = c.symbol_of-symbol.ensures.below; small = c.symbol_of-symbol.ensures.small } in
+    let next : IsNextSymbol c.args.grammar.now item c.symbol_of-symbol.result = record { is = c.symbol_of-symbol.ensures.is; below = c.symbol_of-symbol.ensures.below; small = c.symbol_of-symbol.ensures.small } in
     let waits : WaitsFor g item c.part_of-part.result = waits_for c.args.grammar.now item c.symbol_of-symbol.result _ next c.part_of-part.ensures in
     let turn : Turn g ts c.args.start old c.loop-item.next item ks more before filling = record {
       at = at;

@@ -3,12 +3,12 @@ use Rattle.std.specs.Prelude.{IfOk, Err}
 use Rattle.sx_grammar.specs.Tables.{GrammarData}
 use Rattle.sx_grammar.specs.ReadOne.{MoreHold, IsGreatestEnd}
 use Rattle.sx_earley.specs.declared.chart_error.ChartError.TheVariants.{TooHard}
-use Rattle.sx_earley.specs.Shown.{plain, texts, tokens_of, AreBelow}
+use Rattle.sx_earley.specs.Shown.{plain, literal_texts, tokens_of, ShownBelow}
 use Rattle.sx_earley.specs.Completed.{IsChart}
 use Rattle.sx_earley.proofs.charting.chart_of.Goals as goal
 
 pub chart_by-requires-clause-below : goal.chart_by-requires-clause-below
-chart_by-requires-clause-below c = subst (λ (d : GrammarData). AreBelow (length (texts d)) c.args.shown.now) (sym c.by.view_is) c.requires.below
+chart_by-requires-clause-below c = subst (λ (d : GrammarData). ShownBelow (length (literal_texts d)) c.args.shown.now) (sym c.by.view_is) c.requires.below
 
 pub returns-clause-spans : goal.returns-clause-spans
 returns-clause-spans c =

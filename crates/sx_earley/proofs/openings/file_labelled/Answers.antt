@@ -3,7 +3,7 @@ use Rattle.std.proofs.lemmas.List.{length-map}
 use Rattle.sx_grammar.specs.Grammar.{production_of}
 use Rattle.sx_grammar.specs.Numbered.{production}
 use Rattle.sx_grammar.specs.declared.head.Head.TheVariants.{Labelled}
-use Rattle.sx_earley.specs.Shown.{plain, texts}
+use Rattle.sx_earley.specs.Shown.{plain, literal_texts}
 use Rattle.sx_earley.specs.Table.{row_at}
 use Rattle.sx_earley.specs.Chart.{IsOfSort, beginning}
 use Rattle.sx_earley.proofs.Opening.{label_within}
@@ -20,5 +20,5 @@ pub returns : goal.returns
 returns c = λ label sort least is.
     let g = plain c.args.grammar.now in
     let low = label_within g label sort least is in
-    let same : length g.productions ≡ length c.productions-productions.result.now = ap length (sym c.productions-productions.ensures.same) ∙ length-map c.productions-productions.result.now (production (texts c.args.grammar.now)) in
+    let same : length g.productions ≡ length c.productions-productions.result.now = ap length (sym c.productions-productions.ensures.same) ∙ length-map c.productions-productions.result.now (production (literal_texts c.args.grammar.now)) in
     c.loop-label.invariant label (omega arith) sort least is

@@ -6,7 +6,7 @@ use Rattle.sx_interface.specs.InterfaceView.{interface_view}
 use Rattle.sx_notation.proofs.TextReading.{err_if}
 use Rattle.sx_interface.specs.declared.import.Import.{Import}
 use Rattle.sx_environment.specs.Environments.{IsEnvironment, empty_environment}
-use Rattle.sx_environment.specs.ImportErrors.{HasNone}
+use Rattle.sx_environment.specs.ImportErrors.{HasNoEnvironment}
 use Rattle.sx_environment.specs.SeenFrom.{IsShort, interfaces_of, seen_from}
 use Rattle.sx_environment.proofs.EnvironmentTerms.{empty_is_sorted, added_are_sorted}
 use Rattle.sx_environment.proofs.Lists.{one_more, split_at, as_many, holds_at}
@@ -34,7 +34,7 @@ returns-in_err-environment-clause-refused c =
     let its = c.args.imports.now in
     let i = c.loop-i.i in
     let x = c.index-imports-i.result in
-    let P = HasNone s (interfaces_of its) in
+    let P = HasNoEnvironment s (interfaces_of its) in
     err_if c.from_residual.result _ P c.from_residual.ensures.1
     (λ e is. subst P (sym is)
     (refused_behind s (interfaces_of its) (interfaces_of (take i its)) (view x)

@@ -9,7 +9,7 @@ use Rattle.sx_rules.specs.declared.entry.Entry.TheVariants.{Rule, Given}
 use Rattle.sx_rules.proofs.ProofRows.{height_of-kid}
 use Rattle.sx_expand.specs.Listed.{set_in, entries_in, StandsIn, StandInEach}
 use Rattle.sx_expand.specs.LoweredOrders.{lowered_orders, grafted_order, all_entries}
-use Rattle.sx_expand.specs.Steps.{AreFrom}
+use Rattle.sx_expand.specs.Steps.{AreNotBelow}
 use Rattle.sx_expand.proofs.EndsAt.{listed-within}
 use Rattle.sx_expand.proofs.Rows.{head-is}
 use Rattle.sx_expand.proofs.Emitting.{entries-push, entries-one, rule-at, checked-is, basic-is, given-is, Writing, writing-more, writing-last, placed-at, never-placed, left-from, left-at, grafted-opens, grafted-on}
@@ -39,7 +39,7 @@ emit-emit_certificate-requires t c =
     let s = rule-at (set_in c.args.listing.now) c.args.listing.now.list.now c.args.listing.now.ends.now c.requires.ends c.args.at c.entry_at.result c.entry_at.ensures c.in-Rule.number c.in-Rule.is c.requires.stands.0 c.requires.stands.1 in
     let each = c.in_ok-places-in-Some.ensures.stand s.kids s.up.row (s.up.sum ∙ sym c.number_at-end.ensures) in
     let v = c.deref.ensures.value in
-    let low = left-from (length c.args.listing.now.list.now) (c.args.at + 1) c.deref.result.now (subst (AreFrom (c.args.at + 1)) (sym v) c.in_ok-places-in-Some.ensures.after) in
+    let low = left-from (length c.args.listing.now.list.now) (c.args.at + 1) c.deref.result.now (subst (AreNotBelow (c.args.at + 1)) (sym v) c.in_ok-places-in-Some.ensures.after) in
     let h = c.in-Some.ensures.shallow.0 in
     (search rules, (c.requires.ends, (h, (s.kids, subst (λ (is : List ℕ). StandInEach c.args.listing.now is s.kids) (sym v) each))))
 

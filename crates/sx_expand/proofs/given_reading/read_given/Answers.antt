@@ -9,7 +9,7 @@ use Rattle.sx_rules.specs.Rules.{Judgement}
 use Rattle.sx_rules.specs.Sets.{forms_in}
 use Rattle.sx_rules.specs.Views.{judgement, subjects_in}
 use Rattle.sx_arena.specs.Arena.{trees}
-use Rattle.sx_arena.specs.Views.{mask_of, modes_of}
+use Rattle.sx_arena.specs.Views.{mask_of, set_modes}
 use Rattle.sx_arena.proofs.Arenas.{maps_same, below_more}
 use Rattle.sx_arena.proofs.Growing.{extends-length}
 use Rattle.sx_expand.specs.KidSubjects.{IsSubjectAt}
@@ -55,7 +55,7 @@ returns-in-Ok-clause-outputs c = λ j at.
     let it = judgement c.given_at-it.result.now in
     let held = c.in_ok-outputs.ensures in
     let modes = (signature_by c.args.reading.now).modes in
-    let mask = c.roles.ensures ∙ ap (λ (s : RuleSet). modes_of s it.form) c.base_rules-base.ensures in
+    let mask = c.roles.ensures ∙ ap (λ (s : RuleSet). set_modes s it.form) c.base_rules-base.ensures in
     maps_same (trees c.enter_places.new.arena) (trees c.given_subject.new.arena)
     c.in-Ok.ensures.arena.1 c.in_ok-outputs.outputs.items held.within
     ∙ held.are

@@ -1,6 +1,6 @@
 use Rattle.std.proofs.Common.{ℕ, ◌-◌, ◌<◌, sym, subst, arith}
 use Rattle.sx_expand.specs.Listed.{set_in, entries_in}
-use Rattle.sx_expand.specs.Steps.{AreFrom}
+use Rattle.sx_expand.specs.Steps.{AreNotBelow}
 use Rattle.sx_expand.proofs.Rows.{head-is}
 use Rattle.sx_expand.proofs.Placing.{Placing, placing-first, placing-more, placing-last, from-push}
 use Rattle.sx_expand.proofs.kid_places.kid_places.Goals as goal
@@ -8,7 +8,7 @@ use Rattle.sx_expand.proofs.kid_places.kid_places.Goals as goal
 pub loop-at-init : goal.loop-at-init
 loop-at-init c = record {
   placing = placing-first (set_in c.args.listing.now) (entries_in c.args.listing.now) c.args.first c.args.end c.new-places.result.items c.new-places.ensures.items;
-  after = subst (AreFrom c.args.first) (sym c.new-places.ensures.items) tt;
+  after = subst (AreNotBelow c.args.first) (sym c.new-places.ensures.items) tt;
   on = omega arith;
 }
 

@@ -2,7 +2,7 @@ use Rattle.std.proofs.Common.{ap, ◌∙◌}
 use Rattle.std.proofs.lemmas.Result.{IfOk-weaker}
 use Rattle.sx_rules.specs.Sets.{bare_rules_in}
 use Rattle.sx_rules.specs.Views.{rule, modes_of as modes_by}
-use Rattle.sx_arena.specs.Views.{modes_of}
+use Rattle.sx_arena.specs.Views.{set_modes}
 use Rattle.sx_rewrite.specs.Accepted.{extended_rules}
 use Rattle.sx_expand.specs.Followed.{bindings_of}
 use Rattle.sx_expand.specs.Readings.{set_by, signature_by, hyps_by}
@@ -32,5 +32,5 @@ returns-clause-outputs c =
     IfOk-weaker c.places_under.result _ _ (λ x h d is f.
     let same = rule-same _ _ rules_are c.args.node.now.number d.rule is.found code c.rule_at-rule.ensures in
     h.are
-    ∙ ends-concluded (signature_by l).modes (modes_of c.args.reading.now.rules.now) modes_are (extended_rules (set_by l)) (hyps_by l) c.requires.reading.rules.accepted_with.moded c.args.node.now.number d.rule code same is.found d.judgement d.binds d.kids is.can.derives env f)
+    ∙ ends-concluded (signature_by l).modes (set_modes c.args.reading.now.rules.now) modes_are (extended_rules (set_by l)) (hyps_by l) c.requires.reading.rules.accepted_with.moded c.args.node.now.number d.rule code same is.found d.judgement d.binds d.kids is.can.derives env f)
     c.places_under.ensures

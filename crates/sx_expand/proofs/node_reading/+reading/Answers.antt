@@ -14,7 +14,7 @@ use Rattle.sx_rewrite.specs.Stored.{certificate_at}
 use Rattle.sx_rewrite.proofs.Instanced.{err_is}
 use Rattle.sx_expand.specs.Listed.{set_in}
 use Rattle.sx_expand.specs.Readings.{set_by}
-use Rattle.sx_expand.specs.ReadDerivations.{AreInputs, IsRead, IsReadRefused}
+use Rattle.sx_expand.specs.ReadDerivations.{AreInputs, IsDerivationRead, IsReadRefused}
 use Rattle.sx_expand.specs.ReadNodes.{proof_by, IsNodeRead, AreRead, IsKidIn}
 use Rattle.sx_expand.specs.Readers.{terms_in}
 use Rattle.sx_expand.proofs.Bindings.{rule-same, work-stays, bindings-stay, goes-then}
@@ -236,5 +236,5 @@ read_node-returns-in_ok-read_given-in-Given-clause-read t c = λ j p can ins.
 pub read_node-returns-in_err-read_given-in-Given-clause-read : goal.read_node-returns-in_err-read_given-in-Given-clause-read
 read_node-returns-in_err-read_given-in-Given-clause-read t c = λ j p can ins.
     let l = c.args.reading.now in
-    err_is (λ r. IsRead l (terms_in c.read_given.new.reader) c.args.is_needed j p r) c.from_residual.result _ c.from_residual.ensures.1
+    err_is (λ r. IsDerivationRead l (terms_in c.read_given.new.reader) c.args.is_needed j p r) c.from_residual.result _ c.from_residual.ensures.1
     (λ e same. memory-refused l c.args.at c.args.is_needed j p can e same)

@@ -5,7 +5,7 @@ use Rattle.sx_rules.specs.ProofView.{proof}
 use Rattle.sx_term.specs.Term.{tree}
 use Rattle.sx_plain.specs.Views.{table_of}
 use Rattle.sx_extcheck.specs.CheckView.{check_of}
-use Rattle.sx_extcheck.specs.Searches.{Search, search_of, IsShallowSearch, IsSearched}
+use Rattle.sx_extcheck.specs.Searches.{Search, search_of, IsShallowSearch, IsCheckSearched}
 use Rattle.sx_extcheck.proofs.ByRules.{base-search}
 use Rattle.sx_extcheck.proofs.Checked.{base-checked, image-shallow, same-limits}
 use Rattle.sx_extcheck.proofs.Ready.{given-are-few, search-shallow, body-ready}
@@ -24,7 +24,7 @@ with_image-requires g c = body-ready c.args.checking.now c.args.ext.now c.requir
 
 pub returns-in_ok-with_image-in-Ok-clause-answer : goal.returns-in_ok-with_image-in-Ok-clause-answer
 returns-in_ok-with_image-in-Ok-clause-answer g c =
-    let h = subst (λ (s : Search). IsSearched s c.args.checking.now.budgets.tries (Ok c.in-Ok.proof))
+    let h = subst (λ (s : Search). IsCheckSearched s c.args.checking.now.budgets.tries (Ok c.in-Ok.proof))
     (ap (λ (r : RuleSet). search_of r c.args.given.now c.args.goal.now) c.base_rules-rules.ensures ∙ base-search c.args.checking.now c.args.ext.now c.args.given.now c.args.goal.now c.requires.flat c.requires.base)
     c.in-Ok.ensures.answer in
     let body = c.in_ok-with_image-in-Ok.ensures.0 in

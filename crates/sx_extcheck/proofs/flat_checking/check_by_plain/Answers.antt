@@ -7,7 +7,8 @@ use Rattle.sx_rewrite.specs.declared.flat.Flat.{Flat}
 use Rattle.sx_rewrite.specs.ExtensionView.{ext_rule}
 use Rattle.sx_extcheck.specs.Checks.{search_for}
 use Rattle.sx_extcheck.specs.CheckView.{check_of}
-use Rattle.sx_extcheck.specs.Searches.{Search, search_of, tries_in, IsShallowSearch, FindsSome, IsListSearched, AreCounted}
+use Rattle.sx_extcheck.specs.Searches.{Search, search_of, tries_in, IsShallowSearch, FindsSome}
+use Rattle.sx_extcheck.specs.Searches.{IsListSearched, AreSearchesCounted}
 use Rattle.sx_extcheck.proofs.ByRules.{plain-search}
 use Rattle.sx_extcheck.proofs.Checked.{ended-checked, counted-any, counted-as}
 use Rattle.sx_extcheck.proofs.FoundRules.{found-rule}
@@ -44,4 +45,4 @@ returns-in-Err-clause-answer g c =
 pub returns-in-Err-clause-steps : goal.returns-in-Err-clause-steps
 returns-in-Err-clause-steps g c =
     counted-as (Vec EntryOf Global) Flat (tries_in (search_for (check_of c.args.checking.now) (ext_rule c.args.ext.now)) c.args.checking.now.budgets.tries) c.args.steps.now c.find_list.new.steps c.in-Err.e
-    (subst (λ (s : Search). AreCounted {X = Vec EntryOf Global} (tries_in s c.args.checking.now.budgets.tries) c.args.steps.now c.find_list.new.steps (Err c.in-Err.e)) (ap (λ (r : RuleSet). search_of r c.args.given.now c.args.goal.now) c.plain_rules-rules.ensures ∙ plain-search c.args.checking.now c.args.ext.now c.args.given.now c.args.goal.now c.requires.flat c.facts.ensures.plain.forms_are c.facts.ensures.plain_rules c.requires.plain) c.in-Err.ensures.steps)
+    (subst (λ (s : Search). AreSearchesCounted {X = Vec EntryOf Global} (tries_in s c.args.checking.now.budgets.tries) c.args.steps.now c.find_list.new.steps (Err c.in-Err.e)) (ap (λ (r : RuleSet). search_of r c.args.given.now c.args.goal.now) c.plain_rules-rules.ensures ∙ plain-search c.args.checking.now c.args.ext.now c.args.given.now c.args.goal.now c.requires.flat c.facts.ensures.plain.forms_are c.facts.ensures.plain_rules c.requires.plain) c.in-Err.ensures.steps)

@@ -1,7 +1,7 @@
 use Rattle.std.proofs.Common.{◌≡◌, ℕ, ◌∙◌, sym, subst, length, map, arith}
 use Rattle.sx_term.specs.Shapes.{shapes}
 use Rattle.sx_plain.specs.Plain.{Table}
-use Rattle.sx_plain.specs.Tables.{IsTable, HasBodies}
+use Rattle.sx_plain.specs.Tables.{IsPlainTable, HasBodies}
 use Rattle.sx_plain.specs.Views.{table_of}
 use Rattle.sx_extension.specs.PlainBodies.{body_data}
 use Rattle.sx_extension.specs.PlainTables.{AddsAll, HasAll}
@@ -36,7 +36,7 @@ returns-in-None-clause-desugars c =
     let long : c.len.result ≡ length c.args.layers.now.before.now.cons.items = omega arith in
     let has = subst (λ (n : ℕ). HasAll all n new) (long ∙ sym (as_many c.args.layers.now.before.now.cons.items)) c.in-None.ensures in
     record {
-      is_table = subst (λ (n : ℕ). IsTable n new) (c.in_ok-table.ensures.base ∙ c.in_ok-copy.ensures.base ∙ c.requires.base) c.facts.ensures;
+      is_table = subst (λ (n : ℕ). IsPlainTable n new) (c.in_ok-table.ensures.base ∙ c.in_ok-copy.ensures.base ∙ c.requires.base) c.facts.ensures;
       bodies = c.in_ok-table.ensures.bodies;
       every = every_entry base before all old new c.requires.new c.requires.known has
           (keeps_below all (length before) c.in_ok-copy.copy.base old new bodies c.requires.bodies added);

@@ -6,7 +6,8 @@ use Rattle.sx_forest.specs.declared.step.Step.TheVariants as steps
 use Rattle.sx_forest.specs.Readings.{plain_reading, plain_readings}
 use Rattle.sx_forest.specs.Tallies.{tally_of}
 use Rattle.sx_forest.specs.Table.{IsSoundBy}
-use Rattle.sx_forest.specs.Forests.{grammar_in, tokens_in, lists_in, symbols_of, depth_in, IsReadTo, IsStep, HasKids, IsBy, IsMadeOf}
+use Rattle.sx_forest.specs.Forests.{grammar_in, tokens_in, lists_in, symbols_of, depth_in, IsReadTo}
+use Rattle.sx_forest.specs.Forests.{IsItemStep, HasKids, IsBy, IsReadingMade}
 use Rattle.sx_forest.proofs.Stepwise.{count_long}
 use Rattle.sx_forest.proofs.Singles.{kids_alone, made_alone}
 use Rattle.sx_forest.proofs.Growing.{none_behind, one_behind, twice_behind, place_low, entry_shallow, entry_less, over_literal, over_token, over_part, begun, finished, kids_are, made_as}
@@ -24,7 +25,7 @@ build-returns-then-branch t c =
     let F = c.args.forest in let e = c.args.entry in let head = c.in-By.head in let kids = plain_readings c.read_alone.new.kids.items in
     let span : Span (grammar_in F) (tokens_in F) F.start head c.args.from e.to =
     (subst (λ m. IsSoundBy (grammar_in F) (tokens_in F) F.start m c.args.from e.to (tally_of e.ways)) c.in-By.is c.requires.entry.sound).0 in
-    IfOk-weaker c.wrap.result (λ r. IsMadeOf head kids c.args.from e.to (plain_reading r))
+    IfOk-weaker c.wrap.result (λ r. IsReadingMade head kids c.args.from e.to (plain_reading r))
     (λ r. IsBy (grammar_in F) (tokens_in F) e.maker c.args.from e.to (plain_reading r))
     (λ r made. subst (λ m. IsBy (grammar_in F) (tokens_in F) m c.args.from e.to (plain_reading r)) (sym c.in-By.is)
     (made_alone (grammar_in F) (tokens_in F) F.start head c.args.from e.to span kids (plain_reading r) (c.in_ok-read_alone-in-By.ensures.yes c.if-branch.true e.to span) made))
@@ -54,7 +55,7 @@ build-returns-in_ok-extend-in-By t c =
     let F = c.args.forest in let o = c.in_ok-opened-in-By.opened in
     let same = c.in_ok-opened-in-By.ensures.same in
     let kids = plain_readings c.extend.new.kids.items in
-    IfOk-weaker c.wrap-in-By.result (λ r. IsMadeOf c.in-By.head kids c.args.from c.args.entry.to (plain_reading r))
+    IfOk-weaker c.wrap-in-By.result (λ r. IsReadingMade c.in-By.head kids c.args.from c.args.entry.to (plain_reading r))
     (λ r. IsBy (grammar_in F) (tokens_in F) c.args.entry.maker c.args.from c.args.entry.to (plain_reading r))
     (λ r made. made_as F c.requires.forest o c.in_ok-opened-in-By.ensures.opened c.in-By.head c.args.from c.args.entry.to c.args.entry.maker same.0 same.1 same.2 c.in-By.is kids (plain_reading r) c.in_ok-extend-in-By.ensures.read made)
     c.wrap-in-By.ensures
@@ -88,8 +89,8 @@ extend-returns-clause-read t c =
 pub go_over-build-requires : goal.go_over-build-requires
 go_over-build-requires t c =
     let F = c.args.forest in let o = c.args.here.opened.now in
-    let step : IsStep (grammar_in F) (tokens_in F) F.start (lists_in F) o c.args.here.dot c.args.here.place (steps.Part c.in-Part.field-0 c.in-Part.entry) =
-    subst (λ s. IsStep (grammar_in F) (tokens_in F) F.start (lists_in F) o c.args.here.dot c.args.here.place s) c.in-Part.is c.requires.step in
+    let step : IsItemStep (grammar_in F) (tokens_in F) F.start (lists_in F) o c.args.here.dot c.args.here.place (steps.Part c.in-Part.field-0 c.in-Part.entry) =
+    subst (λ s. IsItemStep (grammar_in F) (tokens_in F) F.start (lists_in F) o c.args.here.dot c.args.here.place s) c.in-Part.is c.requires.step in
     let shallow = entry_shallow F c.requires.forest o c.requires.opened c.args.here.dot c.args.here.place c.in-Part.field-0 c.in-Part.entry (plain_readings c.args.kids.now.items) c.requires.read step in
     let less = entry_less F c.requires.forest o c.requires.opened c.args.here.dot c.args.here.place c.in-Part.field-0 c.in-Part.entry (plain_readings c.args.kids.now.items) c.requires.read step in
     (search rules, (c.requires.forest, shallow))

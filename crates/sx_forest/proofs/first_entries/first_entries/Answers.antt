@@ -1,7 +1,7 @@
 use Rattle.std.proofs.Common.{◌≡◌, ⊎_elim, ◌∙◌, length, arith}
 use Rattle.std.proofs.lemmas.Bool.{cases_lt}
 use Rattle.std.proofs.lemmas.List.{length-map}
-use Rattle.sx_earley.specs.Shown.{texts, token_of, tokens_of}
+use Rattle.sx_earley.specs.Shown.{literal_texts, token_of, tokens_of}
 use Rattle.sx_forest.proofs.Filling.{first_put, first_past}
 use Rattle.sx_forest.proofs.first_entries.first_entries.Goals as goal
 
@@ -18,7 +18,7 @@ loop-place-preserved c =
 pub returns : goal.returns
 returns c = λ d.
     let so = c.loop-place.invariant in let ts = tokens_of d c.args.shown.now in
-    let long : length ts ≡ length c.args.shown.now = length-map c.args.shown.now (token_of (texts d)) in
+    let long : length ts ≡ length c.args.shown.now = length-map c.args.shown.now (token_of (literal_texts d)) in
     let end = c.loop-place-test.false in
     record {
       long = so.long;

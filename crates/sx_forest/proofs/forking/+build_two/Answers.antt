@@ -3,7 +3,9 @@ use Rattle.std.proofs.lemmas.Option.{slice_get_within}
 use Rattle.sx_grammar.specs.Grammar.{production_of, part}
 use Rattle.sx_forest.specs.Readings.{plain_reading, plain_readings}
 use Rattle.sx_forest.specs.Tallies.{tally_of}
-use Rattle.sx_forest.specs.Forests.{grammar_in, tokens_in, symbols_of, depth_in, one_of, other_of, IsBy, IsMore, IsApart, IsShallow, IsParting, IsReadTo, HasKids, IsMadeOf}
+use Rattle.sx_forest.specs.Forests.{grammar_in, tokens_in, symbols_of, depth_in, one_of, other_of}
+use Rattle.sx_forest.specs.Forests.{IsBy, IsMore, IsApart, IsShallowEntry, IsParting, IsReadTo}
+use Rattle.sx_forest.specs.Forests.{HasKids, IsReadingMade}
 use Rattle.sx_forest.proofs.Stepwise.{count_long}
 use Rattle.sx_forest.proofs.Making.{made_same}
 use Rattle.sx_forest.proofs.Growing.{place_low, begun, kids_are, made_as}
@@ -54,7 +56,7 @@ build_two-returns-clause-apart t c = λ same.
     let ks = plain_readings c.kids_apart.new.one.items in let ls = plain_readings c.kids_apart.new.other.items in
     c.in_ok-kids_apart-in-By.ensures.apart
     (made_same c.in-By.head ks ls c.args.from c.args.entry.to (plain_reading c.in_ok-second-in-By.second)
-    (subst (λ r. IsMadeOf c.in-By.head ks c.args.from c.args.entry.to r) same c.in_ok-first-in-By.ensures) c.in_ok-second-in-By.ensures)
+    (subst (λ r. IsReadingMade c.in-By.head ks c.args.from c.args.entry.to r) same c.in_ok-first-in-By.ensures) c.in_ok-second-in-By.ensures)
 
 pub kids_apart-loop-dot-init : goal.kids_apart-loop-dot-init
 kids_apart-loop-dot-init t c =
@@ -142,7 +144,7 @@ part-returns t c =
 pub pair_at-build_two-requires : goal.pair_at-build_two-requires
 pair_at-build_two-requires t c =
     let F = c.args.forest in
-    let shallow : IsShallow (grammar_in F) (tokens_in F) F.start c.args.place c.in-Inside.entry = subst (λ k. IsShallow (grammar_in F) (tokens_in F) F.start c.args.place (one_of k)) c.in-Inside.is c.requires.parting.one in
+    let shallow : IsShallowEntry (grammar_in F) (tokens_in F) F.start c.args.place c.in-Inside.entry = subst (λ k. IsShallowEntry (grammar_in F) (tokens_in F) F.start c.args.place (one_of k)) c.in-Inside.is c.requires.parting.one in
     let more : IsMore (tally_of c.in-Inside.entry.ways) = subst (λ k. IsApart k) c.in-Inside.is c.requires.parting.apart in
     let deep : depth_in (tally_of (one_of c.args.fork).ways) ≡ depth_in (tally_of c.in-Inside.entry.ways) = ap (λ k. depth_in (tally_of (one_of k).ways)) c.in-Inside.is in
     (search rules, (c.requires.forest, (shallow, more)))
@@ -178,14 +180,14 @@ pub pair_at-build-requires : goal.pair_at-build-requires
 pair_at-build-requires t c =
     let F = c.args.forest in record {
       forest = c.requires.forest;
-      entry = subst (λ k. IsShallow (grammar_in F) (tokens_in F) F.start c.args.place (one_of k)) c.in-Apart.is c.requires.parting.one;
+      entry = subst (λ k. IsShallowEntry (grammar_in F) (tokens_in F) F.start c.args.place (one_of k)) c.in-Apart.is c.requires.parting.one;
     }
 
 pub pair_at-build-requires-in-Apart : goal.pair_at-build-requires-in-Apart
 pair_at-build-requires-in-Apart t c =
     let F = c.args.forest in record {
       forest = c.requires.forest;
-      entry = subst (λ k. IsShallow (grammar_in F) (tokens_in F) F.start c.args.place (other_of k)) c.in-Apart.is c.requires.parting.other;
+      entry = subst (λ k. IsShallowEntry (grammar_in F) (tokens_in F) F.start c.args.place (other_of k)) c.in-Apart.is c.requires.parting.other;
     }
 
 pub pair_at-returns-in_ok-second-in-Apart-clause-one : goal.pair_at-returns-in_ok-second-in-Apart-clause-one

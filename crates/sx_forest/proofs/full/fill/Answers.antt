@@ -4,7 +4,7 @@ use Rattle.std.proofs.lemmas.Option.{slice_get-get_or}
 use Rattle.sx_grammar.specs.Items.{Span}
 use Rattle.sx_grammar.specs.Parts.{numbered_line, names}
 use Rattle.sx_earley.specs.Completed.{head_of}
-use Rattle.sx_earley.specs.Shown.{plain, texts, token_of, tokens_of}
+use Rattle.sx_earley.specs.Shown.{plain, literal_texts, token_of, tokens_of}
 use Rattle.sx_forest.specs.Useful.{AreUseful}
 use Rattle.sx_forest.specs.Table.{IsFirstTable}
 use Rattle.sx_forest.specs.Ordering.{AreOrdered}
@@ -20,7 +20,7 @@ in_order-requires-clause-along c = useful_forward (plain c.args.grammar.now) (to
 pub loop-item-init : goal.loop-item-init
 loop-item-init c =
     let gr = plain c.args.grammar.now in let ts = tokens_of c.args.grammar.now c.args.shown.now in
-    let long : length ts ≡ length c.args.shown.now = length-map c.args.shown.now (token_of (texts c.args.grammar.now)) in
+    let long : length ts ≡ length c.args.shown.now = length-map c.args.shown.now (token_of (literal_texts c.args.grammar.now)) in
     record {
       so = so_far_first gr ts c.args._start (rank_at c.args.ranks.now) c.deref.result.now (subst (AreUseful (plain c.args.grammar.now) (tokens_of c.args.grammar.now c.args.shown.now) c.args._start) (sym c.deref.ensures.value) c.in_ok-useful.ensures.are) c.deref-item-items.result.now
           (subst (λ l. AreOrdered gr (rank_at c.args.ranks.now) c.deref.result.now l) (sym c.deref-item-items.ensures.value) c.in_ok-ordered.ensures)
@@ -43,7 +43,7 @@ within_here : (c : goal.After-add_span-arg-1) → (get_or c.deref-item-items.res
 within_here c =
     let gr = plain c.args.grammar.now in let ts = tokens_of c.args.grammar.now c.args.shown.now in
     let o = get_or c.deref-item-items.result.now c.loop-item.item-index no_ordered in
-    let long : length ts ≡ length c.args.shown.now = length-map c.args.shown.now (token_of (texts c.args.grammar.now)) in
+    let long : length ts ≡ length c.args.shown.now = length-map c.args.shown.now (token_of (literal_texts c.args.grammar.now)) in
     let h = span_within gr ts c.args._start (head_of o.span.of) o.span.from o.span.to (span_here c) in omega (arith, long, h)
 
 along_here : (c : goal.After-add_span-arg-1) → let o = get_or c.deref-item-items.result.now c.loop-item.item-index no_ordered in o.span.from ≤ o.span.to
@@ -61,7 +61,7 @@ add_span-requires-clause-along c = along_here c
 pub add_span-requires-clause-inside : goal.add_span-requires-clause-inside
 add_span-requires-clause-inside c =
     let h = within_here c in let a = along_here c in let l = c.loop-item.invariant.so.long in
-    let long : length (tokens_of c.args.grammar.now c.args.shown.now) ≡ length c.args.shown.now = length-map c.args.shown.now (token_of (texts c.args.grammar.now)) in
+    let long : length (tokens_of c.args.grammar.now c.args.shown.now) ≡ length c.args.shown.now = length-map c.args.shown.now (token_of (literal_texts c.args.grammar.now)) in
     omega arith
 
 pub add_span-requires-clause-sorted : goal.add_span-requires-clause-sorted
@@ -70,7 +70,7 @@ add_span-requires-clause-sorted c = c.loop-item.invariant.so.table.sorted
 pub loop-item-preserved : goal.loop-item-preserved
 loop-item-preserved c =
     let gr = plain c.args.grammar.now in let ts = tokens_of c.args.grammar.now c.args.shown.now in
-    let long : length ts ≡ length c.args.shown.now = length-map c.args.shown.now (token_of (texts c.args.grammar.now)) in
+    let long : length ts ≡ length c.args.shown.now = length-map c.args.shown.now (token_of (literal_texts c.args.grammar.now)) in
     let many : length gr.productions ≡ length c.args.grammar.now.parts.productions = length-map c.args.grammar.now.parts.productions (numbered_line (names c.args.grammar.now.parts)) in
     let n = c.loop-item.item-index in let s = c.requires.short in
     record {

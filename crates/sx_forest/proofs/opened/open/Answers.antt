@@ -1,6 +1,6 @@
 use Rattle.std.proofs.Common.{arith, subst}
 use Rattle.std.proofs.lemmas.List.{length-map}
-use Rattle.sx_earley.specs.Shown.{texts, token_of}
+use Rattle.sx_earley.specs.Shown.{literal_texts, token_of}
 use Rattle.sx_forest.specs.Tallies.{tally_of}
 use Rattle.sx_forest.specs.Table.{IsSoundBy}
 use Rattle.sx_forest.specs.Forests.{grammar_in, tokens_in}
@@ -12,7 +12,7 @@ all_rows-requires-clause-short c =
     let F = c.args.forest in
     let s = subst (λ m. IsSoundBy (grammar_in F) (tokens_in F) F.start m c.args.from c.args.entry.to (tally_of c.args.entry.ways)) c.requires.by c.requires.entry.sound in
     let w = span_within (grammar_in F) (tokens_in F) F.start c.args.head c.args.from c.args.entry.to s.0 in
-    let l = length-map F.shown.now (token_of (texts F.grammar.now)) in
+    let l = length-map F.shown.now (token_of (literal_texts F.grammar.now)) in
     let h = c.requires.forest.short in
     omega (arith, w, l, h)
 

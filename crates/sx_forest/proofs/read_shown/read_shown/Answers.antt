@@ -4,9 +4,9 @@ use Rattle.sx_grammar.specs.Tables.{GrammarData}
 use Rattle.sx_grammar.specs.Order.{IsRanking, rank_at}
 use Rattle.sx_grammar.specs.Reading.{ReadsWhole}
 use Rattle.sx_grammar.specs.ReadOne.{MoreHold, IsGreatestEnd}
-use Rattle.sx_earley.specs.Shown.{plain, texts, tokens_of, AreBelow}
+use Rattle.sx_earley.specs.Shown.{plain, literal_texts, tokens_of, ShownBelow}
 use Rattle.sx_earley.specs.Completed.{IsChart}
-use Rattle.sx_forest.specs.Verdict.{IsFound, IsRefusal}
+use Rattle.sx_forest.specs.Verdict.{IsFound, IsReadRefusal}
 use Rattle.sx_forest.proofs.read_shown.read_shown.Goals as goal
 
 pub has_reading-requires : goal.has_reading-requires
@@ -15,7 +15,7 @@ has_reading-requires c =
     (subst (IsChart (plain c.args.by.now) (tokens_of c.args.by.now c.args.shown.now) c.args.start) (sym c.spans.ensures) c.in_ok-chart.ensures.spans)
 
 pub read_spans-requires-clause-below : goal.read_spans-requires-clause-below
-read_spans-requires-clause-below c = subst (λ (d : GrammarData). AreBelow (length (texts d)) c.args.shown.now) (sym c.grammar-grammar.ensures) c.requires.below
+read_spans-requires-clause-below c = subst (λ (d : GrammarData). ShownBelow (length (literal_texts d)) c.args.shown.now) (sym c.grammar-grammar.ensures) c.requires.below
 
 pub read_spans-requires-clause-ranking : goal.read_spans-requires-clause-ranking
 read_spans-requires-clause-ranking c = subst (λ (d : GrammarData). IsRanking (plain d) (rank_at c.args.ranks.now)) (sym c.grammar-grammar.ensures) c.requires.ranking
@@ -35,7 +35,7 @@ returns-then-has_reading-clause-found c =
 
 pub returns-then-has_reading-clause-refused : goal.returns-then-has_reading-clause-refused
 returns-then-has_reading-clause-refused c =
-    subst (λ (d : GrammarData). IfErr c.read_spans.result (λ e. (labels texts : List (List ℕ)) → IsRefusal labels texts (plain d) (tokens_of d c.args.shown.now) c.args.start e)) c.grammar-grammar.ensures
+    subst (λ (d : GrammarData). IfErr c.read_spans.result (λ e. (labels texts : List (List ℕ)) → IsReadRefusal labels texts (plain d) (tokens_of d c.args.shown.now) c.args.start e)) c.grammar-grammar.ensures
     c.read_spans.ensures.refused
 
 pub returns-clause-refused : goal.returns-clause-refused

@@ -2,7 +2,7 @@ use Rattle.std.proofs.Common.{◌≡◌, ◌≤◌, ◌∙◌, subst, sym, lengt
 use Rattle.std.proofs.lemmas.List.{length-map}
 use Rattle.sx_grammar.specs.Reading.{ReadsWhole, reading_depth}
 use Rattle.sx_grammar.specs.Tally.{IsTally}
-use Rattle.sx_earley.specs.Shown.{plain, texts, token_of, tokens_of}
+use Rattle.sx_earley.specs.Shown.{plain, literal_texts, token_of, tokens_of}
 use Rattle.sx_forest.specs.Readings.{plain_reading}
 use Rattle.sx_forest.specs.Tallies.{tally_of}
 use Rattle.sx_forest.specs.Rows.{IsWholeWays}
@@ -12,7 +12,7 @@ use Rattle.sx_forest.proofs.read_shown.read_spans.Goals as goal
 pub unreachable-requires : goal.unreachable-requires
 unreachable-requires c =
     let g = plain c.args.grammar.now in let ts = tokens_of c.args.grammar.now c.args.shown.now in
-    let long : length ts ≡ length c.args.shown.now = length-map c.args.shown.now (token_of (texts c.args.grammar.now)) in
+    let long : length ts ≡ length c.args.shown.now = length-map c.args.shown.now (token_of (literal_texts c.args.grammar.now)) in
     let lists = c.in_ok-table.table.lists.items in let t = tally_of c.whole_ways-ways.result in
     let tally : IsTally (ReadsWhole g ts c.args.start) reading_depth t = whole_tally g ts c.args.start c.facts.ensures.levels lists c.in_ok-table.ensures t
     (subst (λ n. IsWholeWays g c.args.start n lists t) (sym long) c.whole_ways-ways.ensures) in
@@ -22,7 +22,7 @@ unreachable-requires c =
 pub returns-in-TooDeep-clause-refused : goal.returns-in-TooDeep-clause-refused
 returns-in-TooDeep-clause-refused c = λ l m.
     let g = plain c.args.grammar.now in let ts = tokens_of c.args.grammar.now c.args.shown.now in
-    let long : length ts ≡ length c.args.shown.now = length-map c.args.shown.now (token_of (texts c.args.grammar.now)) in
+    let long : length ts ≡ length c.args.shown.now = length-map c.args.shown.now (token_of (literal_texts c.args.grammar.now)) in
     let lists = c.in_ok-table.table.lists.items in let t = tally_of c.whole_ways-ways.result in
     let tally : IsTally (ReadsWhole g ts c.args.start) reading_depth t = whole_tally g ts c.args.start c.facts.ensures.levels lists c.in_ok-table.ensures t
     (subst (λ n. IsWholeWays g c.args.start n lists t) (sym long) c.whole_ways-ways.ensures) in
@@ -32,7 +32,7 @@ returns-in-TooDeep-clause-refused c = λ l m.
 pub first_reading-requires-clause-low : goal.first_reading-requires-clause-low
 first_reading-requires-clause-low c =
     let g = plain c.args.grammar.now in let ts = tokens_of c.args.grammar.now c.args.shown.now in
-    let long : length ts ≡ length c.args.shown.now = length-map c.args.shown.now (token_of (texts c.args.grammar.now)) in
+    let long : length ts ≡ length c.args.shown.now = length-map c.args.shown.now (token_of (literal_texts c.args.grammar.now)) in
     let lists = c.in_ok-table.table.lists.items in let t = tally_of c.whole_ways-ways.result in
     let tally : IsTally (ReadsWhole g ts c.args.start) reading_depth t = whole_tally g ts c.args.start c.facts.ensures.levels lists c.in_ok-table.ensures t
     (subst (λ n. IsWholeWays g c.args.start n lists t) (sym long) c.whole_ways-ways.ensures) in
@@ -42,7 +42,7 @@ first_reading-requires-clause-low c =
 pub first_reading-requires-clause-some : goal.first_reading-requires-clause-some
 first_reading-requires-clause-some c =
     let g = plain c.args.grammar.now in let ts = tokens_of c.args.grammar.now c.args.shown.now in
-    let long : length ts ≡ length c.args.shown.now = length-map c.args.shown.now (token_of (texts c.args.grammar.now)) in
+    let long : length ts ≡ length c.args.shown.now = length-map c.args.shown.now (token_of (literal_texts c.args.grammar.now)) in
     let lists = c.in_ok-table.table.lists.items in let t = tally_of c.whole_ways-ways.result in
     let tally : IsTally (ReadsWhole g ts c.args.start) reading_depth t = whole_tally g ts c.args.start c.facts.ensures.levels lists c.in_ok-table.ensures t
     (subst (λ n. IsWholeWays g c.args.start n lists t) (sym long) c.whole_ways-ways.ensures) in
@@ -52,7 +52,7 @@ first_reading-requires-clause-some c =
 pub returns-in-One-clause-found : goal.returns-in-One-clause-found
 returns-in-One-clause-found c =
     let g = plain c.args.grammar.now in let ts = tokens_of c.args.grammar.now c.args.shown.now in
-    let long : length ts ≡ length c.args.shown.now = length-map c.args.shown.now (token_of (texts c.args.grammar.now)) in
+    let long : length ts ≡ length c.args.shown.now = length-map c.args.shown.now (token_of (literal_texts c.args.grammar.now)) in
     let lists = c.in_ok-table.table.lists.items in let t = tally_of c.whole_ways-ways.result in
     let tally : IsTally (ReadsWhole g ts c.args.start) reading_depth t = whole_tally g ts c.args.start c.facts.ensures.levels lists c.in_ok-table.ensures t
     (subst (λ n. IsWholeWays g c.args.start n lists t) (sym long) c.whole_ways-ways.ensures) in
@@ -63,7 +63,7 @@ returns-in-One-clause-found c =
 pub two_readings-requires-clause-low : goal.two_readings-requires-clause-low
 two_readings-requires-clause-low c =
     let g = plain c.args.grammar.now in let ts = tokens_of c.args.grammar.now c.args.shown.now in
-    let long : length ts ≡ length c.args.shown.now = length-map c.args.shown.now (token_of (texts c.args.grammar.now)) in
+    let long : length ts ≡ length c.args.shown.now = length-map c.args.shown.now (token_of (literal_texts c.args.grammar.now)) in
     let lists = c.in_ok-table.table.lists.items in let t = tally_of c.whole_ways-ways.result in
     let tally : IsTally (ReadsWhole g ts c.args.start) reading_depth t = whole_tally g ts c.args.start c.facts.ensures.levels lists c.in_ok-table.ensures t
     (subst (λ n. IsWholeWays g c.args.start n lists t) (sym long) c.whole_ways-ways.ensures) in
@@ -73,7 +73,7 @@ two_readings-requires-clause-low c =
 pub two_readings-requires-clause-two : goal.two_readings-requires-clause-two
 two_readings-requires-clause-two c =
     let g = plain c.args.grammar.now in let ts = tokens_of c.args.grammar.now c.args.shown.now in
-    let long : length ts ≡ length c.args.shown.now = length-map c.args.shown.now (token_of (texts c.args.grammar.now)) in
+    let long : length ts ≡ length c.args.shown.now = length-map c.args.shown.now (token_of (literal_texts c.args.grammar.now)) in
     let lists = c.in_ok-table.table.lists.items in let t = tally_of c.whole_ways-ways.result in
     let tally : IsTally (ReadsWhole g ts c.args.start) reading_depth t = whole_tally g ts c.args.start c.facts.ensures.levels lists c.in_ok-table.ensures t
     (subst (λ n. IsWholeWays g c.args.start n lists t) (sym long) c.whole_ways-ways.ensures) in
@@ -83,7 +83,7 @@ two_readings-requires-clause-two c =
 pub returns-clause-found : goal.returns-clause-found
 returns-clause-found c =
     let g = plain c.args.grammar.now in let ts = tokens_of c.args.grammar.now c.args.shown.now in
-    let long : length ts ≡ length c.args.shown.now = length-map c.args.shown.now (token_of (texts c.args.grammar.now)) in
+    let long : length ts ≡ length c.args.shown.now = length-map c.args.shown.now (token_of (literal_texts c.args.grammar.now)) in
     let lists = c.in_ok-table.table.lists.items in let t = tally_of c.whole_ways-ways.result in
     let tally : IsTally (ReadsWhole g ts c.args.start) reading_depth t = whole_tally g ts c.args.start c.facts.ensures.levels lists c.in_ok-table.ensures t
     (subst (λ n. IsWholeWays g c.args.start n lists t) (sym long) c.whole_ways-ways.ensures) in

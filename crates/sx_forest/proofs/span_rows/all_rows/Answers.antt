@@ -2,14 +2,14 @@ use Rattle.std.proofs.Common.{subst}
 use Rattle.std.proofs.lemmas.Result.{IfOk-weaker}
 use Rattle.sx_grammar.specs.Grammar.{production_of}
 use Rattle.sx_earley.specs.Shown.{plain, tokens_of}
-use Rattle.sx_forest.specs.Rows.{count_of, AreStretches, AreRows, AreSpanRows}
+use Rattle.sx_forest.specs.Rows.{symbol_count, AreStretches, AreRows, AreSpanRows}
 use Rattle.sx_forest.proofs.span_rows.all_rows.Goals as goal
 
 pub returns : goal.returns
 returns c =
     let g = plain c.args.basis.grammar.now in let ts = tokens_of c.args.basis.grammar.now c.args.basis.shown.now in
     let lists = c.args.basis.table.now.lists.items in let head = c.args.head in let from = c.args.from in let to = c.args.to in
-    let all = c.in_ok-stretches.stretches.items in let count = c.symbol_count-count.result in let number = count_of (production_of g head) in
+    let all = c.in_ok-stretches.stretches.items in let count = c.symbol_count-count.result in let number = symbol_count (production_of g head) in
     IfOk-weaker c.last_rows.result (λ v. AreRows g ts lists head number count to c.deref.result.now v.items) (λ v. AreSpanRows g ts lists head from to v.items)
     (λ v are. record {
       stretches = all;

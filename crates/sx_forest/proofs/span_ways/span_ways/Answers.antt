@@ -4,7 +4,7 @@ use Rattle.sx_earley.specs.Shown.{plain, tokens_of}
 use Rattle.sx_forest.specs.declared.kept.Kept.{Kept}
 use Rattle.sx_forest.specs.Tallies.{tally_of}
 use Rattle.sx_forest.specs.Rows.{IsSpanWays}
-use Rattle.sx_forest.specs.KeptRows.{AllKept, IsKept}
+use Rattle.sx_forest.specs.KeptRows.{AllKept, AreStretchesKept}
 use Rattle.sx_forest.proofs.Wider.{ready_kept, all_kept_more, all_kept_set, none_kept, found_same}
 use Rattle.sx_forest.proofs.span_ways.span_ways.Goals as goal
 use Rattle.sx_forest.proofs.span_ways.span_ways.Goals.{then-not-has_room, else-not-has_room}
@@ -13,7 +13,7 @@ pub wider_ways-requires-clause-kept : goal.wider_ways-requires-clause-kept
 wider_ways-requires-clause-kept c =
     let g = plain c.args.basis.grammar.now in let ts = tokens_of c.args.basis.grammar.now c.args.basis.shown.now in let lists = c.args.basis.table.now.lists.items in
     let k = c.in-Some.ensures.0 in let there = ap (λ l. slice_get l c.in-Some.index) (sym c.deref.ensures.value) ∙ c.in-Some.ensures.1 in
-    subst (IsKept g ts lists) (sym (found_same c.args.kept.now.items c.in-Some.index k c.index_mut.result.now c.index_mut.ensures.value there)) (c.requires.kept c.in-Some.index k there)
+    subst (AreStretchesKept g ts lists) (sym (found_same c.args.kept.now.items c.in-Some.index k c.index_mut.result.now c.index_mut.ensures.value there)) (c.requires.kept c.in-Some.index k there)
 
 pub returns-in_ok-ways-in-Some-clause-kept : goal.returns-in_ok-ways-in-Some-clause-kept
 returns-in_ok-ways-in-Some-clause-kept c =

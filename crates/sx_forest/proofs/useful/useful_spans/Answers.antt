@@ -2,10 +2,10 @@ use Rattle.std.proofs.Common.{◌≡◌, ◌+◌, ◌++◌, ◌∷◌, [], sym, 
 use Rattle.std.proofs.lemmas.Bool.{false≢true}
 use Rattle.std.proofs.lemmas.List.{take_all, take_more, length-map}
 use Rattle.sx_grammar.specs.Grammar.{production_of}
-use Rattle.sx_earley.specs.Shown.{plain, texts, token_of, tokens_of}
+use Rattle.sx_earley.specs.Shown.{plain, literal_texts, token_of, tokens_of}
 use Rattle.sx_earley.specs.Completed.{head_of}
 use Rattle.sx_earley.specs.declared.span.Span.{Span}
-use Rattle.sx_forest.specs.Useful.{IsKept, levels_at, Keeps}
+use Rattle.sx_forest.specs.Useful.{IsProductionKept, levels_at, Keeps}
 use Rattle.sx_forest.proofs.Using.{met_by_numbers}
 use Rattle.sx_forest.proofs.Filling.{no_span}
 use Rattle.sx_forest.proofs.Sifting.{Sifted, none_taken, sift_none, sift_more, sift_less, sifted_only, sifted_every, sifted_once}
@@ -24,10 +24,10 @@ loop-span-preserved c =
     let spans = c.args.spans.now in let n = c.loop-span.span-index in let s = get_or spans n no_span in
     let more : take (n + 1) spans ≡ take n spans ++ s ∷ [] = take_more spans n no_span c.loop-span-test.true in
     let row : c.at.result.now ≡ levels_at levels s.to = c.at.ensures in
-    let to : IsKept c.at.result.now (production_of g c.head_of.result) → P s =
-    λ h. subst (λ l. IsKept l (production_of g (head_of s.of))) row (subst (λ x. IsKept c.at.result.now (production_of g x)) c.head_of.ensures h) in
-    let back : P s → IsKept c.at.result.now (production_of g c.head_of.result) =
-    λ h. subst (λ x. IsKept c.at.result.now (production_of g x)) (sym c.head_of.ensures) (subst (λ l. IsKept l (production_of g (head_of s.of))) (sym row) h) in
+    let to : IsProductionKept c.at.result.now (production_of g c.head_of.result) → P s =
+    λ h. subst (λ l. IsProductionKept l (production_of g (head_of s.of))) row (subst (λ x. IsProductionKept c.at.result.now (production_of g x)) c.head_of.ensures h) in
+    let back : P s → IsProductionKept c.at.result.now (production_of g c.head_of.result) =
+    λ h. subst (λ x. IsProductionKept c.at.result.now (production_of g x)) (sym c.head_of.ensures) (subst (λ l. IsProductionKept l (production_of g (head_of s.of))) (sym row) h) in
     subst (λ l. Sifted P l c.if-keeps.useful.items) (sym more) (elim c.if-keeps.branch [
       | then-keeps+in_ok-push w ↦
           let made = ap (λ u. u.items) w.useful-is ∙ w.in_ok-push.ensures.items in
@@ -42,7 +42,7 @@ returns c =
     let g = plain c.args.grammar.now in let ts = tokens_of c.args.grammar.now c.args.shown.now in
     let levels = c.in_ok-levels.levels in let spans = c.args.spans.now in
     let P : Span → Type 0 = λ s. Keeps g levels (head_of s.of) s.to in
-    let long : length ts ≡ length c.args.shown.now = length-map c.args.shown.now (token_of (texts c.args.grammar.now)) in
+    let long : length ts ≡ length c.args.shown.now = length-map c.args.shown.now (token_of (literal_texts c.args.grammar.now)) in
     let sifted : Sifted P spans c.loop-span.useful.items =
     subst (λ l. Sifted P l c.loop-span.useful.items) (take_all c.loop-span.span-index spans (omega arith)) c.loop-span.invariant in
     let short = c.in_ok-levels.ensures.short in

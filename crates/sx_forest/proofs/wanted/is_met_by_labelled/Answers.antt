@@ -3,7 +3,7 @@ use Rattle.std.proofs.lemmas.List.{length-map}
 use Rattle.sx_grammar.specs.Grammar.{part}
 use Rattle.sx_grammar.specs.Numbered.{production}
 use Rattle.sx_grammar.specs.declared.head.Head.TheVariants.{Labelled}
-use Rattle.sx_earley.specs.Shown.{plain, texts, tokens_of}
+use Rattle.sx_earley.specs.Shown.{plain, literal_texts, tokens_of}
 use Rattle.sx_forest.specs.Useful.{IsMetAt}
 use Rattle.sx_forest.proofs.Using.{label_there}
 use Rattle.sx_forest.proofs.wanted.is_met_by_labelled.Goals as goal
@@ -17,5 +17,5 @@ pub returns : goal.returns
 returns c = λ _ label dot sort least e may.
     let g = plain c.args.grammar.now in
     let low = label_there g label dot (part sort least) e in
-    let same : length g.productions ≡ length c.productions-label-end.result.now = ap length (sym c.productions-label-end.ensures.same) ∙ length-map c.productions-label-end.result.now (production (texts c.args.grammar.now)) in
+    let same : length g.productions ≡ length c.productions-label-end.result.now = ap length (sym c.productions-label-end.ensures.same) ∙ length-map c.productions-label-end.result.now (production (literal_texts c.args.grammar.now)) in
     c.loop-label.invariant label (omega arith) dot sort least e may

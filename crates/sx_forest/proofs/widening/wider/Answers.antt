@@ -3,7 +3,7 @@ use Rattle.sx_earley.specs.Chart.{next_symbol}
 use Rattle.sx_earley.specs.Shown.{plain, tokens_of}
 use Rattle.sx_forest.specs.declared.stretch.Stretch.{Stretch}
 use Rattle.sx_forest.specs.Rows.{stretch_at, Spreads}
-use Rattle.sx_forest.specs.KeptRows.{front_of, IsJoined}
+use Rattle.sx_forest.specs.KeptRows.{front_of, IsStretchJoined}
 use Rattle.sx_forest.proofs.Wider.{AreWiderTo, wider_first, wider_to_on}
 use Rattle.sx_forest.proofs.widening.wider.Goals as goal
 
@@ -24,7 +24,7 @@ loop-dot-preserved c =
     let so : AreWiderTo g ts lists kept.head from kept.to olds (suc n) all new = subst (λ d. AreWiderTo g ts lists kept.head from kept.to olds d all new) (sym up) c.loop-dot.invariant in
     let spread : Spreads g ts lists (next_symbol g kept.head n) kept.to new c.spread-reached.result =
     subst (λ x. Spreads g ts lists x kept.to new c.spread-reached.result) c.symbol_of-expected.ensures.is (c.spread-reached.ensures ts) in
-    let joined : IsJoined (stretch_at olds (suc n)) c.clipped.result own = subst (λ s. IsJoined s c.clipped.result own) old c.in-Some.ensures in
+    let joined : IsStretchJoined (stretch_at olds (suc n)) c.clipped.result own = subst (λ s. IsStretchJoined s c.clipped.result own) old c.in-Some.ensures in
     let on = wider_to_on g ts lists kept c.requires.kept from n (omega (arith, up, end, filled, c.loop-dot-test.true, c.requires.kept.are.long, ahead)) all more new c.spread-reached.result c.clipped.result own so spread
     c.clipped.ensures.end (λ p low is. (c.clipped.ensures.same p (omega arith) low).0 is) joined c.in_ok-push-in-Some.ensures.items in
     subst (λ d. AreWiderTo g ts lists kept.head from kept.to olds (d + 1) more (front_of c.stretch_of-old.result own)) up

@@ -2,7 +2,7 @@ use Rattle.std.proofs.Common.{◌≡◌, ◌-◌, [], subst, sym, ap, ◌∙◌,
 use Rattle.sx_earley.specs.Chart.{next_symbol}
 use Rattle.sx_earley.specs.Shown.{plain, tokens_of}
 use Rattle.sx_forest.specs.declared.kept.Kept.{Kept}
-use Rattle.sx_forest.specs.Rows.{row_at, stretch_at}
+use Rattle.sx_forest.specs.Rows.{tally_at, stretch_at}
 use Rattle.sx_forest.specs.KeptRows.{symbols_by, front_of, IsLonger}
 use Rattle.sx_forest.proofs.Wider.{AreWideTo, none_of_length, wide_none, wide_on, wide_all}
 use Rattle.sx_forest.proofs.widening.wider_rows.Goals as goal
@@ -23,7 +23,7 @@ loop-row-preserved c =
     let x = c.in-Some.row in let r = c.in_ok-own.own in let wide = c.loop-row.wide.items in
     wide_on g ts lists kept c.requires.kept news c.requires.wider wide c.loop-row.row-iterator.rest.items c.push.new.self.items c.next.new.self.rest.items x r c.loop-row.invariant c.in-Some.ensures.steps.0
     c.in_ok-push.ensures.items (λ e. c.in_ok-own.ensures.first (ap length c.deref.ensures.value ∙ e))
-    (λ n at. subst (λ w. IsLonger g ts lists (next_symbol g head (count - n - 1)) (row_at w n) (front_of (stretch_at olds (count - n - 1)) (stretch_at news (count - n - 1))) x r) c.deref.ensures.value
+    (λ n at. subst (λ w. IsLonger g ts lists (next_symbol g head (count - n - 1)) (tally_at w n) (front_of (stretch_at olds (count - n - 1)) (stretch_at news (count - n - 1))) x r) c.deref.ensures.value
     (c.in_ok-own.ensures.more n (ap length c.deref.ensures.value ∙ at)))
 
 pub returns : goal.returns

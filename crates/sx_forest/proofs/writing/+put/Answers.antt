@@ -3,7 +3,7 @@ use Rattle.std.proofs.lemmas.Result.{on_ok_weaker}
 use Rattle.sx_term.proofs.Cores.{Grows-trans, Grows-same}
 use Rattle.sx_grammar.specs.Parts.{labels}
 use Rattle.sx_forest.specs.declared.reading.Reading.TheViews.{the_lemmas}
-use Rattle.sx_forest.specs.Text.{texts}
+use Rattle.sx_forest.specs.Text.{token_texts}
 use Rattle.sx_forest.proofs.Kids.{readings_depth-kids}
 use Rattle.sx_forest.proofs.Wording.{node_text, kids_within, within_step, text_step, other_depth, appended}
 use Rattle.sx_forest.proofs.writing.+put.Goals as goal
@@ -16,7 +16,7 @@ put_kids-put_reading-requires-in-loop-kid t c =
 
 pub put_kids-loop-kid-preserved : goal.put_kids-loop-kid-preserved
 put_kids-loop-kid-preserved t c = record {
-  so_far = text_step (labels c.args.grammar.now.parts) (texts c.args.tokens.now) _ _ _ _ _ _ c.loop-kid-test.true c.kid-item.is c.in_ok-push-in-Some-2.ensures.items c.in_ok-put_reading-in-Some-2.ensures.ok ∙ c.loop-kid.invariant.so_far;
+  so_far = text_step (labels c.args.grammar.now.parts) (token_texts c.args.tokens.now) _ _ _ _ _ _ c.loop-kid-test.true c.kid-item.is c.in_ok-push-in-Some-2.ensures.items c.in_ok-put_reading-in-Some-2.ensures.ok ∙ c.loop-kid.invariant.so_far;
   within = (within_step _ _ _ _ _ c.loop-kid-test.true c.kid-item.is c.loop-kid.invariant.within).1;
   appends = appended _ _ _ _ c.loop-kid.invariant.appends c.in_ok-push-in-Some-2.ensures.items c.in_ok-put_reading-in-Some-2.ensures.appends;
 }
@@ -30,7 +30,7 @@ put_reading-put_kids-requires t c =
 pub put_reading-returns-in_ok-put_label-in-Node-clause-ok : goal.put_reading-returns-in_ok-put_label-in-Node-clause-ok
 put_reading-returns-in_ok-put_label-in-Node-clause-ok t c =
     on_ok_weaker c.put_kids.result
-    (λ e. node_text (labels c.args.grammar.now.parts) (texts c.args.tokens.now) _ _ _ _ _ _ _ _ _ c.in-Node.is c.deref.ensures.value c.in_ok-put_label-in-Node.ensures.ok e)
+    (λ e. node_text (labels c.args.grammar.now.parts) (token_texts c.args.tokens.now) _ _ _ _ _ _ _ _ _ c.in-Node.is c.deref.ensures.value c.in_ok-put_label-in-Node.ensures.ok e)
     c.put_kids.ensures.ok
 
 pub put_reading-returns-in_err-put_label-in-Node-clause-appends : goal.put_reading-returns-in_err-put_label-in-Node-clause-appends

@@ -6,7 +6,7 @@ use Rattle.sx_term.specs.Cutting.{AreDistinct}
 use Rattle.sx_grammar.specs.declared.sort_line.SortLine.{SortLine}
 use Rattle.sx_grammar.specs.Grammar.{Text}
 use Rattle.sx_grammar.specs.Parts.{Line, parts, names}
-use Rattle.sx_grammar.specs.Extended.{grown, listed, LacksPair}
+use Rattle.sx_grammar.specs.Extended.{grown, listed_sort, LacksPair}
 use Rattle.sx_grammar.specs.Tables.{GrammarData}
 use Rattle.sx_grammar.proofs.Widening.{no_more, sort_is, sort_is_none, names_listed, match_weaker}
 use Rattle.sx_grammar.proofs.more_sorts.names_behind.Goals as goal
@@ -43,7 +43,7 @@ returns-clause-plain c =
     IfOk-weaker c.names_with.result _ _
     (λ r is. match_weaker r (Unit {0})
     (λ (n : List Text). (s.brackets ≡ None) × (n ≡ c.base.inside.sort_names ++ s.name ∷ []) × (AreDistinct c.base.inside.sort_names → AreDistinct n))
-    (λ (n : List Text). (sort : Option SortLine) (more : List Line) → whole ≡ grown p (listed sort) more → LacksPair sort)
+    (λ (n : List Text). (sort : Option SortLine) (more : List Line) → whole ≡ grown p (listed_sort sort) more → LacksPair sort)
     (λ n h sort more grown. subst LacksPair (sym (sort_is p more whole sort c.len.result s grown count at)) h.0) is)
     c.names_with.ensures
 

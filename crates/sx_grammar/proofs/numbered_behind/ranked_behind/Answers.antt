@@ -3,7 +3,7 @@ use Rattle.std.proofs.lemmas.List.Elements.{Contains-append_right}
 use Rattle.sx_grammar.specs.declared.numbered.NumberedProduction.{NumberedProduction}
 use Rattle.sx_grammar.specs.Parts.{Parts, line, parts}
 use Rattle.sx_grammar.specs.Numbered.{bare}
-use Rattle.sx_grammar.specs.Extended.{Grows}
+use Rattle.sx_grammar.specs.Extended.{GrammarGrows}
 use Rattle.sx_grammar.specs.Tables.{GrammarData, AreNumbered, HaveLiteralsBelow}
 use Rattle.sx_grammar.proofs.MakeLaws.{line_known_here, lines_contain, few_names, few_texts}
 use Rattle.sx_grammar.proofs.Behind.{numbered_both, below_both}
@@ -28,7 +28,7 @@ ranks_behind-requires-clause-numbered c =
     let more = map line c.args.more.now in
     let ps = c.base.inside.productions.items in
     let qs = c.in_ok-own.own.items in
-    let grows = subst (λ (d : GrammarData). Grows d.parts more whole) (sym c.base.view_is) c.requires.behind in
+    let grows = subst (λ (d : GrammarData). GrammarGrows d.parts more whole) (sym c.base.view_is) c.requires.behind in
     let low = subst (λ l. HaveLiteralsBelow (length l) ps) c.base.invariant.has_texts c.base.invariant.below in
     subst (AreNumbered whole) (sym c.deref-2.ensures.value)
     (numbered_both p more whole grows c.base.invariant.is_grammar.0.0.0.0 c.args.literals.now c.args.sorts.now ps qs c.in_ok-productions.productions.items c.base.invariant.has_productions low
@@ -41,7 +41,7 @@ returns-in-Ok-clause-same c =
     let more = map line c.args.more.now in
     let ps = c.base.inside.productions.items in
     let qs = c.in_ok-own.own.items in
-    let grows = subst (λ (d : GrammarData). Grows d.parts more whole) (sym c.base.view_is) c.requires.behind in
+    let grows = subst (λ (d : GrammarData). GrammarGrows d.parts more whole) (sym c.base.view_is) c.requires.behind in
     let low = subst (λ l. HaveLiteralsBelow (length l) ps) c.base.invariant.has_texts c.base.invariant.below in
     numbered_both p more whole grows c.base.invariant.is_grammar.0.0.0.0 c.args.literals.now c.args.sorts.now ps qs c.in_ok-productions.productions.items c.base.invariant.has_productions low
     c.requires.literals c.requires.sorts c.in_ok-own.ensures.same (c.in_ok-productions.ensures ∙ ap (λ (l : List NumberedProduction). map bare (l ++ qs)) c.deref.ensures.value)
@@ -53,7 +53,7 @@ returns-in-Ok-clause-below c =
     let more = map line c.args.more.now in
     let ps = c.base.inside.productions.items in
     let qs = c.in_ok-own.own.items in
-    let grows = subst (λ (d : GrammarData). Grows d.parts more whole) (sym c.base.view_is) c.requires.behind in
+    let grows = subst (λ (d : GrammarData). GrammarGrows d.parts more whole) (sym c.base.view_is) c.requires.behind in
     let low = subst (λ l. HaveLiteralsBelow (length l) ps) c.base.invariant.has_texts c.base.invariant.below in
     below_both p more whole grows c.args.literals.now ps qs c.in_ok-productions.productions.items low c.requires.literals c.in_ok-own.ensures.below
     (c.in_ok-productions.ensures ∙ ap (λ (l : List NumberedProduction). map bare (l ++ qs)) c.deref.ensures.value)

@@ -1,7 +1,7 @@
 use Rattle.std.proofs.Common.{◌≡◌, sym, subst, map, refl, arith, ℕ}
 use Rattle.sx_grammar.specs.Parts.{line, parts, numbered}
 use Rattle.sx_grammar.specs.Order.{rank_at}
-use Rattle.sx_grammar.specs.Extended.{Grows}
+use Rattle.sx_grammar.specs.Extended.{GrammarGrows}
 use Rattle.sx_grammar.specs.Tables.{GrammarData}
 use Rattle.sx_grammar.proofs.Ordering.{ranked_not_cyclic}
 use Rattle.sx_grammar.proofs.TokenLaws.{none_mixed, ranks_kept}
@@ -12,7 +12,7 @@ keeps_sorts-requires-clause-before c =
     let p = parts c.base.inside.parts in
     let more = map line c.args.more.now in
     let whole = parts c.args.from.now in
-    let grows = subst (λ (d : GrammarData). Grows d.parts more whole) (sym c.base.view_is) c.requires.behind in
+    let grows = subst (λ (d : GrammarData). GrammarGrows d.parts more whole) (sym c.base.view_is) c.requires.behind in
     let is = c.base.invariant.is_grammar in
     none_mixed p more whole grows is.0.0.0.0 c.requires.labels.0.0.1 c.base.inside.parts.productions.items c.len.result refl (omega (arith, c.len.ensures)) is.0.0.1
 
@@ -21,7 +21,7 @@ returns-then-have_tokens-clause-ranking c =
     let p = parts c.base.inside.parts in
     let more = map line c.args.more.now in
     let whole = parts c.args.from.now in
-    let grows = subst (λ (d : GrammarData). Grows d.parts more whole) (sym c.base.view_is) c.requires.behind in
+    let grows = subst (λ (d : GrammarData). GrammarGrows d.parts more whole) (sym c.base.view_is) c.requires.behind in
     let same = λ (sort : ℕ). subst (λ l. rank_at c.in_ok-ranks_with.field-0.items sort ≡ rank_at l sort) c.deref.ensures.value (c.in_ok-ranks_with.ensures sort) in
     ranks_kept p more whole grows c.base.invariant.is_grammar.0.0.0.0 (c.have_tokens.ensures c.if-have_tokens.true) c.base.inside.ranks.items c.in_ok-ranks_with.field-0.items same c.base.invariant.ranked
 
@@ -30,6 +30,6 @@ returns-then-have_tokens-clause-good c =
     let p = parts c.base.inside.parts in
     let more = map line c.args.more.now in
     let whole = parts c.args.from.now in
-    let grows = subst (λ (d : GrammarData). Grows d.parts more whole) (sym c.base.view_is) c.requires.behind in
+    let grows = subst (λ (d : GrammarData). GrammarGrows d.parts more whole) (sym c.base.view_is) c.requires.behind in
     let ranks = ranks_kept p more whole grows c.base.invariant.is_grammar.0.0.0.0 (c.have_tokens.ensures c.if-have_tokens.true) c.base.inside.ranks.items c.base.inside.ranks.items (λ sort. refl) c.base.invariant.ranked in
     (c.in_ok-has_brackets.ensures.good, ranked_not_cyclic (numbered whole) (rank_at c.base.inside.ranks.items) ranks.0)

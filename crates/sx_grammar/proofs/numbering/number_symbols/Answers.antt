@@ -3,7 +3,7 @@ use Rattle.std.proofs.lemmas.List.{take_all}
 use Rattle.std.proofs.lemmas.Option.{slice_get_read}
 use Rattle.sx_grammar.specs.Parts.{numbered_symbol}
 use Rattle.sx_grammar.specs.Numbered.{symbol}
-use Rattle.sx_grammar.specs.Known.{AreBelow}
+use Rattle.sx_grammar.specs.Known.{LiteralsAreBelow}
 use Rattle.std.proofs.Common.{◌≡◌, map, take, ◌+◌}
 use Rattle.sx_grammar.proofs.NumberLaws.{item_in, mapped_push, below_push}
 use Rattle.sx_grammar.proofs.numbering.number_symbols.Goals as goal
@@ -17,7 +17,7 @@ loop-symbol-preserved c =
     record {
       same = subst (λ l. map (symbol texts) l ≡ map (numbered_symbol c.args.sorts.now) (take (n + 1) xs)) (sym c.in_ok-push.ensures.items)
           (mapped_push (symbol texts) (numbered_symbol c.args.sorts.now) c.loop-symbol.out.items xs n c.number_symbol.result c.symbol-item.result c.loop-symbol.invariant.same at c.number_symbol.ensures.same);
-      below = subst (AreBelow (length texts)) (sym c.in_ok-push.ensures.items) (below_push (length texts) c.loop-symbol.out.items c.number_symbol.result c.loop-symbol.invariant.below c.number_symbol.ensures.below);
+      below = subst (LiteralsAreBelow (length texts)) (sym c.in_ok-push.ensures.items) (below_push (length texts) c.loop-symbol.out.items c.number_symbol.result c.loop-symbol.invariant.below c.number_symbol.ensures.below);
     }
 
 pub number_symbol-requires-clause-known : goal.number_symbol-requires-clause-known

@@ -11,10 +11,10 @@ pub loop-symbol-preserved : goal.loop-symbol-preserved
 loop-symbol-preserved c =
     let rest = drop (c.loop-symbol.symbol-index + 1) c.args.symbols.now in
     elim c.match-symbol.branch [
-      in-Lit+in_ok-put w ↦
+      | in-Lit+in_ok-put w ↦
           added_more (flat_map symbol_literals) _ _ _ (w.in-Lit.text ∷ []) c.args.symbols.now c.loop-symbol.symbol-index c.symbol-item.result c.loop-symbol.invariant
           ((λ i. texts (w.out-is i).items) ∙ w.in_ok-put.ensures) (ap (λ (s : Symbol). symbol_literals s ++ flat_map symbol_literals rest) (sym w.in-Lit.is)) c.loop-symbol-test.true c.symbol-item.is
-    | in_default w ↦
+      | in_default w ↦
           added_more (flat_map symbol_literals) _ _ _ [] c.args.symbols.now c.loop-symbol.symbol-index c.symbol-item.result c.loop-symbol.invariant
           ((λ i. texts (w.out-is i).items) ∙ sym (append-nil (texts c.loop-symbol.out.items))) (ap (λ l. l ++ flat_map symbol_literals rest) (no_literals c.symbol-item.result w.in_default.not-Lit)) c.loop-symbol-test.true c.symbol-item.is
     ]

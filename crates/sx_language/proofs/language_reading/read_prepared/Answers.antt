@@ -7,9 +7,9 @@ use Rattle.sx_rules.specs.Views as view
 use Rattle.sx_outline.specs.declared.rule_lines.RuleLines.{RuleLines}
 use Rattle.sx_outline.specs.Stages.{rule_data}
 use Rattle.sx_language.specs.declared.preparing.Prepared.{Prepared}
-use Rattle.sx_language.specs.RuleLine.{Reader, CanRead}
+use Rattle.sx_language.specs.RuleLine.{Reader, CanReadRules}
 use Rattle.sx_outline.specs.Sized.{HasShortLines}
-use Rattle.sx_language.specs.RuleTexts.{AreRules, IsFirstBad, OrMemory}
+use Rattle.sx_language.specs.RuleTexts.{AreRules, IsFirstBadRule, OrMemory}
 use Rattle.sx_language.proofs.UsableRules.{none_bodied}
 use Rattle.sx_language.proofs.language_reading.read_prepared.Goals as goal
 
@@ -22,7 +22,7 @@ ok_map (Ok x) P Q f h = f x h
 ok_map (Err e) P Q f h = tt
 
 pub read_rules-requires-clause-can : goal.read_rules-requires-clause-can
-read_rules-requires-clause-can c = subst (λ (fs : List Form). CanRead (with_forms c.args.prepared.now fs)) (sym c.deref.ensures.value) c.requires.can
+read_rules-requires-clause-can c = subst (λ (fs : List Form). CanReadRules (with_forms c.args.prepared.now fs)) (sym c.deref.ensures.value) c.requires.can
 
 pub read_rules-requires-clause-short : goal.read_rules-requires-clause-short
 read_rules-requires-clause-short c = subst (AllByRecursion (λ l. HasShortLines 262144 (rule_data l))) (sym c.deref-2.ensures.value) c.requires.short
@@ -40,5 +40,5 @@ returns-clause-read c =
 pub returns-clause-refused : goal.returns-clause-refused
 returns-clause-refused c =
     let x = c.args.prepared.now in
-    let here = subst (λ (fs : List Form). IfErr c.read_rules.result (OrMemory (IsFirstBad (with_forms x fs) (map rule_data c.deref-2.result.now)))) c.deref.ensures.value c.read_rules.ensures.refused in
-    subst (λ (ls : List RuleLines). IfErr c.read_rules.result (OrMemory (IsFirstBad (with_forms x x.forms.items) (map rule_data ls)))) c.deref-2.ensures.value here
+    let here = subst (λ (fs : List Form). IfErr c.read_rules.result (OrMemory (IsFirstBadRule (with_forms x fs) (map rule_data c.deref-2.result.now)))) c.deref.ensures.value c.read_rules.ensures.refused in
+    subst (λ (ls : List RuleLines). IfErr c.read_rules.result (OrMemory (IsFirstBadRule (with_forms x x.forms.items) (map rule_data ls)))) c.deref-2.ensures.value here

@@ -3,7 +3,7 @@ use Rattle.std.specs.Prelude.{IfOk, IfErr}
 use Rattle.sx_term.specs.declared.sort.Sort.{Sort}
 use Rattle.sx_term.specs.Term.{tree}
 use Rattle.sx_earley.specs.Completed.{IsSort}
-use Rattle.sx_notation.specs.ReadText.{IsRead, IsRefused}
+use Rattle.sx_notation.specs.ReadText.{IsReadLine, IsTextRefused}
 use Rattle.sx_language.specs.Readers.{reader}
 use Rattle.sx_language.proofs.rule_line.judgement_term.Goals as goal
 
@@ -13,9 +13,9 @@ line_term-requires-clause-sort c = subst (λ (s : Sort). IsSort (reader c.args.b
 pub returns-clause-read : goal.returns-clause-read
 returns-clause-read c =
     let r = reader c.args.by.now in
-    subst (λ (s : Sort). IfOk c.line_term.result (λ t. IsRead r.parts r.stems s c.args.line.now.text c.args.vars.now c.line_term.new.vars (tree t))) c.judgements-sort.ensures c.line_term.ensures.read
+    subst (λ (s : Sort). IfOk c.line_term.result (λ t. IsReadLine r.parts r.stems s c.args.line.now.text c.args.vars.now c.line_term.new.vars (tree t))) c.judgements-sort.ensures c.line_term.ensures.read
 
 pub returns-clause-refused : goal.returns-clause-refused
 returns-clause-refused c =
     let r = reader c.args.by.now in
-    subst (λ (s : Sort). IfErr c.line_term.result (IsRefused r.parts r.stems s c.args.line.now.text c.args.line.now.number)) c.judgements-sort.ensures c.line_term.ensures.refused
+    subst (λ (s : Sort). IfErr c.line_term.result (IsTextRefused r.parts r.stems s c.args.line.now.text c.args.line.now.number)) c.judgements-sort.ensures c.line_term.ensures.refused

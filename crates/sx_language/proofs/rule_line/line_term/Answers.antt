@@ -4,7 +4,7 @@ use Rattle.sx_term.specs.Term.{tree}
 use Rattle.sx_grammar.specs.Parts.{Parts}
 use Rattle.sx_earley.specs.Tokens.{Stems}
 use Rattle.sx_earley.specs.Completed.{IsSort}
-use Rattle.sx_notation.specs.ReadText.{IsRead, IsRefused}
+use Rattle.sx_notation.specs.ReadText.{IsReadLine, IsTextRefused}
 use Rattle.sx_language.proofs.rule_line.line_term.Goals as goal
 
 -- a fact of the tables is one of what they are made of, and of the text that is named
@@ -16,8 +16,8 @@ read_line-requires-clause-sort c = subst (λ (p : Parts). IsSort p c.args.sort) 
 
 pub returns-clause-read : goal.returns-clause-read
 returns-clause-read c =
-    carried (λ p s u. IfOk c.read_line.result (λ t. IsRead p s c.args.sort u c.args.vars.now c.read_line.new.vars (tree t))) c.requires.tables.0 c.requires.tables.1 c.bytes.ensures.value c.read_line.ensures.read
+    carried (λ p s u. IfOk c.read_line.result (λ t. IsReadLine p s c.args.sort u c.args.vars.now c.read_line.new.vars (tree t))) c.requires.tables.0 c.requires.tables.1 c.bytes.ensures.value c.read_line.ensures.read
 
 pub returns-clause-refused : goal.returns-clause-refused
 returns-clause-refused c =
-    carried (λ p s u. IfErr c.read_line.result (IsRefused p s c.args.sort u c.args.line.now.number)) c.requires.tables.0 c.requires.tables.1 c.bytes.ensures.value c.read_line.ensures.refused
+    carried (λ p s u. IfErr c.read_line.result (IsTextRefused p s c.args.sort u c.args.line.now.number)) c.requires.tables.0 c.requires.tables.1 c.bytes.ensures.value c.read_line.ensures.refused

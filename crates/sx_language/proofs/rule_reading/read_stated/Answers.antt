@@ -2,7 +2,7 @@ use Rattle.std.proofs.Common.{◌≤◌, List, [], map, inr, length, sym, subst}
 use Rattle.std.specs.List.{AllByRecursion}
 use Rattle.sx_rules.specs.Views as view
 use Rattle.sx_outline.specs.declared.rule_lines.RuleLine.{RuleLine}
-use Rattle.sx_outline.specs.Stages.{numbered, rule_data}
+use Rattle.sx_outline.specs.Stages.{numbered_rule_line, rule_data}
 use Rattle.sx_language.specs.Readers.{reader}
 use Rattle.sx_language.specs.RuleLine.{subject_sort}
 use Rattle.sx_language.specs.RuleTexts.{ArePremises, IsBadBody, IsBadRule}
@@ -21,6 +21,6 @@ returns-in-Err-read_body-clause-refused c =
     let last = c.read_conclusion.new.vars in
     let j = view.judgement c.in-Ok.conclusion in
     let qs = map view.premise c.in_ok-premises.premises.items in
-    let read = subst (λ (ls : List RuleLine). ArePremises r (map numbered ls) [] middle qs) c.deref.ensures.value c.in_ok-premises.ensures.read in
+    let read = subst (λ (ls : List RuleLine). ArePremises r (map numbered_rule_line ls) [] middle qs) c.deref.ensures.value c.in_ok-premises.ensures.read in
     or_memory_map (IsBadBody r lines.body (subject_sort r.forms j.form)) (IsBadRule r lines) c.in-Err-read_body.error
     (λ x k. inr (middle, qs, read, inr (last, j, c.in-Ok.ensures.read, k))) c.in-Err-read_body.ensures.refused

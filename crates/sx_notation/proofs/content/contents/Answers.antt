@@ -3,7 +3,7 @@ use Rattle.std.proofs.lemmas.List.{map-append}
 use Rattle.sx_term.specs.Tree.{Tree}
 use Rattle.sx_term.specs.Term.{tree}
 use Rattle.sx_rules.specs.Views.{is_out}
-use Rattle.sx_notation.specs.Placed.{shown}
+use Rattle.sx_notation.specs.Placed.{shown_term}
 use Rattle.sx_notation.proofs.Filling.{Filled, past_input, past_output, is_no_output}
 use Rattle.sx_notation.proofs.content.contents.Goals as goal
 use Rattle.sx_notation.proofs.content.contents.Goals.{in-In+in_ok-push-in-In, in-Out+in_ok-push-in-Out}
@@ -21,13 +21,13 @@ loop-place-preserved c =
     let lt = c.loop-place-test.true in
     elim c.match-place.branch [
       | in-In+in_ok-push-in-In w ↦
-          let e = ap (map shown) (ap (λ v. v.items) w.here-is ∙ w.in_ok-push-in-In.ensures.items) ∙ map-append shown here (w.term_in.result ∷ []) in
-          subst (λ m. Filled ps ins os (k + 1) m c.match-place.output (map shown c.match-place.here.items)) (sym w.input-is)
-          (subst (λ m. Filled ps ins os (k + 1) (i + 1) m (map shown c.match-place.here.items)) (sym w.output-is)
-          (subst (λ x. Filled ps ins os (k + 1) (i + 1) j x) (sym e) (past_input ps ins os k i j _ (map shown here) _ before lt (is_no_output _ w.in-In.is) w.term_in.ensures)))
+          let e = ap (map shown_term) (ap (λ v. v.items) w.here-is ∙ w.in_ok-push-in-In.ensures.items) ∙ map-append shown_term here (w.term_in.result ∷ []) in
+          subst (λ m. Filled ps ins os (k + 1) m c.match-place.output (map shown_term c.match-place.here.items)) (sym w.input-is)
+          (subst (λ m. Filled ps ins os (k + 1) (i + 1) m (map shown_term c.match-place.here.items)) (sym w.output-is)
+          (subst (λ x. Filled ps ins os (k + 1) (i + 1) j x) (sym e) (past_input ps ins os k i j _ (map shown_term here) _ before lt (is_no_output _ w.in-In.is) w.term_in.ensures)))
       | in-Out+in_ok-push-in-Out w ↦
-          let e = ap (map shown) (ap (λ v. v.items) w.here-is ∙ w.in_ok-push-in-Out.ensures.items) ∙ map-append shown here (w.term_at.result ∷ []) in
-          subst (λ m. Filled ps ins os (k + 1) m c.match-place.output (map shown c.match-place.here.items)) (sym w.input-is)
-          (subst (λ m. Filled ps ins os (k + 1) i m (map shown c.match-place.here.items)) (sym w.output-is)
-          (subst (λ x. Filled ps ins os (k + 1) i (j + 1) x) (sym e) (past_output ps ins os k i j _ (map shown here) _ before lt (ap is_out w.in-Out.is) w.term_at.ensures)))
+          let e = ap (map shown_term) (ap (λ v. v.items) w.here-is ∙ w.in_ok-push-in-Out.ensures.items) ∙ map-append shown_term here (w.term_at.result ∷ []) in
+          subst (λ m. Filled ps ins os (k + 1) m c.match-place.output (map shown_term c.match-place.here.items)) (sym w.input-is)
+          (subst (λ m. Filled ps ins os (k + 1) i m (map shown_term c.match-place.here.items)) (sym w.output-is)
+          (subst (λ x. Filled ps ins os (k + 1) i (j + 1) x) (sym e) (past_output ps ins os k i j _ (map shown_term here) _ before lt (ap is_out w.in-Out.is) w.term_at.ensures)))
     ]

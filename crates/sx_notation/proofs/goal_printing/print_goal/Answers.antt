@@ -4,13 +4,13 @@ use Rattle.std.specs.Prelude.{MatchOption}
 use Rattle.sx_term.specs.declared.term.Term.{Term}
 use Rattle.sx_term.specs.Term.{tree}
 use Rattle.sx_grammar.specs.Parts.{numbered}
-use Rattle.sx_print.specs.Printed.{Adds}
+use Rattle.sx_print.specs.Printed.{AddsTokens}
 use Rattle.sx_print.proofs.Cutting.{text_utf8}
 use Rattle.sx_rules.specs.Deep.{AreShallow}
 use Rattle.sx_rules.specs.Sets.{forms_in}
 use Rattle.sx_rules.specs.Views as view
 use Rattle.sx_notation.specs.GoalText.{goal_tokens}
-use Rattle.sx_notation.specs.Placed.{shown}
+use Rattle.sx_notation.specs.Placed.{shown_term}
 use Rattle.sx_notation.proofs.Fitting.{as_many_forms, here_is, row_is, as_many, puttable}
 use Rattle.sx_notation.proofs.goal_printing.print_goal.Goals as goal
 
@@ -26,7 +26,7 @@ put_places-requires-clause-many c =
     c.forms-forms.ensures c.requires.fits.is c.index-forms-goal.is c.deref.ensures.value (ap (map tree) c.deref-2.ensures.value) c.in_ok-here.ensures in
     as_many c.args.grammar.now.parts known (view.goal c.args.goal.now) (length c.forms-forms.result.now) c.production_of-production.result.now c.deref-3.result.now
     (as_many_forms c.forms-forms.result.now known c.forms-forms.ensures) c.production_of-production.ensures.same c.deref-3.ensures.value
-    (length c.args.vars.now) (option_map (λ w. map tree w.now.items) c.args.got) c.deref-4.result.now c.requires.forms c.requires.fits (ap (map shown) c.deref-4.ensures.value ∙ at)
+    (length c.args.vars.now) (option_map (λ w. map tree w.now.items) c.args.got) c.deref-4.result.now c.requires.forms c.requires.fits (ap (map shown_term) c.deref-4.ensures.value ∙ at)
 
 pub put_places-requires-clause-puttable : goal.put_places-requires-clause-puttable
 put_places-requires-clause-puttable c =
@@ -35,18 +35,18 @@ put_places-requires-clause-puttable c =
     let at = here_is c.forms-forms.result.now known n c.requires.fits.form c.index-forms-goal.result c.deref.result.now (map tree c.deref-2.result.now) (map tree c.args.goal.now.inputs.items) _ _
     c.forms-forms.ensures c.requires.fits.is c.index-forms-goal.is c.deref.ensures.value (ap (map tree) c.deref-2.ensures.value) c.in_ok-here.ensures in
     puttable (numbered c.args.grammar.now.parts) (length c.args.vars.now) known (view.goal c.args.goal.now) (option_map (λ w. map tree w.now.items) c.args.got) c.deref-4.result.now
-    c.requires.fits c.requires.inputs (shallow_outputs c.args.got c.requires.outputs) (ap (map shown) c.deref-4.ensures.value ∙ at)
+    c.requires.fits c.requires.inputs (shallow_outputs c.args.got c.requires.outputs) (ap (map shown_term) c.deref-4.ensures.value ∙ at)
 
-adds_here : (c : goal.After-drop-here) → Adds (goal_tokens c.args.grammar.now.parts c.args.vars.now (forms_in c.args.language.now.rules) (view.goal c.args.goal.now) (option_map (λ w. map tree w.now.items) c.args.got)) c.args.into.now.items c.put_places.new.into.items
+adds_here : (c : goal.After-drop-here) → AddsTokens (goal_tokens c.args.grammar.now.parts c.args.vars.now (forms_in c.args.language.now.rules) (view.goal c.args.goal.now) (option_map (λ w. map tree w.now.items) c.args.got)) c.args.into.now.items c.put_places.new.into.items
 adds_here c =
     let known = forms_in c.args.language.now.rules in
     let n = c.args.goal.now.form in
     let at = here_is c.forms-forms.result.now known n c.requires.fits.form c.index-forms-goal.result c.deref.result.now (map tree c.deref-2.result.now) (map tree c.args.goal.now.inputs.items) _ _
     c.forms-forms.ensures c.requires.fits.is c.index-forms-goal.is c.deref.ensures.value (ap (map tree) c.deref-2.ensures.value) c.in_ok-here.ensures in
-    subst (λ x. Adds x c.args.into.now.items c.put_places.new.into.items)
+    subst (λ x. AddsTokens x c.args.into.now.items c.put_places.new.into.items)
     (row_is c.args.grammar.now.parts known (view.goal c.args.goal.now) (length c.forms-forms.result.now) c.production_of-production.result.now c.deref-3.result.now
     (as_many_forms c.forms-forms.result.now known c.forms-forms.ensures) c.production_of-production.ensures.same c.deref-3.ensures.value
-    c.args.vars.now (option_map (λ w. map tree w.now.items) c.args.got) (map shown c.deref-4.result.now) (ap (map shown) c.deref-4.ensures.value ∙ at))
+    c.args.vars.now (option_map (λ w. map tree w.now.items) c.args.got) (map shown_term c.deref-4.result.now) (ap (map shown_term) c.deref-4.ensures.value ∙ at))
     c.in-Ok.ensures.ok
 
 pub returns-in-Ok-clause-text : goal.returns-in-Ok-clause-text

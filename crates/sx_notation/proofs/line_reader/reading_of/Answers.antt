@@ -4,7 +4,7 @@ use Rattle.sx_grammar.specs.Tables.{GrammarData}
 use Rattle.sx_grammar.specs.ReadOne.{IsAnswer, only}
 use Rattle.sx_earley.specs.Tokens.{plain_tokens}
 use Rattle.sx_earley.specs.Unknown.{HaveStems}
-use Rattle.sx_earley.specs.Completed.{number_of}
+use Rattle.sx_earley.specs.Completed.{sort_number}
 use Rattle.sx_forest.specs.Readings.{plain_reading}
 use Rattle.sx_notation.specs.WhyUnread.{IsReadError}
 use Rattle.sx_notation.specs.ReadText.{ReaderData, IsUnreadLine}
@@ -15,7 +15,7 @@ read_one_by-requires-clause-stems c = subst (λ (d : ReaderData). HaveStems d.st
 
 pub returns-in-Ok-clause-only : goal.returns-in-Ok-clause-only
 returns-in-Ok-clause-only c =
-    subst (λ (d : ReaderData). IsAnswer (numbered d.parts) (plain_tokens d.stems c.args.tokens.now) (number_of c.args.sort) (only (plain_reading c.in-Ok.reading))) c.by.view_is c.in-Ok.ensures.only
+    subst (λ (d : ReaderData). IsAnswer (numbered d.parts) (plain_tokens d.stems c.args.tokens.now) (sort_number c.args.sort) (only (plain_reading c.in-Ok.reading))) c.by.view_is c.in-Ok.ensures.only
 
 pub read_error-requires : goal.read_error-requires
 read_error-requires c = (

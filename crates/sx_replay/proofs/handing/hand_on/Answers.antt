@@ -1,7 +1,7 @@
 use Rattle.std.proofs.Common.{ℕ, List, length, subst, sym}
 use Rattle.sx_arena.specs.Arena.{trees, AreBelow}
-use Rattle.sx_arena.specs.Views.{rules_of, modes_of}
-use Rattle.sx_replay.specs.Reader.{IsResumed}
+use Rattle.sx_arena.specs.Views.{rules_of, set_modes}
+use Rattle.sx_replay.specs.Reader.{IsReplayResumed}
 use Rattle.sx_replay.specs.declared.step.Step.TheVariants.{Done}
 use Rattle.sx_replay.proofs.Handed.{popped, popped_reader, pairs_here, handing_more, fewer_wait, handed_stop}
 use Rattle.sx_replay.proofs.handing.hand_on.Goals as goal
@@ -21,7 +21,7 @@ resume-requires-clause-waits c =
 
 pub resume-requires-clause-pairs : goal.resume-requires-clause-pairs
 resume-requires-clause-pairs c =
-    let m = modes_of c.args.given.now.rules.now in
+    let m = set_modes c.args.given.now.rules.now in
     let rs = rules_of c.args.given.now.rules.now in
     pairs_here m rs c.args.given.now.pairs.now c.args.reader.now c.loop-waiting.reader c.loop-waiting.reader c.args.outputs.items c.loop-waiting.outputs.items c.in_ok-outputs.outputs.items c.pop.new.self c.in-Some.waiting c.cut.new.self c.keep.new.arena (record { items = c.cut.ensures.items; binds = c.cut.ensures.binds })
     c.requires.pairs c.loop-waiting.invariant c.in-Some.ensures.items c.in_ok-outputs.ensures
@@ -31,29 +31,29 @@ resume-requires-clause-outputs c = subst (λ (os : List ℕ). AreBelow (length (
 
 pub loop-waiting-smaller : goal.loop-waiting-smaller
 loop-waiting-smaller c =
-    let m = modes_of c.args.given.now.rules.now in
+    let m = set_modes c.args.given.now.rules.now in
     let rs = rules_of c.args.given.now.rules.now in
     let p = popped c.loop-waiting.reader c.pop.new.self c.cut.new.self c.keep.new.arena in
-    let r = subst (λ (os : List ℕ). IsResumed m rs c.args.given.now.pairs.now p c.resume.new.reader c.in-Some.waiting os (Done c.in-Done.made)) c.deref.ensures.value
-    (subst (IsResumed m rs c.args.given.now.pairs.now p c.resume.new.reader c.in-Some.waiting c.deref.result.now) c.in-Done.is c.in_ok-other.ensures) in
+    let r = subst (λ (os : List ℕ). IsReplayResumed m rs c.args.given.now.pairs.now p c.resume.new.reader c.in-Some.waiting os (Done c.in-Done.made)) c.deref.ensures.value
+    (subst (IsReplayResumed m rs c.args.given.now.pairs.now p c.resume.new.reader c.in-Some.waiting c.deref.result.now) c.in-Done.is c.in_ok-other.ensures) in
     fewer_wait m rs c.args.given.now.pairs.now c.args.reader.now c.loop-waiting.reader c.resume.new.reader c.args.outputs.items c.loop-waiting.outputs.items c.in_ok-outputs.outputs.items c.pop.new.self c.in-Some.waiting c.cut.new.self c.keep.new.arena (record { items = c.cut.ensures.items; binds = c.cut.ensures.binds })
     c.requires.pairs c.loop-waiting.invariant c.in-Some.ensures.items c.in_ok-outputs.ensures c.in-Done.made r
 
 pub loop-waiting-preserved : goal.loop-waiting-preserved
 loop-waiting-preserved c =
-    let m = modes_of c.args.given.now.rules.now in
+    let m = set_modes c.args.given.now.rules.now in
     let rs = rules_of c.args.given.now.rules.now in
     let p = popped c.loop-waiting.reader c.pop.new.self c.cut.new.self c.keep.new.arena in
-    let r = subst (λ (os : List ℕ). IsResumed m rs c.args.given.now.pairs.now p c.resume.new.reader c.in-Some.waiting os (Done c.in-Done.made)) c.deref.ensures.value
-    (subst (IsResumed m rs c.args.given.now.pairs.now p c.resume.new.reader c.in-Some.waiting c.deref.result.now) c.in-Done.is c.in_ok-other.ensures) in
+    let r = subst (λ (os : List ℕ). IsReplayResumed m rs c.args.given.now.pairs.now p c.resume.new.reader c.in-Some.waiting os (Done c.in-Done.made)) c.deref.ensures.value
+    (subst (IsReplayResumed m rs c.args.given.now.pairs.now p c.resume.new.reader c.in-Some.waiting c.deref.result.now) c.in-Done.is c.in_ok-other.ensures) in
     handing_more m rs c.args.given.now.pairs.now c.args.reader.now c.loop-waiting.reader c.resume.new.reader c.args.outputs.items c.loop-waiting.outputs.items c.in_ok-outputs.outputs.items c.pop.new.self c.in-Some.waiting c.cut.new.self c.keep.new.arena (record { items = c.cut.ensures.items; binds = c.cut.ensures.binds })
     c.requires.pairs c.loop-waiting.invariant c.in-Some.ensures.items c.in_ok-outputs.ensures c.in-Done.made r
 
 pub returns-in_default-2 : goal.returns-in_default-2
 returns-in_default-2 c =
-    let m = modes_of c.args.given.now.rules.now in
+    let m = set_modes c.args.given.now.rules.now in
     let rs = rules_of c.args.given.now.rules.now in
     let p = popped c.loop-waiting.reader c.pop.new.self c.cut.new.self c.keep.new.arena in
     handed_stop m rs c.args.given.now.pairs.now c.args.reader.now c.loop-waiting.reader c.resume.new.reader c.args.outputs.items c.loop-waiting.outputs.items c.in_ok-outputs.outputs.items c.pop.new.self c.in-Some.waiting c.cut.new.self c.keep.new.arena (record { items = c.cut.ensures.items; binds = c.cut.ensures.binds })
     c.requires.pairs c.loop-waiting.invariant c.in-Some.ensures.items c.in_ok-outputs.ensures
-    c.in_ok-other.other (λ o e. c.in_default-2.not-Done o e) (subst (λ (os : List ℕ). IsResumed m rs c.args.given.now.pairs.now p c.resume.new.reader c.in-Some.waiting os c.in_ok-other.other) c.deref.ensures.value c.in_ok-other.ensures)
+    c.in_ok-other.other (λ o e. c.in_default-2.not-Done o e) (subst (λ (os : List ℕ). IsReplayResumed m rs c.args.given.now.pairs.now p c.resume.new.reader c.in-Some.waiting os c.in_ok-other.other) c.deref.ensures.value c.in_ok-other.ensures)

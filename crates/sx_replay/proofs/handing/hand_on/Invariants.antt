@@ -1,10 +1,10 @@
 use Rattle.std.proofs.Common.{length}
-use Rattle.sx_arena.specs.Views.{rules_of, modes_of}
+use Rattle.sx_arena.specs.Views.{rules_of, set_modes}
 use Rattle.sx_replay.proofs.Handed.{Handing}
 use Rattle.sx_replay.proofs.handing.hand_on.Given as goal
 
 abbrev pub invariant-loop-waiting : goal.invariant-loop-waiting
-invariant-loop-waiting l = Handing (modes_of l.given.rules.now) (rules_of l.given.rules.now) l.given.pairs.now l.initial.reader l.reader l.initial.outputs.items l.outputs.items
+invariant-loop-waiting l = Handing (set_modes l.given.rules.now) (rules_of l.given.rules.now) l.given.pairs.now l.initial.reader l.reader l.initial.outputs.items l.outputs.items
 
 abbrev pub decreases-loop-waiting : goal.decreases-loop-waiting
 decreases-loop-waiting l = length l.reader.waiting.items

@@ -10,7 +10,7 @@ use Rattle.sx_rules.specs.Deep.{AreShallow}
 use Rattle.sx_arena.specs.Matching.{match_all}
 use Rattle.sx_arena.specs.Arena.{tree_at}
 use Rattle.sx_arena.specs.Binds.{env_at}
-use Rattle.sx_arena.specs.Views.{rules_of, modes_of, rule_of, premise_of, judgement_of}
+use Rattle.sx_arena.specs.Views.{rules_of, set_modes, rule_of, premise_of, judgement_of}
 use Rattle.sx_arena.proofs.Patterns.{ok_weaker}
 use Rattle.sx_replay.specs.Reader.{reader_trees, reader_envs}
 use Rattle.sx_replay.proofs.Readers.{shallow_rule}
@@ -39,7 +39,7 @@ pub premises-requires-clause-reader : goal.premises-requires-clause-reader
 premises-requires-clause-reader c =
     let x = waits_at _ _ _ c.requires.waits _ c.rule_at-rule.ensures in
     let l = holds_at c.rule_at-rule.result.now.premises.items c.args.waiting.premise _ _ _ x.1 c.index.ensures c.in-Holds.is in
-    (bound_grows (modes_of c.args.given.now.rules.now) (rules_of c.args.given.now.rules.now) c.args.given.now.pairs.now c.args.reader.now c.args.waiting (rule_of c.rule_at-rule.result.now) (judgement_of c.in-Holds.judgement) c.args.outputs.now
+    (bound_grows (set_modes c.args.given.now.rules.now) (rules_of c.args.given.now.rules.now) c.args.given.now.pairs.now c.args.reader.now c.args.waiting (rule_of c.rule_at-rule.result.now) (judgement_of c.in-Holds.judgement) c.args.outputs.now
     c.requires.reader c.rule_at-rule.ensures l.1 c.fit_places.new.binds c.in_ok-fit-in-Holds.ensures.grows).reader
 
 pub returns-in-None : goal.returns-in-None
@@ -47,7 +47,7 @@ returns-in-None c =
     let x = waits_at _ _ _ c.requires.waits _ c.rule_at-rule.ensures in
     let l = holds_at c.rule_at-rule.result.now.premises.items c.args.waiting.premise _ _ _ x.1 c.index.ensures c.in-Holds.is in
     let s = c.args.reader.now in
-    resumed_none (modes_of c.args.given.now.rules.now) (rules_of c.args.given.now.rules.now) c.args.given.now.pairs.now s c.args.waiting (rule_of c.rule_at-rule.result.now) (judgement_of c.in-Holds.judgement) c.args.outputs.now
+    resumed_none (set_modes c.args.given.now.rules.now) (rules_of c.args.given.now.rules.now) c.args.given.now.pairs.now s c.args.waiting (rule_of c.rule_at-rule.result.now) (judgement_of c.in-Holds.judgement) c.args.outputs.now
     c.requires.reader c.rule_at-rule.ensures l.1 c.fit_places.new.binds c.in_ok-fit-in-Holds.ensures.grows
     ((λ i. match_all (selected (sym c.new-side.ensures.outputs i) (sym c.new-side.ensures.roles i) (map tree (sym c.new-side.ensures.places i))) (map (tree_at (reader_trees s)) c.args.outputs.now) (env_at (reader_envs s) c.args.waiting.env))
     ∙ (rw c.in-None.is at c.in_ok-fit-in-Holds.ensures.fit))
@@ -58,7 +58,7 @@ returns-in-Some c =
     let l = holds_at c.rule_at-rule.result.now.premises.items c.args.waiting.premise _ _ _ x.1 c.index.ensures c.in-Holds.is in
     let s = c.args.reader.now in
     let f = rw c.in-Some.is at c.in_ok-fit-in-Holds.ensures.fit in
-    ok_weaker _ _ (λ step p. resumed_more (modes_of c.args.given.now.rules.now) (rules_of c.args.given.now.rules.now) c.args.given.now.pairs.now s c.args.waiting (rule_of c.rule_at-rule.result.now) (judgement_of c.in-Holds.judgement) c.args.outputs.now
+    ok_weaker _ _ (λ step p. resumed_more (set_modes c.args.given.now.rules.now) (rules_of c.args.given.now.rules.now) c.args.given.now.pairs.now s c.args.waiting (rule_of c.rule_at-rule.result.now) (judgement_of c.in-Holds.judgement) c.args.outputs.now
     c.requires.reader c.rule_at-rule.ensures l.1 c.fit_places.new.binds c.in_ok-fit-in-Holds.ensures.grows c.premises.new.reader c.in-Some.env step
     ((λ i. match_all (selected (sym c.new-side.ensures.outputs i) (sym c.new-side.ensures.roles i) (map tree (sym c.new-side.ensures.places i))) (map (tree_at (reader_trees s)) c.args.outputs.now) (env_at (reader_envs s) c.args.waiting.env)) ∙ f.1) p)
     c.premises.result c.premises.ensures

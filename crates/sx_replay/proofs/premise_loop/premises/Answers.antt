@@ -1,5 +1,5 @@
 use Rattle.std.proofs.Common.{refl, subst, length, ◌<◌, arith}
-use Rattle.sx_arena.specs.Views.{rule_of, rules_of, modes_of, judgement_of}
+use Rattle.sx_arena.specs.Views.{rule_of, rules_of, set_modes, judgement_of}
 use Rattle.sx_arena.proofs.Growing.{extends-length}
 use Rattle.sx_arena.proofs.Parted.{pairs_more_terms}
 use Rattle.sx_replay.proofs.Readers.{env_later}
@@ -28,7 +28,7 @@ pub returns-then-not-branch : goal.returns-then-not-branch
 returns-then-not-branch c =
     let l : c.loop-k.k < length c.args.rule.now.premises.items = (let a = c.loop-k-test.true in let b = c.len-k-end.ensures in let d = c.args.rule.now.premises.ok in omega arith) in
     let mid = c.loop-k.reader in
-    apart_fails (modes_of c.args.given.now.rules.now) (rules_of c.args.given.now.rules.now) c.args.given.now.pairs.now c.args.reader.now mid (record { arena = c.instances_apart.new.arena; binds = mid.binds; waiting = mid.waiting; noted = mid.noted; base = mid.base }) (rule_of c.args.rule.now) c.args.env _
+    apart_fails (set_modes c.args.given.now.rules.now) (rules_of c.args.given.now.rules.now) c.args.given.now.pairs.now c.args.reader.now mid (record { arena = c.instances_apart.new.arena; binds = mid.binds; waiting = mid.waiting; noted = mid.noted; base = mid.base }) (rule_of c.args.rule.now) c.args.env _
     c.requires.pairs c.requires.env c.in_ok-instances_apart-in-Apart.field-0 _ _ _
     (reached_as _ _ _ _ _ _ mid _ _ _ (drop_premise _ c.loop-k.k _ _ l c.index.ensures c.in-Apart.is) c.loop-k.invariant) c.in_ok-instances_apart-in-Apart.ensures c.if-not-branch.true refl refl refl
 
@@ -45,7 +45,7 @@ returns-in-Holds c =
     let l : c.loop-k.k < length c.args.rule.now.premises.items = (let a = c.loop-k-test.true in let b = c.len-k-end.ensures in let d = c.args.rule.now.premises.ok in omega arith) in
     let mid = c.loop-k.reader in
     let made = c.make.new.reader in
-    asked_is (modes_of c.args.given.now.rules.now) (rules_of c.args.given.now.rules.now) c.args.given.now.pairs.now c.args.reader.now mid (record { arena = made.arena; binds = made.binds; waiting = c.push.new.self; noted = made.noted; base = made.base }) (rule_of c.args.rule.now) c.args.env _
+    asked_is (set_modes c.args.given.now.rules.now) (rules_of c.args.given.now.rules.now) c.args.given.now.pairs.now c.args.reader.now mid (record { arena = made.arena; binds = made.binds; waiting = c.push.new.self; noted = made.noted; base = made.base }) (rule_of c.args.rule.now) c.args.env _
     c.requires.pairs c.requires.env c.requires.reader made (judgement_of c.in-Holds.judgement) c.loop-k.k c.args.number c.mark-mark.result c.len-held.result c.in_ok-terms-in-Holds.terms c.mark-mark.ensures c.len-held.ensures
     (reached_as _ _ _ _ _ _ mid _ _ _ (drop_premise _ c.loop-k.k _ _ l c.index.ensures c.in-Holds.is) c.loop-k.invariant)
     c.requires.found (premise_get _ c.loop-k.k _ _ l c.index.ensures c.in-Holds.is) c.in_ok-terms-in-Holds.ensures refl refl c.in_ok-push-in-Holds.ensures.items refl refl
@@ -54,7 +54,7 @@ pub loop-k-preserved : goal.loop-k-preserved
 loop-k-preserved c =
     let l : c.loop-k.k < length c.args.rule.now.premises.items = (let a = c.loop-k-test.true in let b = c.len-k-end.ensures in let d = c.args.rule.now.premises.ok in omega arith) in
     let mid = c.loop-k.reader in
-    apart_holds (modes_of c.args.given.now.rules.now) (rules_of c.args.given.now.rules.now) c.args.given.now.pairs.now c.args.reader.now mid (record { arena = c.instances_apart.new.arena; binds = mid.binds; waiting = mid.waiting; noted = mid.noted; base = mid.base }) (rule_of c.args.rule.now) c.args.env _
+    apart_holds (set_modes c.args.given.now.rules.now) (rules_of c.args.given.now.rules.now) c.args.given.now.pairs.now c.args.reader.now mid (record { arena = c.instances_apart.new.arena; binds = mid.binds; waiting = mid.waiting; noted = mid.noted; base = mid.base }) (rule_of c.args.rule.now) c.args.env _
     c.requires.pairs c.requires.env c.in_ok-instances_apart-in-Apart.field-0 _ _ _
     (reached_as _ _ _ _ _ _ mid _ _ _ (drop_premise _ c.loop-k.k _ _ l c.index.ensures c.in-Apart.is) c.loop-k.invariant) c.in_ok-instances_apart-in-Apart.ensures c.if-not-branch.false refl refl refl refl
 
@@ -63,7 +63,7 @@ make-requires-2-clause-env c = (env_later (rules_of c.args.given.now.rules.now) 
 
 pub returns : goal.returns
 returns c =
-    concluded_is (modes_of c.args.given.now.rules.now) (rules_of c.args.given.now.rules.now) c.args.given.now.pairs.now c.args.reader.now c.loop-k.reader c.make-2.new.reader (rule_of c.args.rule.now) c.args.env _
+    concluded_is (set_modes c.args.given.now.rules.now) (rules_of c.args.given.now.rules.now) c.args.given.now.pairs.now c.args.reader.now c.loop-k.reader c.make-2.new.reader (rule_of c.args.rule.now) c.args.env _
     c.requires.pairs c.requires.env c.in_ok-make.field-0
     (reached_as _ _ _ _ _ _ c.loop-k.reader _ _ _ (drop_premises_end c.args.rule.now.premises.items c.loop-k.k (let a = c.loop-k-test.false in let b = c.len-k-end.ensures in let d = c.args.rule.now.premises.ok in omega arith)) c.loop-k.invariant)
     c.in_ok-make.ensures

@@ -3,7 +3,7 @@ use Rattle.sx_term.specs.Instances.{bound_by}
 use Rattle.sx_rules.specs.Derivations.{proof_instance, graft}
 use Rattle.sx_rules.specs.ProofView.{proof, boxed}
 use Rattle.sx_rules.specs.Sets.{bare_rules_in}
-use Rattle.sx_rewrite.specs.Givens.{givens_of, numbered, AllBelow}
+use Rattle.sx_rewrite.specs.Givens.{givens_of, numbered, NumbersBelow}
 use Rattle.sx_rewrite.specs.Rewriting.{first_over}
 use Rattle.sx_rewrite.specs.Measured.{certificate_terms}
 use Rattle.sx_rewrite.specs.Puts.{Tells, Answers}
@@ -21,7 +21,7 @@ returns-in_err-body c = λ more q.
 pub placed_kids-requires-clause-below : goal.placed_kids-requires-clause-below
 placed_kids-requires-clause-below c =
     let g = c.in_ok-body.ensures.givens ∙ ap (λ (xs : List ℕ). xs ++ givens_of (proof c.args.certificate.now)) c.new-givens.ensures.items in
-    subst (λ (xs : List ℕ). AllBelow (length c.args.kids.items) xs) (sym g) c.requires.givens
+    subst (λ (xs : List ℕ). NumbersBelow (length c.args.kids.items) xs) (sym g) c.requires.givens
 
 pub graft-requires-clause-numbered : goal.graft-requires-clause-numbered
 graft-requires-clause-numbered c =

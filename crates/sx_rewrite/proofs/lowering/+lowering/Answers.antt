@@ -6,7 +6,7 @@ use Rattle.sx_rules.specs.ProofView.{proof, boxed}
 use Rattle.sx_rules.specs.Sets.{forms_in}
 use Rattle.sx_rules.specs.Views.{hypotheses, subjects_in}
 use Rattle.sx_rewrite.specs.AcceptedView.{accepted}
-use Rattle.sx_rewrite.specs.Lowering.{IsLoweredTo, AreLoweredTo, IsRefused, AreRefused}
+use Rattle.sx_rewrite.specs.Lowering.{IsLoweredTo, AreLoweredTo, IsLoweringRefused, AreRefused}
 use Rattle.sx_rewrite.specs.Needed.{needed}
 use Rattle.sx_rewrite.specs.SourceView.{set_of}
 use Rattle.sx_rewrite.specs.Stored.{certificate_at}
@@ -52,9 +52,9 @@ lower_kids-returns-in_err-lower_kid t c =
 
 pub lower_proof-returns-in_err-lowered-in-By : goal.lower_proof-returns-in_err-lowered-in-By
 lower_proof-returns-in_err-lowered-in-By t c =
-    err_is (λ r. MatchResult r (λ x. IsLoweredTo (set_of c.args.source.now) (subjects_in (forms_in c.args.source.now.set.now.base)) (hypotheses c.args.source.now.given.now) (proof c.args.proof.now) (proof x.value)) (IsRefused (set_of c.args.source.now) (subjects_in (forms_in c.args.source.now.set.now.base)) (hypotheses c.args.source.now.given.now) (proof c.args.proof.now)))
+    err_is (λ r. MatchResult r (λ x. IsLoweredTo (set_of c.args.source.now) (subjects_in (forms_in c.args.source.now.set.now.base)) (hypotheses c.args.source.now.given.now) (proof c.args.proof.now) (proof x.value)) (IsLoweringRefused (set_of c.args.source.now) (subjects_in (forms_in c.args.source.now.set.now.base)) (hypotheses c.args.source.now.given.now) (proof c.args.proof.now)))
     c.from_residual.result _ c.from_residual.ensures.1
-    (λ e same. subst (IsRefused (set_of c.args.source.now) (subjects_in (forms_in c.args.source.now.set.now.base)) (hypotheses c.args.source.now.given.now) (proof c.args.proof.now)) (sym same) (here-refuse c.args.source.now c.requires.source c.args.proof.now c.in-By.rule c.in-By.binds c.in-By.kids c.in-By.is c.requires.derived c.deref.result.now c.deref.ensures.value _ c.in_err-lowered-in-By.ensures))
+    (λ e same. subst (IsLoweringRefused (set_of c.args.source.now) (subjects_in (forms_in c.args.source.now.set.now.base)) (hypotheses c.args.source.now.given.now) (proof c.args.proof.now)) (sym same) (here-refuse c.args.source.now c.requires.source c.args.proof.now c.in-By.rule c.in-By.binds c.in-By.kids c.in-By.is c.requires.derived c.deref.result.now c.deref.ensures.value _ c.in_err-lowered-in-By.ensures))
 
 pub lower_proof-put_terms-requires-clause-ready : goal.lower_proof-put_terms-requires-clause-ready
 lower_proof-put_terms-requires-clause-ready t c = here-ready c.args.source.now c.requires.source c.args.proof.now c.in-By.rule c.in-By.binds c.in-By.kids c.in-By.is c.requires.derived c.deref.result.now c.deref.ensures.value c.in_ok-lowered-in-By.lowered.items c.in_ok-lowered-in-By.ensures c.deref-in-By.result.now c.deref-in-By.ensures.value c.deref-in-By-2.result.now c.deref-in-By-2.ensures.value

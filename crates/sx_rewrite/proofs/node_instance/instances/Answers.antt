@@ -6,7 +6,7 @@ use Rattle.sx_term.proofs.Kids.{greatest_depth-at}
 use Rattle.sx_plain.specs.declared.measure.Measure.{Measure}
 use Rattle.sx_rewrite.specs.Rewriting.{first_over}
 use Rattle.sx_rewrite.specs.Puts.{Tells, Answers}
-use Rattle.sx_rewrite.specs.Put.{IsMadeOf}
+use Rattle.sx_rewrite.specs.Put.{ArePutsMade}
 use Rattle.sx_rewrite.proofs.Instanced.{InstancesSoFar, measured-by, instances-tell, instances-step, err_is}
 use Rattle.sx_rewrite.proofs.node_instance.instances.Goals as goal
 
@@ -27,7 +27,7 @@ returns-in_err-check_measure c = λ more p.
     let all = map (instance (bound_by more)) (map tree c.args.terms.now) in
     let m = c.instance_measure-measure in
     let is = measured-by c.args.puts.now.measures.items _ _ m.result c.deref.ensures.value m.ensures.depth m.ensures.size in
-    err_is (Answers (first_over all) (IsMadeOf all)) c.from_residual-in_err-check_measure.result _ c.from_residual-in_err-check_measure.ensures.1
+    err_is (Answers (first_over all) (ArePutsMade all)) c.from_residual-in_err-check_measure.result _ c.from_residual-in_err-check_measure.ensures.1
     (λ e same. subst (Tells (first_over all)) (sym same)
     (instances-tell c.args.puts.now c.args.terms.now c.loop-i.i c.loop-i.made.items c.loop-i.measures.items c.loop-i.invariant _ c.loop-i-test.true c.index-terms-i.is m.result is _ c.in_err-check_measure.ensures more p))
 

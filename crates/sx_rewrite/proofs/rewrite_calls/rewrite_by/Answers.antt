@@ -3,7 +3,7 @@ use Rattle.sx_rules.specs.ProofView.{proof}
 use Rattle.sx_rules.specs.Sets.{forms_in}
 use Rattle.sx_rules.specs.Views.{hypotheses, subjects_in}
 use Rattle.sx_rewrite.specs.AcceptedView.{signature}
-use Rattle.sx_rewrite.specs.Lowering.{IsRefused}
+use Rattle.sx_rewrite.specs.Lowering.{IsLoweringRefused}
 use Rattle.sx_rewrite.specs.RewrittenView.{IsRewriting}
 use Rattle.sx_rewrite.specs.SourceView.{set_of}
 use Rattle.sx_rewrite.proofs.Instanced.{err_is}
@@ -27,7 +27,7 @@ returns-in_err-made-in-Some c =
     err_is (IsRewriting (set_of c.args.source.now) (signature c.args.source.now.set.now).subjects (hypotheses c.args.source.now.given.now) (proof c.args.proof.now) c.args.budget)
     c.from_residual.result _ c.from_residual.ensures.1
     (λ e same. is-refused c.args.source.now c.requires.source c.requires.counts (proof c.args.proof.now) c.requires.derived c.args.budget c.in-Some.size c.in-Some.ensures c.if-size-gt-MOST_HEIGHT.false e
-    (subst (IsRefused (set_of c.args.source.now) (subjects_in (forms_in c.args.source.now.set.now.base)) (hypotheses c.args.source.now.given.now) (proof c.args.proof.now)) (sym same) c.in_err-made-in-Some.ensures))
+    (subst (IsLoweringRefused (set_of c.args.source.now) (subjects_in (forms_in c.args.source.now.set.now.base)) (hypotheses c.args.source.now.given.now) (proof c.args.proof.now)) (sym same) c.in_err-made-in-Some.ensures))
 
 pub with_judgement-requires-clause-ready : goal.with_judgement-requires-clause-ready
 with_judgement-requires-clause-ready c =

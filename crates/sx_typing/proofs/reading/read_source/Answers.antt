@@ -15,8 +15,8 @@ pub main_sort-sort-requires : goal.main_sort-sort-requires
 main_sort-sort-requires c =
     main_form_within (source_of c.args.source.now).dialect c.requires.dialect.is
 
-pub read_text-requires-clause-sort : goal.read_text-requires-clause-sort
-read_text-requires-clause-sort c =
+pub read_body_text-requires-clause-sort : goal.read_body_text-requires-clause-sort
+read_body_text-requires-clause-sort c =
     let d = (source_of c.args.source.now).dialect in
     subst (IsSort d.parts) (sym c.main_sort-sort.ensures) (subject_is_sort d c.requires.dialect.is)
 

@@ -3,7 +3,7 @@ use Rattle.sx_token.specs.declared.token.Token.{Token}
 use Rattle.sx_grammar.specs.Parts.{numbered}
 use Rattle.sx_grammar.specs.ReadOne.{IsAnswer, only}
 use Rattle.sx_earley.specs.Tokens.{plain_tokens}
-use Rattle.sx_earley.specs.Completed.{number_of}
+use Rattle.sx_earley.specs.Completed.{sort_number}
 use Rattle.sx_term.specs.declared.role.Role.TheVariants.{Sub}
 use Rattle.sx_notation.proofs.OneReasons.{unread_or_read}
 use Rattle.sx_typing.specs.BodySource.{source_of, main_sort}
@@ -37,5 +37,5 @@ returns-in-Read-clause-none c =
     inr (λ b.
     let same : b.tokens ≡ h.0 = one_cut p s.header.body b.tokens h.0 b.read.cut h.1 in
     unread_or_read p [] sort h.0 (length s.header.body) c.in-Read.error b.reading h.2
-    (subst (λ (ts : List Token). IsAnswer (numbered p) (plain_tokens [] ts) (number_of sort)
+    (subst (λ (ts : List Token). IsAnswer (numbered p) (plain_tokens [] ts) (sort_number sort)
     (only b.reading)) same b.read.answer))

@@ -7,7 +7,7 @@ use Rattle.sx_derive.specs.Deriving.{AreCounted}
 use Rattle.sx_derive.specs.Listing.{IsListed}
 use Rattle.sx_derive.specs.Search.{tries_of}
 use Rattle.sx_derive.specs.Walk.{events}
-use Rattle.sx_typing.specs.Outcomes.{no_hypotheses}
+use Rattle.sx_rules.specs.Rules.{no_hypotheses}
 use Rattle.sx_typing.proofs.MainGoals.{bare_is}
 use Rattle.sx_typing.proofs.Finding.{none_given}
 use Rattle.sx_typing.proofs.searching.find_derivation.Goals as goal

@@ -3,7 +3,7 @@ use Rattle.sx_grammar.specs.Parts.{numbered}
 use Rattle.sx_grammar.specs.ReadOne.{IsAnswer, only}
 use Rattle.sx_earley.specs.Tokens.{Stems, plain_tokens}
 use Rattle.sx_earley.specs.Unknown.{HaveStems}
-use Rattle.sx_earley.specs.Completed.{number_of}
+use Rattle.sx_earley.specs.Completed.{sort_number}
 use Rattle.sx_forest.specs.Readings.{plain_reading}
 use Rattle.sx_notation.specs.WhyUnread.{IsUnreadAs, IsReadError}
 use Rattle.sx_typing.proofs.Bodies.{have_stems}
@@ -19,7 +19,7 @@ pub returns-in-Ok-clause-only : goal.returns-in-Ok-clause-only
 returns-in-Ok-clause-only c =
     let p = c.args.grammar.now.parts in
     let ts = c.args.tokens.now in
-    subst (λ (l : Stems). IsAnswer (numbered p) (plain_tokens l ts) (number_of c.args.sort)
+    subst (λ (l : Stems). IsAnswer (numbered p) (plain_tokens l ts) (sort_number c.args.sort)
     (only (plain_reading c.in-Ok.reading))) c.no_metas-metas.ensures c.in-Ok.ensures.only
 
 pub read_error-requires : goal.read_error-requires

@@ -6,8 +6,9 @@ use Rattle.sx_derive.specs.Deriving.{AreCounted}
 use Rattle.sx_derive.specs.Listing.{IsListed}
 use Rattle.sx_derive.specs.Search.{tries_of}
 use Rattle.sx_derive.specs.Walk.{events}
-use Rattle.sx_typing.specs.Goals.{goal as goal_for}
-use Rattle.sx_typing.specs.Outcomes.{bare, no_hypotheses}
+use Rattle.sx_typing.specs.Goals.{goal_with as goal_for}
+use Rattle.sx_typing.specs.Outcomes.{nameless}
+use Rattle.sx_rules.specs.Rules.{no_hypotheses}
 use Rattle.sx_typing.specs.BodySource.{source_of}
 use Rattle.sx_typing.proofs.TypedBodies.{by_rules}
 use Rattle.sx_typing.proofs.typing.search.Goals as goal
@@ -17,7 +18,7 @@ returns-clause-answer g c =
     let d = c.args.source.now.dialect in
     let result = c.find_derivation.result in
     by_rules
-    (λ fs rules x. IsListed (modes_of fs) (subjects_in fs) (bare rules) no_hypotheses x None
+    (λ fs rules x. IsListed (modes_of fs) (subjects_in fs) (nameless rules) no_hypotheses x None
     c.args.tries result)
     c.rules-rules.result.now d.accepted.now.rules (forms_in d.language.now.rules)
     (goal_of c.args.goal.now) (goal_for (source_of c.args.source.now) (tree c.args.body.now.term))
@@ -29,7 +30,7 @@ returns-clause-steps g c =
     let d = c.args.source.now.dialect in
     by_rules
     (λ fs rules x. AreCounted
-    (tries_of None c.args.tries (events (modes_of fs) (bare rules) no_hypotheses x 1))
+    (tries_of None c.args.tries (events (modes_of fs) (nameless rules) no_hypotheses x 1))
     c.args.steps.now c.find_derivation.new.steps c.find_derivation.result)
     c.rules-rules.result.now d.accepted.now.rules (forms_in d.language.now.rules)
     (goal_of c.args.goal.now) (goal_for (source_of c.args.source.now) (tree c.args.body.now.term))

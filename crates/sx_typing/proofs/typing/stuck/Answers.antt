@@ -7,7 +7,7 @@ use Rattle.sx_grammar.specs.Told.{shapes_of}
 use Rattle.sx_forest.specs.Readings.{plain_reading}
 use Rattle.sx_derive.specs.declared.derive_error.DeriveError.TheVariants.{Underivable}
 use Rattle.sx_derive.specs.Blames.{blame_of}
-use Rattle.sx_typing.specs.Goals.{goal as goal_for, IsFoundBy}
+use Rattle.sx_typing.specs.Goals.{goal_with as goal_for, IsFoundBy}
 use Rattle.sx_typing.specs.Outcomes.{IsBlameIn}
 use Rattle.sx_typing.specs.Refused.{HasBody, IsBadSource}
 use Rattle.sx_typing.specs.BodySource.{source_of}

@@ -4,14 +4,14 @@ use Rattle.sx_term.specs.Term.{tree}
 use Rattle.sx_forest.specs.Readings.{plain_reading}
 use Rattle.sx_typing.specs.Refused.{HasBody}
 use Rattle.sx_unit.specs.declared.module_error.ModuleError.{ModuleError}
-use Rattle.sx_unit.specs.Modules.{module_of}
+use Rattle.sx_unit.specs.Modules.{module_data}
 use Rattle.sx_unit.specs.Refused.{IsBadModule, IsCounted}
 use Rattle.sx_unit.proofs.MadeUnits.{unread_bad, typed_counted, untyped_counted}
 use Rattle.sx_unit.proofs.compiling.compile_body.Goals as goal
 
 pub returns-in-Ok-clause-tries : goal.returns-in-Ok-clause-tries
 returns-in-Ok-clause-tries g c =
-    let m = module_of c.args.given.now in
+    let m = module_data c.args.given.now in
     let body = c.args.body.now in
     let b : HasBody m.source = record {
       tokens = body.tokens.items;
@@ -25,13 +25,13 @@ returns-in-Ok-clause-tries g c =
 
 pub returns-in-Err-clause-answer : goal.returns-in-Err-clause-answer
 returns-in-Err-clause-answer g c =
-    let m = module_of c.args.given.now in
+    let m = module_data c.args.given.now in
     subst (λ (e : ModuleError). IsBadModule m c.args.budgets e) (sym c.typing_error.ensures)
     (unread_bad m c.args.budgets c.in-Err.error c.in-Err.ensures.refused)
 
 pub returns-in-Err-clause-tries : goal.returns-in-Err-clause-tries
 returns-in-Err-clause-tries g c =
-    let m = module_of c.args.given.now in
+    let m = module_data c.args.given.now in
     let body = c.args.body.now in
     let b : HasBody m.source = record {
       tokens = body.tokens.items;

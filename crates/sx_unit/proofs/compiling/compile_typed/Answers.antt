@@ -4,10 +4,10 @@ use Rattle.sx_term.specs.Term.{tree}
 use Rattle.sx_forest.specs.Readings.{plain_reading}
 use Rattle.sx_rules.specs.Views.{subjects_in}
 use Rattle.sx_rewrite.specs.RewrittenView.{IsRewriting}
-use Rattle.sx_typing.specs.Outcomes.{no_hypotheses}
+use Rattle.sx_rules.specs.Rules.{no_hypotheses}
 use Rattle.sx_unit.specs.declared.module_error.ModuleError.{ModuleError}
 use Rattle.sx_unit.specs.Lowered.{IsLowering}
-use Rattle.sx_unit.specs.Modules.{module_of}
+use Rattle.sx_unit.specs.Modules.{module_data}
 use Rattle.sx_unit.specs.Refused.{IsBadModule}
 use Rattle.sx_unit.proofs.MadeUnits.{typing_is, unlowered_bad}
 use Rattle.sx_unit.proofs.compiling.compile_typed.Goals as goal
@@ -19,7 +19,7 @@ write_lowered-requires-clause-lowered c =
 
 pub returns-in-Err : goal.returns-in-Err
 returns-in-Err c = λ b same t.
-    let m = module_of c.args.given.now in
+    let m = module_data c.args.given.now in
     let d = m.source.dialect in
     let body = c.args.body.now in
     let typing = typing_is m b body.tokens.items (plain_reading body.reading) (tree body.term)
@@ -32,7 +32,7 @@ returns-in-Err c = λ b same t.
 
 pub returns-in-Ok : goal.returns-in-Ok
 returns-in-Ok c = λ b same t.
-    let d = (module_of c.args.given.now).source.dialect in
+    let d = (module_data c.args.given.now).source.dialect in
     c.write_lowered.ensures b t
     (subst (λ (n : ℕ). IsLowering d t.answer.0 n c.in-Ok.lowering) (sym same)
     (c.in-Ok.ensures b.tries (tree c.args.body.now.term) t))

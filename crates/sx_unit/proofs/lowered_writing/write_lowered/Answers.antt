@@ -4,7 +4,7 @@ use Rattle.sx_term.specs.Term.{tree}
 use Rattle.sx_rules.specs.ListText.{IsEntry}
 use Rattle.sx_forest.specs.Readings.{plain_reading}
 use Rattle.sx_typing.specs.BodySource.{source_of}
-use Rattle.sx_unit.specs.Modules.{module_of}
+use Rattle.sx_unit.specs.Modules.{module_data}
 use Rattle.sx_unit.specs.PrintedParts.{printed_of}
 use Rattle.sx_unit.proofs.Entries.{names_are}
 use Rattle.sx_interface.proofs.Lengths.{size_of}
@@ -47,7 +47,7 @@ write_module-requires-clause-names c =
 pub returns : goal.returns
 returns c = λ b t low.
     let r = c.requires in
-    let m = module_of c.args.given.now in
+    let m = module_data c.args.given.now in
     let subject = tree c.args.body.now.term in
     let are = c.printed_terms-terms.ensures in
     let good = list_good m.source r.can.dialect.is r.can.environment subject r.good b.tries b.nodes

@@ -1,7 +1,7 @@
 use Rattle.std.proofs.Common.{List, ap, ◌∙◌}
 use Rattle.sx_rules.specs.declared.entry.Entry.{Entry as EntryOf}
 use Rattle.sx_rules.specs.EntryView.{entries}
-use Rattle.sx_unit.specs.Modules.{module_of}
+use Rattle.sx_unit.specs.Modules.{module_data}
 use Rattle.sx_unit.specs.Texts.{derivation_text}
 use Rattle.sx_interface.proofs.Lengths.{size_of}
 use Rattle.sx_unit.proofs.module_writing.write_module.Goals as goal
@@ -17,7 +17,7 @@ returns-clause-written c = λ q is nodes. record {
   list = is;
   derivation = c.in_ok-derivation.ensures
       ∙ ap (λ (list : List EntryOf). derivation_text
-      (module_of c.args.given.now).source.dialect.language.rules (entries list))
+      (module_data c.args.given.now).source.dialect.language.rules (entries list))
       c.deref-2.ensures.value;
   nodes = size_of c.args.list c.len.result c.len.ensures ∙ nodes;
   base_tokens = c.in_ok-base.ensures.tokens;

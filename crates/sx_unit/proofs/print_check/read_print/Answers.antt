@@ -1,7 +1,7 @@
 use Rattle.std.proofs.Common.{subst}
 use Rattle.sx_grammar.specs.Parts.{numbered}
 use Rattle.sx_grammar.specs.ReadOne.{IsAnswer, only}
-use Rattle.sx_earley.specs.Completed.{number_of}
+use Rattle.sx_earley.specs.Completed.{sort_number}
 use Rattle.sx_earley.specs.Tokens.{plain_tokens}
 use Rattle.sx_forest.specs.Readings.{plain_reading}
 use Rattle.sx_notation.specs.WhyUnread.{IsReadError}
@@ -11,7 +11,7 @@ pub returns-in-Ok-clause-only : goal.returns-in-Ok-clause-only
 returns-in-Ok-clause-only c = (
   plain_reading c.in-Ok.field-0,
   subst (λ s. IsAnswer (numbered c.args.grammar.now.parts) (plain_tokens s c.args.tokens.now)
-      (number_of c.args.sort) (only (plain_reading c.in-Ok.field-0))) c.new.ensures.items
+      (sort_number c.args.sort) (only (plain_reading c.in-Ok.field-0))) c.new.ensures.items
       c.in-Ok.ensures.only,
 )
 

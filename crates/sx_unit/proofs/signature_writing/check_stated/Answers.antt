@@ -2,7 +2,7 @@ use Rattle.std.proofs.Common.{[], sym, subst, ◌∙◌}
 use Rattle.std.proofs.lemmas.List.{append-nil}
 use Rattle.sx_notation.proofs.TextReading.{err_if}
 use Rattle.sx_words.specs.declared.print_defect.PrintedPart.TheVariants.{Stated}
-use Rattle.sx_unit.specs.Modules.{module_of}
+use Rattle.sx_unit.specs.Modules.{module_data}
 use Rattle.sx_unit.specs.PrintedParts.{printed_of}
 use Rattle.sx_unit.specs.Written.{IsUnwritten}
 use Rattle.sx_unit.proofs.PartSorts.{stated_good}
@@ -11,7 +11,7 @@ use Rattle.sx_unit.proofs.signature_writing.check_stated.Goals as goal
 
 pub check_part-requires-clause-good : goal.check_part-requires-clause-good
 check_part-requires-clause-good c =
-    stated_good (module_of c.args.given.now).source.dialect (printed_of c.args.terms.now)
+    stated_good (module_data c.args.given.now).source.dialect (printed_of c.args.terms.now)
     c.requires.terms c.requires.free
 
 pub check_part-requires-clause-text : goal.check_part-requires-clause-text
@@ -19,7 +19,7 @@ check_part-requires-clause-text c = ([], tt, c.requires.text ∙ sym (append-nil
 
 pub returns-in_err-check_part-clause-refused : goal.returns-in_err-check_part-clause-refused
 returns-in_err-check_part-clause-refused c =
-    let m = module_of c.args.given.now in
+    let m = module_data c.args.given.now in
     let t = printed_of c.args.terms.now in
     err_if c.from_residual.result _ (IsUnwritten m t) c.from_residual.ensures.1
     (λ e is. subst (IsUnwritten m t) (sym is)
@@ -29,5 +29,5 @@ returns-in_err-check_part-clause-refused c =
 
 pub returns-clause-good : goal.returns-clause-good
 returns-clause-good c =
-    good_part (module_of c.args.given.now) (printed_of c.args.terms.now) Stated c.args.size
+    good_part (module_data c.args.given.now) (printed_of c.args.terms.now) Stated c.args.size
     c.args.shown.now c.requires.size c.requires.text c.in_ok-check_part.ensures.good

@@ -1,9 +1,9 @@
 use Rattle.std.proofs.Common.{◌≡◌, ◌≤◌, ◌+◌, length, ap, arith}
-use Rattle.sx_earley.specs.Completed.{number_of}
+use Rattle.sx_earley.specs.Completed.{sort_number}
 use Rattle.sx_words.specs.declared.print_defect.PrintedPart.TheVariants.{Signature, Stated}
-use Rattle.sx_unit.specs.Modules.{module_of}
-use Rattle.sx_unit.specs.PrintedParts.{printed_of, sort_of}
-use Rattle.sx_unit.specs.Texts.{interface_of}
+use Rattle.sx_unit.specs.Modules.{module_data}
+use Rattle.sx_unit.specs.PrintedParts.{printed_of, part_sort_of}
+use Rattle.sx_unit.specs.Texts.{written_interface}
 use Rattle.sx_interface.proofs.Lengths.{size_of}
 use Rattle.sx_unit.proofs.PartSorts.{part_fits, stated_fits}
 use Rattle.sx_unit.proofs.PartTexts.{signatures_within}
@@ -11,24 +11,24 @@ use Rattle.sx_unit.proofs.signature_writing.put_signatures.Goals as goal
 
 pub show-requires-clause-fits : goal.show-requires-clause-fits
 show-requires-clause-fits c =
-    let d = (module_of c.args.given.now).source.dialect in
+    let d = (module_data c.args.given.now).source.dialect in
     let t = printed_of c.args.terms.now in (
-      number_of (sort_of d Signature),
+      sort_number (part_sort_of d Signature),
       part_fits d c.requires.can.dialect.is Signature t.signature
           c.requires.terms.signature,
     )
 
 pub show-requires-2-clause-fits : goal.show-requires-2-clause-fits
 show-requires-2-clause-fits c =
-    let d = (module_of c.args.given.now).source.dialect in (
-      number_of (sort_of d Stated),
+    let d = (module_data c.args.given.now).source.dialect in (
+      sort_number (part_sort_of d Stated),
       stated_fits d c.requires.can.dialect.is
           (printed_of c.args.terms.now) c.requires.terms,
     )
 
 pub check_signature-requires-clause-within : goal.check_signature-requires-clause-within
 check_signature-requires-clause-within c =
-    let it = interface_of (module_of c.args.given.now) c.args.base.now c.deref.result.now
+    let it = written_interface (module_data c.args.given.now) c.args.base.now c.deref.result.now
     c.deref-2.result.now in
     let text = c.in_ok-text.text.items in
     let within : length c.deref.result.now + (length c.deref-2.result.now + 1) ≤ length text =
@@ -52,7 +52,7 @@ check_signature-requires-clause-within c =
 
 pub check_stated-requires-clause-within : goal.check_stated-requires-clause-within
 check_stated-requires-clause-within c =
-    let it = interface_of (module_of c.args.given.now) c.args.base.now c.deref.result.now
+    let it = written_interface (module_data c.args.given.now) c.args.base.now c.deref.result.now
     c.deref-2.result.now in
     let text = c.in_ok-text.text.items in
     let within : length c.deref.result.now + (length c.deref-2.result.now + 1) ≤ length text =

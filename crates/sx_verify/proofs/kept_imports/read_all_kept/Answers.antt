@@ -8,7 +8,7 @@ use Rattle.sx_interface.specs.declared.import.Import.{Import}
 use Rattle.sx_importing.specs.Each.{GivesAfter, ForEach}
 use Rattle.sx_importing.proofs.EachLoops.{Have, goes_next, goes_stop, have_next}
 use Rattle.sx_importing.proofs.Results.{reads_on_from, reads_err}
-use Rattle.sx_verify.specs.BaseFits.{names_of}
+use Rattle.sx_verify.specs.BaseFits.{mark_names}
 use Rattle.sx_verify.specs.KeptImports.{ReadsKept}
 use Rattle.sx_verify.proofs.SeenElements.{seen_within, seen_at}
 use Rattle.sx_verify.proofs.kept_imports.read_all_kept.Goals as goal
@@ -23,7 +23,7 @@ loop-i-init g c =
           subst (λ (is : List Import). GivesAfter (ReadsKept file files) (interfaces_of is) marks r
           → ForEach (ReadsKept file files) marks r) none (λ h. h);
       short = subst (λ (is : List Import). AllByRecursion IsShort (interfaces_of is)) none tt;
-      names = subst (λ (is : List Import). Have (names_of marks)
+      names = subst (λ (is : List Import). Have (mark_names marks)
           (map (λ (it : InterfaceParts). it.name) (interfaces_of is)) 0) none refl;
       content = refl;
       reads = refl;
@@ -44,7 +44,7 @@ loop-i-preserved g c =
           (before.step files told) (interfaces_of c.read_next.new.imports.items)
           (c.in-Ok.ensures.step files (before.content ∙ told));
       short = c.in-Ok.ensures.short;
-      names = have_next (names_of marks)
+      names = have_next (mark_names marks)
           (map (λ (it : InterfaceParts). it.name) (interfaces_of c.loop-i.imports.items))
           (map (λ (it : InterfaceParts). it.name) (interfaces_of c.read_next.new.imports.items))
           i m.name (seen_within (λ (x : Mark). x.name) marks i within)

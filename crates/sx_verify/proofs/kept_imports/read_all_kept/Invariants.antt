@@ -4,7 +4,7 @@ use Rattle.sx_interface.specs.InterfaceView.{mark_view}
 use Rattle.sx_environment.specs.SeenFrom.{IsShort, interfaces_of}
 use Rattle.sx_outside.specs.Told.{WhereTold}
 use Rattle.sx_importing.proofs.EachLoops.{GoesOn, Have}
-use Rattle.sx_verify.specs.BaseFits.{names_of}
+use Rattle.sx_verify.specs.BaseFits.{mark_names}
 use Rattle.sx_verify.specs.KeptImports.{ReadsKept}
 use Rattle.sx_verify.proofs.kept_imports.read_all_kept.Given as goal
 
@@ -16,7 +16,7 @@ invariant-loop-i g l = record {
       (λ files. GoesOn (ReadsKept l.file files) (map mark_view l.marks)
       (interfaces_of l.imports.items) l.i);
   short : AllByRecursion IsShort (interfaces_of l.imports.items);
-  names : Have (names_of (map mark_view l.marks))
+  names : Have (mark_names (map mark_view l.marks))
       (map (λ it. it.name) (interfaces_of l.imports.items)) l.i;
   content : g.S.Shelf.content l.shelf ≡ g.S.Shelf.content l.initial.shelf;
   reads : g.S.Shelf.read_faults l.shelf ≡ g.S.Shelf.read_faults l.initial.shelf;

@@ -4,7 +4,7 @@ use Rattle.sx_term.specs.Term.{tree}
 use Rattle.sx_rules.specs.EntryView.{entries}
 use Rattle.sx_rules.specs.Sets.{forms_in, rules_in}
 use Rattle.sx_rules.specs.Views.{goal as goal_of, hypotheses, modes_of}
-use Rattle.sx_typing.specs.Outcomes.{bare}
+use Rattle.sx_typing.specs.Outcomes.{nameless}
 use Rattle.sx_verify.proofs.Replayed.{replayed_shallow}
 use Rattle.sx_verify.proofs.Replaying.{plainly}
 use Rattle.sx_verify.proofs.list_replaying.replay_goal.Goals as goal
@@ -18,7 +18,7 @@ returns-in-Ok-clause-step c =
 pub returns-in-Ok-clause-shallow : goal.returns-in-Ok-clause-shallow
 returns-in-Ok-clause-shallow c =
     let rules = c.args.rules.now in
-    replayed_shallow (modes_of (forms_in rules)) (bare (rules_in rules)) (goal_of c.args.goal.now)
+    replayed_shallow (modes_of (forms_in rules)) (nameless (rules_in rules)) (goal_of c.args.goal.now)
     (entries c.args.list.now) (map tree c.in-Ok.outputs.items)
     (plainly rules (goal_of c.args.goal.now) (entries c.args.list.now)
     (hypotheses c.none-given.result) (Ok (map tree c.in-Ok.outputs.items))

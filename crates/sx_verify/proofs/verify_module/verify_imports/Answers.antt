@@ -10,7 +10,7 @@ use Rattle.sx_steps.specs.Stop.{Gives}
 use Rattle.sx_steps.specs.Unit.{interface_file}
 use Rattle.sx_steps.specs.Work.{plan_of}
 use Rattle.sx_steps.proofs.StepsOn.{goes_next, stops_first}
-use Rattle.sx_verify.specs.BaseFits.{names_of}
+use Rattle.sx_verify.specs.BaseFits.{mark_names}
 use Rattle.sx_verify.specs.KeptImports.{ReadsAllKept}
 use Rattle.sx_verify.specs.VerifyModule.{VerifiesLanguage}
 use Rattle.sx_verify.specs.WrittenFiles.{written_of}
@@ -25,7 +25,7 @@ pub verify_language-work-requires-clause-read : goal.verify_language-work-requir
 verify_language-work-requires-clause-read g c =
     ap (λ (is : List Import). map (λ it. it.name) (interfaces_of is)) c.deref-in-Ok.ensures.value
     ∙ c.in-Ok.ensures.names
-    ∙ ap (λ (ms : List ImportMark). names_of (map mark_view ms)) c.deref.ensures.value
+    ∙ ap (λ (ms : List ImportMark). mark_names (map mark_view ms)) c.deref.ensures.value
     ∙ sym c.requires.written.fits.imports
 
 pub returns-in-Ok-clause-step : goal.returns-in-Ok-clause-step

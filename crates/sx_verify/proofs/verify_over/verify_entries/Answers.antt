@@ -7,7 +7,7 @@ use Rattle.sx_steps.specs.Stop.{Gives}
 use Rattle.sx_steps.specs.Unit.{list_file}
 use Rattle.sx_steps.specs.Work.{plan_of}
 use Rattle.sx_steps.proofs.StepsOn.{goes_next, stops_first}
-use Rattle.sx_verify.specs.Replays.{Replays}
+use Rattle.sx_verify.specs.Replays.{ReplaysMainGoal}
 use Rattle.sx_verify.specs.VerifyModule.{VerifiesOutput}
 use Rattle.sx_verify.specs.WrittenFiles.{written_of}
 use Rattle.sx_verify.proofs.verify_over.verify_entries.Goals as goal
@@ -19,9 +19,9 @@ returns-in-Ok-clause-step c =
     let d = language_data c.args.over.now.language.now.language in
     let goal = goal_of c.args.goal.now in
     let list = c.args.list.now in
-    goes_next plan_of (Replays (list_file name) d goal list)
+    goes_next plan_of (ReplaysMainGoal (list_file name) d goal list)
     (VerifiesOutput name w d (length list)) (tree c.in-Ok.output) c.verify_output.result
-    (subst (λ (file : List ℕ). Replays file d goal list (Ok (tree c.in-Ok.output)))
+    (subst (λ (file : List ℕ). ReplaysMainGoal file d goal list (Ok (tree c.in-Ok.output)))
     c.requires.files.list c.in-Ok.ensures.step)
     c.verify_output.ensures.step
 
@@ -32,7 +32,7 @@ returns-in-Err-clause-step c =
     let d = language_data c.args.over.now.language.now.language in
     let goal = goal_of c.args.goal.now in
     let list = c.args.list.now in
-    stops_first tree plan_of (Replays (list_file name) d goal list)
+    stops_first tree plan_of (ReplaysMainGoal (list_file name) d goal list)
     (VerifiesOutput name w d (length list)) c.in-Err.e
-    (subst (λ (file : List ℕ). Gives tree (Replays file d goal list) (Err c.in-Err.e))
+    (subst (λ (file : List ℕ). Gives tree (ReplaysMainGoal file d goal list) (Err c.in-Err.e))
     c.requires.files.list c.in-Err.ensures.step)

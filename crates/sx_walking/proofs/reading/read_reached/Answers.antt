@@ -1,7 +1,7 @@
 use Rattle.std.proofs.Common.{◌∙◌, List, ap, sym, subst, map}
 use Rattle.sx_imports.specs.Walk.{Name}
-use Rattle.sx_walking.specs.FileTable.{files_in, held_in}
-use Rattle.sx_walking.specs.Opened.{AreOnce, AreHeld, imports_for}
+use Rattle.sx_walking.specs.FileTable.{table_files, held_in}
+use Rattle.sx_walking.specs.Opened.{AreOnce, AreFilesHeld, imports_for}
 use Rattle.sx_walking.proofs.FewFiles.{few_files}
 use Rattle.sx_walking.proofs.Orders.{order_once, order_held, files_held, taken_seen, read_whole}
 use Rattle.sx_walking.proofs.Orders.{read_sound, whole_stated, read_stop}
@@ -23,8 +23,8 @@ take_files-requires-clause-once g c =
 
 pub take_files-requires-clause-held : goal.take_files-requires-clause-held
 take_files-requires-clause-held g c =
-    let held = files_in c.walk_files.new.files in
-    subst (λ (l : List Name). AreHeld held l) (sym c.deref.ensures.value)
+    let held = table_files c.walk_files.new.files in
+    subst (λ (l : List Name). AreFilesHeld held l) (sym c.deref.ensures.value)
     (files_held g.K.WalkedKind.says held c.in-Ok.order.items
     (order_held (g.K.WalkedKind.kind c.args.kind.now)
     (held_in g.K.WalkedKind.says c.walk_files.new.files) c.args.roots.items c.in-Ok.order.items
@@ -32,7 +32,7 @@ take_files-requires-clause-held g c =
 
 pub returns-in-Ok-clause-step : goal.returns-in-Ok-clause-step
 returns-in-Ok-clause-step g c =
-    let held = files_in c.walk_files.new.files in
+    let held = table_files c.walk_files.new.files in
     let taken = c.in_ok-take_files-in-Ok.field-0 in
     read_whole (g.K.WalkedKind.kind c.args.kind.now) (g.S.Shelf.content c.args.shelf.now)
     c.args.file.now c.args.roots.items (held_in g.K.WalkedKind.says c.walk_files.new.files)
@@ -43,7 +43,7 @@ returns-in-Ok-clause-step g c =
 
 pub returns-in-Ok-clause-sound : goal.returns-in-Ok-clause-sound
 returns-in-Ok-clause-sound g c =
-    let held = files_in c.walk_files.new.files in
+    let held = table_files c.walk_files.new.files in
     let taken = c.in_ok-take_files-in-Ok.field-0 in
     read_sound (g.K.WalkedKind.kind c.args.kind.now) (g.S.Shelf.content c.args.shelf.now)
     c.args.file.now c.args.roots.items (held_in g.K.WalkedKind.says c.walk_files.new.files)
@@ -54,7 +54,7 @@ returns-in-Ok-clause-sound g c =
 
 pub returns-in-Ok-clause-stated : goal.returns-in-Ok-clause-stated
 returns-in-Ok-clause-stated g c =
-    let held = files_in c.walk_files.new.files in
+    let held = table_files c.walk_files.new.files in
     let taken = c.in_ok-take_files-in-Ok.field-0 in
     whole_stated (g.K.WalkedKind.kind c.args.kind.now) (g.S.Shelf.content c.args.shelf.now)
     c.args.file.now c.args.roots.items (held_in g.K.WalkedKind.says c.walk_files.new.files)
@@ -71,7 +71,7 @@ returns-clause-step g c =
 
 pub returns-in-Ok-clause-few : goal.returns-in-Ok-clause-few
 returns-in-Ok-clause-few g c =
-    let held = files_in c.walk_files.new.files in
+    let held = table_files c.walk_files.new.files in
     few_files
     (imports_for (g.K.WalkedKind.kind c.args.kind.now)
     (held_in g.K.WalkedKind.says c.walk_files.new.files))

@@ -1,7 +1,7 @@
 use Rattle.std.proofs.Common.{◌≡◌, ℕ, ◌+◌, Result, sym, subst, arith}
-use Rattle.sx_lines.specs.Reading.{Gives}
+use Rattle.sx_lines.specs.Reading.{GivesRead}
 use Rattle.sx_words.specs.Commands.{Meant}
-use Rattle.sx_words.specs.View.{command_view, given_view, settings_view, Refuses}
+use Rattle.sx_words.specs.View.{command_view, given_view, settings_view, RefusesWords}
 use Rattle.sx_words.proofs.TurnLaws.{is_last, is_misfit, is_one_more, is_missing}
 use Rattle.sx_words.proofs.reading.after_verb.Goals as goal
 
@@ -9,7 +9,7 @@ pub returns-then-not-is_option : goal.returns-then-not-is_option
 returns-then-not-is_option c =
     let test = rw c.bytes.ensures.value at c.if-not-is_option.ensures in
     let last = is_last c.args.verb (c.loop-at.at + 2) (settings_view c.loop-at.said) c.args.words.now c.loop-at.at _ c.loop-at.invariant.1 c.index-words-at.result (omega arith) c.index-words-at.is (sym test) in
-    subst (λ (x : Result Meant ℕ). Gives command_view Refuses c.last_word.result x) last (rw c.split_at.ensures.back at c.last_word.ensures)
+    subst (λ (x : Result Meant ℕ). GivesRead command_view RefusesWords c.last_word.result x) last (rw c.split_at.ensures.back at c.last_word.ensures)
 
 pub returns-in-None : goal.returns-in-None
 returns-in-None c =

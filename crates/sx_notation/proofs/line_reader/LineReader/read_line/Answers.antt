@@ -1,13 +1,13 @@
 use Rattle.std.proofs.Common.{[], sym, subst}
 use Rattle.sx_term.specs.Term.{tree}
 use Rattle.sx_forest.specs.Readings.{plain_reading}
-use Rattle.sx_notation.specs.ReadText.{IsRefused}
+use Rattle.sx_notation.specs.ReadText.{IsTextRefused}
 use Rattle.sx_notation.proofs.TextReading.{err_if, uncut_refused, known_at, answer_at, is_marked, has_room, grown, is_read}
 use Rattle.sx_notation.proofs.line_reader.LineReader.read_line.Goals as goal
 
 pub returns-in_err-tokens-clause-refused : goal.returns-in_err-tokens-clause-refused
 returns-in_err-tokens-clause-refused c =
-    let P = IsRefused c.args.self.now.parts c.args.self.now.stems c.args.sort c.args.line.now c.args.number in
+    let P = IsTextRefused c.args.self.now.parts c.args.self.now.stems c.args.sort c.args.line.now c.args.number in
     err_if c.from_residual.result _ P c.from_residual.ensures.1 (λ e is. subst P (sym is)
     (uncut_refused c.args.self.now.parts c.args.self.now.stems c.args.sort c.args.line.now c.args.number _ c.in_err-tokens.ensures.refused))
 

@@ -1,6 +1,6 @@
 use Rattle.std.proofs.Common.{◌≡◌, Some, None, sym, subst, ◌∙◌}
 use Rattle.std.proofs.lemmas.Bool.{false≢true}
-use Rattle.sx_outline.specs.Declarations.{form}
+use Rattle.sx_outline.specs.Declarations.{declared_form}
 use Rattle.sx_outline.specs.Fitting.{form_names}
 use Rattle.sx_outline.specs.MainSorts.{AreMainSorts}
 use Rattle.sx_outline.specs.View.{known}
@@ -13,7 +13,7 @@ returns-in-Some-constructors c =
     let k = c.args.self.now in
     let f = c.index.result.now in
     let found : first_at c.args.row.now.form (form_names (known k)) ≡ Some c.in-Some.form = found_first (form_names (known k)) k.tables.forms c.args.row.now.form c.place.result k.tabled.forms_found c.place.ensures ∙ c.in-Some.is in
-    main_is (known k) c.args.row.now c.in-Some.form c.in-Some-constructors.empty c.in-Some-constructors.add (form f) c.in-Some-main_sorts.environment.now c.in-Some-main_sorts.signature.now found
+    main_is (known k) c.args.row.now c.in-Some.form c.in-Some-constructors.empty c.in-Some-constructors.add (declared_form f) c.in-Some-main_sorts.environment.now c.in-Some-main_sorts.signature.now found
     (form_found k.rows.forms.items c.args.row.now.form c.in-Some.form f found c.index.ensures)
     (subst (λ symbols. AreMainSorts symbols c.in-Some-main_sorts.environment.now c.in-Some-main_sorts.signature.now) c.deref.ensures.value c.in-Some-main_sorts.ensures)
     (c.is_plain.ensures.0 c.if-not-is_plain.false) c.in-Some-constructors.ensures
@@ -23,7 +23,7 @@ returns-then-not-is_plain c =
     let k = c.args.self.now in
     let f = c.index.result.now in
     let found : first_at c.args.row.now.form (form_names (known k)) ≡ Some c.in-Some.form = found_first (form_names (known k)) k.tables.forms c.args.row.now.form c.place.result k.tabled.forms_found c.place.ensures ∙ c.in-Some.is in
-    no_main_plain (known k) c.args.row.now c.in-Some.form (form f) c.in-Some-main_sorts.environment.now c.in-Some-main_sorts.signature.now found
+    no_main_plain (known k) c.args.row.now c.in-Some.form (declared_form f) c.in-Some-main_sorts.environment.now c.in-Some-main_sorts.signature.now found
     (form_found k.rows.forms.items c.args.row.now.form c.in-Some.form f found c.index.ensures)
     (subst (λ symbols. AreMainSorts symbols c.in-Some-main_sorts.environment.now c.in-Some-main_sorts.signature.now) c.deref.ensures.value c.in-Some-main_sorts.ensures)
     (λ plain. false≢true (sym c.if-not-is_plain.true ∙ c.is_plain.ensures.1 plain))
@@ -33,7 +33,7 @@ returns-in-None-constructors c =
     let k = c.args.self.now in
     let f = c.index.result.now in
     let found : first_at c.args.row.now.form (form_names (known k)) ≡ Some c.in-Some.form = found_first (form_names (known k)) k.tables.forms c.args.row.now.form c.place.result k.tabled.forms_found c.place.ensures ∙ c.in-Some.is in
-    no_main_constructors (known k) c.args.row.now c.in-Some.form (form f) c.in-Some-main_sorts.environment.now c.in-Some-main_sorts.signature.now found
+    no_main_constructors (known k) c.args.row.now c.in-Some.form (declared_form f) c.in-Some-main_sorts.environment.now c.in-Some-main_sorts.signature.now found
     (form_found k.rows.forms.items c.args.row.now.form c.in-Some.form f found c.index.ensures)
     (subst (λ symbols. AreMainSorts symbols c.in-Some-main_sorts.environment.now c.in-Some-main_sorts.signature.now) c.deref.ensures.value c.in-Some-main_sorts.ensures)
     c.in-None-constructors.ensures
@@ -45,7 +45,7 @@ returns-in-None-main_sorts c = λ main h.
     let found : first_at c.args.row.now.form (form_names (known k)) ≡ Some c.in-Some.form = found_first (form_names (known k)) k.tables.forms c.args.row.now.form c.place.result k.tabled.forms_found c.place.ensures ∙ c.in-Some.is in
     c.in-None-main_sorts.ensures h.environment h.signature
     (subst (λ symbols. AreMainSorts symbols h.environment h.signature) (sym c.deref.ensures.value)
-    (main_sorts_at (known k) c.args.row.now c.in-Some.form (form f) found (form_found k.rows.forms.items c.args.row.now.form c.in-Some.form f found c.index.ensures) main h))
+    (main_sorts_at (known k) c.args.row.now c.in-Some.form (declared_form f) found (form_found k.rows.forms.items c.args.row.now.form c.in-Some.form f found c.index.ensures) main h))
 
 pub returns-in-None : goal.returns-in-None
 returns-in-None c =

@@ -1,7 +1,8 @@
 use Rattle.std.proofs.Common.{◌≡◌, IsTrue, ◌↔◌, Some, None, refl, ◌∙◌}
 use Rattle.sx_grammar.specs.Parts.{line, labels}
-use Rattle.sx_outline.specs.Declarations.{parts_of}
-use Rattle.sx_outline.specs.Fitting.{ArePartNames, AreDistinct, IsPlain, NamesFit, kids_of}
+use Rattle.sx_outline.specs.Declarations.{declared_parts}
+use Rattle.sx_outline.specs.Fitting.{ArePartNames, IsPlain, NamesFit, kids_of}
+use Rattle.sx_lines.specs.Distinct.{AreTextsDistinct}
 use Rattle.sx_outline.specs.View.{known}
 use Rattle.sx_outline.proofs.PlaceLaws.{first_at, found_first}
 use Rattle.sx_outline.proofs.FindLaws.{line_found, ok_map, parts_are, parts_none, production_found}
@@ -13,8 +14,8 @@ returns-in-Some c =
     let p = c.index.result.now in
     let label = c.args.plain.now.label in
     let names = c.args.plain.now.names.items in
-    let found : first_at label (labels (parts_of (known k))) ≡ Some c.in-Some.place = found_first (labels (parts_of (known k))) k.tables.labels label c.place.result k.tabled.labels_found c.place.ensures ∙ c.in-Some.is in
-    ok_map c.parts_fit.result (λ b. IsTrue b ↔ (IsPlain (known k) p.sort × AreDistinct names × NamesFit (known k) names (kids_of p.symbols.items))) (λ b. IsTrue b ↔ ArePartNames (known k) label names)
+    let found : first_at label (labels (declared_parts (known k))) ≡ Some c.in-Some.place = found_first (labels (declared_parts (known k))) k.tables.labels label c.place.result k.tabled.labels_found c.place.ensures ∙ c.in-Some.is in
+    ok_map c.parts_fit.result (λ b. IsTrue b ↔ (IsPlain (known k) p.sort × AreTextsDistinct names × NamesFit (known k) names (kids_of p.symbols.items))) (λ b. IsTrue b ↔ ArePartNames (known k) label names)
     (λ b h. parts_are (known k) label names (line p) b
     (production_found (known k) label c.in-Some.place (line p) found (line_found k.rows.productions.items label c.in-Some.place p found c.index.ensures)) h) c.parts_fit.ensures
 
@@ -22,5 +23,5 @@ pub returns-in-None : goal.returns-in-None
 returns-in-None c =
     let k = c.args.self.now in
     let label = c.args.plain.now.label in
-    let none : first_at label (labels (parts_of (known k))) ≡ None = found_first (labels (parts_of (known k))) k.tables.labels label c.place.result k.tabled.labels_found c.place.ensures ∙ c.in-None.is in
+    let none : first_at label (labels (declared_parts (known k))) ≡ None = found_first (labels (declared_parts (known k))) k.tables.labels label c.place.result k.tabled.labels_found c.place.ensures ∙ c.in-None.is in
     parts_none (known k) label c.args.plain.now.names.items _ none refl

@@ -3,7 +3,7 @@ use Rattle.sx_term.specs.Shapes.{shapes}
 use Rattle.sx_rules.specs.Sets.{shapes_in, forms_in, bare_rules_in}
 use Rattle.sx_rules.specs.Views.{rule}
 use Rattle.sx_plain.specs.Views.{table_of}
-use Rattle.sx_rewrite.specs.Stored.{IsHeld}
+use Rattle.sx_rewrite.specs.Stored.{IsSetHeld}
 use Rattle.sx_rewrite.specs.AcceptedView.{accepted}
 use Rattle.sx_rewrite.specs.ExtensionView.{ext_rule}
 use Rattle.std.proofs.Math.Logic.{∥∥₁_map}
@@ -42,7 +42,7 @@ joined-requires c =
     let exts = map ext_rule ext.rules.items in
     let more = c.args.flats.items in
     let all = a.flats.items ++ more in
-    let held : IsHeld (shapes_in a.base) (shapes_in a.rules) (forms_in a.base) (forms_in a.rules) old (accepted a) = record { accepted = c.facts.ensures.accepted; rules_are = c.facts.ensures.rules; same_forms = c.facts.ensures.forms } in
+    let held : IsSetHeld (shapes_in a.base) (shapes_in a.rules) (forms_in a.base) (forms_in a.rules) old (accepted a) = record { accepted = c.facts.ensures.accepted; rules_are = c.facts.ensures.rules; same_forms = c.facts.ensures.forms } in
     record {
       held = ∣ added-held base old new (table_of a.plain) a.flats.items a.first a.counted a.many exts rules (table_of ext.plain) more all grown refl
           (shapes_in a.base) (shapes_in a.rules) (shapes c.args.all.now) (shapes_in c.in-Ok-grown.grown.rules) (forms_in a.base) (forms_in a.rules) (forms_in c.in-Ok-grown.grown.rules) held c.in-Ok-grown.ensures.rules.0 c.in-Ok-grown.ensures.rules.1 lengths c.requires.fits c.requires.sound ∣₁;

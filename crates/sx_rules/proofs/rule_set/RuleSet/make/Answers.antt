@@ -1,18 +1,20 @@
 use Rattle.std.proofs.Common.{◌≤◌, List, [], length, map, sym, subst, refl, Err, arith}
 use Rattle.std.proofs.lemmas.List.{length-map}
 use Rattle.sx_rules.specs.declared.error.RuleError.{RuleError}
-use Rattle.sx_rules.specs.declared.error.RuleError.TheVariants.{Memory, TooManyRules, TooManyVars, SameRule, SortDiffers, Discipline, NotModed}
+use Rattle.sx_rules.specs.declared.error.RuleError.TheVariants.{Memory, TooManyRules, TooManyVars}
+use Rattle.sx_rules.specs.declared.error.RuleError.TheVariants.{SameRule, SortDiffers, Discipline}
+use Rattle.sx_rules.specs.declared.error.RuleError.TheVariants.{NotModed}
 use Rattle.sx_rules.specs.declared.rule.Rule.{Rule}
 use Rattle.sx_rules.specs.declared.rule.Form.{Form}
 use Rattle.sx_term.specs.Shapes.{shapes}
 use Rattle.sx_term.specs.Sorts.{Shape}
 use Rattle.sx_rules.specs.Deep.{RulesAreShallow}
-use Rattle.sx_rules.specs.Good.{AreChecked, AllGood, IsRefused}
+use Rattle.sx_rules.specs.Good.{AreChecked, AllGood, IsRuleSetRefused}
 use Rattle.sx_rules.specs.Views.{FormData, NamedRule, forms, named, rule}
 use Rattle.sx_rules.proofs.rule_set.RuleSet.make.Goals as goal
 
 -- what is refused of rules that are not too many
-refused_so : (all : List Shape) (known : List FormData) (rs : List NamedRule) (e : RuleError) → length rs ≤ 4096 → AreChecked all known [] rs (Err e) → IsRefused all known rs e
+refused_so : (all : List Shape) (known : List FormData) (rs : List NamedRule) (e : RuleError) → length rs ≤ 4096 → AreChecked all known [] rs (Err e) → IsRuleSetRefused all known rs e
 refused_so all known rs Memory few h = h
 refused_so all known rs TooManyRules few h = absurd h
 refused_so all known rs (TooManyVars name) few h = (few, h)

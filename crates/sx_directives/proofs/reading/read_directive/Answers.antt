@@ -1,9 +1,0 @@
-use Rattle.std.proofs.Common.{◌≡◌, sym, ap, ◌∙◌}
-use Rattle.sx_directives.specs.Parts.{parts_of, texts}
-use Rattle.sx_directives.proofs.KeywordLaws.{no_directive}
-use Rattle.sx_directives.proofs.reading.read_directive.Goals as goal
-
-pub returns : goal.returns
-returns c =
-    let same : parts_of c.args.line.now ≡ texts c.deref.result.now = sym c.in_ok-parts.ensures ∙ ap texts (sym c.deref.ensures.value) in
-    no_directive (parts_of c.args.line.now) (λ k rest e. c.in-None.ensures k rest (sym same ∙ e))

@@ -1,0 +1,62 @@
+use Rattle.std.proofs.Common.{◌≡◌, List, [], ◌++◌, length, sym, subst, ap, arith}
+use Rattle.sx_term.specs.Term.{tree}
+use Rattle.sx_token.specs.declared.token.Token.{Token}
+use Rattle.sx_grammar.specs.Grammar.{Text}
+use Rattle.sx_grammar.specs.Parts.{numbered}
+use Rattle.sx_grammar.specs.ReadOne.{IsAnswer, only}
+use Rattle.sx_grammar.specs.Print.{term_of}
+use Rattle.sx_earley.specs.Tokens.{plain_tokens}
+use Rattle.sx_earley.specs.Completed.{sort_number}
+use Rattle.sx_forest.specs.Names.{IsMarked, names_in, AddsEach}
+use Rattle.sx_forest.specs.Readings.{plain_reading}
+use Rattle.sx_notation.proofs.TextReading.{err_if}
+use Rattle.sx_typing.specs.Unread.{IsUnreadText}
+use Rattle.sx_typing.proofs.Bodies.{is_marked, has_no_names, reads_as}
+use Rattle.sx_typing.proofs.text_reading.read_body_text.Goals as goal
+
+pub returns-in_err-tokens-clause-refused : goal.returns-in_err-tokens-clause-refused
+returns-in_err-tokens-clause-refused c =
+    let P = IsUnreadText c.args.grammar.now.parts c.args.sort c.args.text.now in
+    err_if c.from_residual.result _ P c.from_residual.ensures.1
+    (λ e is. subst P (sym is) (c.in_err-tokens.ensures.refused c.args.sort))
+
+pub strip-requires-clause-marked : goal.strip-requires-clause-marked
+strip-requires-clause-marked c =
+    let p = c.args.grammar.now.parts in
+    let r = plain_reading c.in-Ok.reading in
+    let ts = c.in_ok-tokens.tokens.items in
+    let answer = subst (λ (l : List Token). IsAnswer (numbered p) (plain_tokens [] l)
+    (sort_number c.args.sort) (only r)) c.deref.ensures.value c.in-Ok.ensures.only in
+    subst (λ (l : List Token). IsMarked l r) (sym c.deref-2.ensures.value)
+    (is_marked p c.args.text.now ts c.in_ok-tokens.ensures.cut c.args.sort r answer)
+
+pub strip-requires-clause-room : goal.strip-requires-clause-room
+strip-requires-clause-room c =
+    let p = c.args.grammar.now.parts in
+    let r = plain_reading c.in-Ok.reading in
+    let ts = c.in_ok-tokens.tokens.items in
+    let answer = subst (λ (l : List Token). IsAnswer (numbered p) (plain_tokens [] l)
+    (sort_number c.args.sort) (only r)) c.deref.ensures.value c.in-Ok.ensures.only in
+    let none : length (names_in ts r) ≡ 0 =
+    ap length (has_no_names p c.args.text.now ts c.in_ok-tokens.ensures.cut c.args.sort r
+    answer) in
+    let here : length (names_in c.deref-2.result.now r) ≡ 0 =
+    subst (λ (l : List Token). length (names_in l r) ≡ 0) (sym c.deref-2.ensures.value) none in
+    let new : length c.new-names.result ≡ 0 = ap length c.new-names.ensures in
+    omega (arith, here, new)
+
+pub returns-in-Ok-strip-clause-read : goal.returns-in-Ok-strip-clause-read
+returns-in-Ok-strip-clause-read c =
+    let p = c.args.grammar.now.parts in
+    let r = plain_reading c.in-Ok.reading in
+    let ts = c.in_ok-tokens.tokens.items in
+    let answer = subst (λ (l : List Token). IsAnswer (numbered p) (plain_tokens [] l)
+    (sort_number c.args.sort) (only r)) c.deref.ensures.value c.in-Ok.ensures.only in
+    let names = subst (λ (l : List Token). AddsEach c.new-names.result (names_in l r)
+    c.strip.new.vars) c.deref-2.ensures.value c.in-Ok-strip.ensures.names in
+    let fresh = subst (λ (l : List Text). AddsEach l (names_in ts r) c.strip.new.vars)
+    c.new-names.ensures names in
+    reads_as p c.args.text.now ts c.in_ok-tokens.ensures.cut c.args.sort r answer c.strip.new.vars
+    (tree c.in-Ok-strip.term) fresh
+    (subst (λ (l : List Token). tree c.in-Ok-strip.term ≡ term_of (plain_tokens [] l)
+    (c.strip.new.vars ++ []) r) c.deref-2.ensures.value (c.in-Ok-strip.ensures.term [] []))

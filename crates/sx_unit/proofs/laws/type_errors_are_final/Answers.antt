@@ -1,5 +1,0 @@
-use Rattle.sx_unit.proofs.Units.{final}
-use Rattle.sx_unit.proofs.laws.type_errors_are_final.Goals as goal
-
-pub returns : goal.returns
-returns c = final
