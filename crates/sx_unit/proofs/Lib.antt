@@ -2,12 +2,15 @@ pub mod Counted
 pub mod Shown
 pub mod Reread
 pub mod Refusing
+pub mod Spelling
+pub mod KnownTexts
 pub mod Entries
 pub mod ListTexts
 pub mod OnePrint
 pub mod Capturing
 pub mod PartSorts
 pub mod PartTexts
+pub mod KnownParts
 pub mod Units
 pub mod OneWriting
 pub mod OneUnit

@@ -59,7 +59,7 @@ rest_utf8 a b c low utf8 =
     (length a) utf8 (omega (arith, length-append a (c ∷ b))) (omega (arith, at, low))))
 
 -- each token of a UTF-8 text is UTF-8
-parts_utf8 : (ts : List plain.Token) → IsUtf8 (text_of ts) → HaveUtf8 ts
+pub parts_utf8 : (ts : List plain.Token) → IsUtf8 (text_of ts) → HaveUtf8 ts
 parts_utf8 [] utf8 = tt
 parts_utf8 (t ∷ []) utf8 = (utf8, tt)
 parts_utf8 (t ∷ u ∷ ts) utf8 = (
@@ -67,7 +67,7 @@ parts_utf8 (t ∷ u ∷ ts) utf8 = (
   parts_utf8 (u ∷ ts) (rest_utf8 t.text (text_of (u ∷ ts)) 32 (lit< tt) utf8),
 )
 
-unblanked_utf8 : (text blanks : List ℕ) → AreBlanks blanks → IsUtf8 (text ++ blanks) → IsUtf8 text
+pub unblanked_utf8 : (text blanks : List ℕ) → AreBlanks blanks → IsUtf8 (text ++ blanks) → IsUtf8 text
 unblanked_utf8 text [] are utf8 = subst IsUtf8 (append-nil text) utf8
 unblanked_utf8 text (b ∷ blanks) are utf8 = front_utf8 text blanks b (blank_low b are.0) utf8
 
@@ -116,7 +116,7 @@ shown_same (Lit n) text = refl
 shown_same (Lex kind) text = refl
 shown_same Meta text = refl
 
-plain_pieces : (ts : List Token) → plain_tokens [] ts ≡ map
+pub plain_pieces : (ts : List Token) → plain_tokens [] ts ≡ map
     (shown_piece (λ x. found_stem (stem_sort [] (meta_stem x)))) (pieces ts)
 plain_pieces [] = refl
 plain_pieces (t ∷ ts) = λ i. shown_same t.mark t.text i ∷ plain_pieces ts i
@@ -178,7 +178,7 @@ module _ (p : Parts) (sort : Sort) (t : Tree) (text blanks : List ℕ) (is : IsG
 
   module _ (few : length (printed p t) ≤ 10000) (ts : List Token) (only_one : (ps : List Piece) →
       IsOutcome (literals_of p) false text (tokens ps) → pieces ts ≡ ps) where
-    are_printed : plain_tokens [] ts ≡ printed p t
+    pub are_printed : plain_tokens [] ts ≡ printed p t
     are_printed =
         plain_pieces ts ∙ ap (map (shown_piece (λ x. found_stem (stem_sort [] (meta_stem x)))))
         (only_one cut_print.pieces (print_stands few)) ∙ cut_print.show

@@ -1,6 +1,7 @@
 pub mod Modules
 pub mod PrintedParts
 pub mod Texts
+pub mod Known
 pub mod Unprinted
 pub mod PrintRefused
 pub mod PartRefused

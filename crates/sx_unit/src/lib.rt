@@ -18,6 +18,7 @@ mod compiling;
 mod counting;
 mod errors;
 mod judgement_terms;
+mod known_reading;
 mod laws;
 mod lowered_writing;
 mod lowering;

@@ -43,5 +43,5 @@ pub(crate) fn write_lowered(
     let Lowering { list, judgement } = lowering;
     let rules = &given.source.dialect.language.rules;
     let terms = printed_terms(rules, &judgement, &typed.output);
-    write_module(alloc, given, &terms, list, body.tokens.len() as u32)
+    write_module(alloc, given, body, &terms, list)
 }

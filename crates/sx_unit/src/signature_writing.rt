@@ -12,6 +12,7 @@ ghost use Rattle.sx_unit.specs.Written.{ArePrintable, HasFreeNames, IsGoodPart, 
 ghost use Rattle.sx_unit.specs.Written.{file_size};
 
 use crate::captured::captured;
+use crate::known_reading::{adds_nothing, check_known};
 use crate::module_error::ModuleError;
 use crate::module_source::ModuleSource;
 use crate::part_check::check_part;
@@ -70,12 +71,15 @@ fn check_signature(
     Ok(())
 }
 
-/// The stated signature can be written, printed so in a file of so many bytes.
+/// The stated signature can be written, printed so in a file of so many bytes, where the signature
+/// can be written. It is read only where it is not printed as the signature is, or where the
+/// extensions in use add a production.
 fn check_stated(
     alloc: Global,
     given: &ModuleSource,
     terms: &PrintedTerms,
     size: usize,
+    signature: &[u8],
     shown: &[u8],
 ) -> Result<(), ModuleError>
     requires can { CanType given.now.source }
@@ -86,6 +90,9 @@ fn check_stated(
     requires free { HasFreeNames (module_data given.now) (printed_of terms.now) }
     requires size { size ≡ file_size (module_data given.now) (printed_of terms.now)
         PrintedPart.Stated }
+    requires printed { signature.now ≡
+        print_text (module_data given.now).source.dialect.language.parts
+        (printed_of terms.now).signature }
     requires text { shown.now ≡ print_text (module_data given.now).source.dialect.parts
         (printed_of terms.now).stated }
     requires utf8 { IsUtf8 shown.now }
@@ -94,15 +101,13 @@ fn check_stated(
         (λ _. IsGoodPart (module_data given.now) (printed_of terms.now) PrintedPart.Stated) }
     ensures refused { IfErr result (IsUnwritten (module_data given.now) (printed_of terms.now)) }
 {
+    let dialect = &given.source.dialect;
+    dialect.language.grammar.facts();
     let part = PrintedPart::Stated;
-    check_part(
-        alloc,
-        &given.source.dialect,
-        part,
-        size,
-        terms.stated,
-        shown,
-    )?;
+    if adds_nothing(dialect) && shown == signature {
+        return check_known(part, size);
+    }
+    check_part(alloc, dialect, part, size, terms.stated, shown)?;
     Ok(())
 }
 
@@ -134,6 +139,6 @@ pub(crate) fn put_signatures(
     let less = size - (stated.len() + 1);
     check_signature(alloc, given, terms, less, &signature)?;
     check_names(alloc, given, terms)?;
-    check_stated(alloc, given, terms, size, &stated)?;
+    check_stated(alloc, given, terms, size, &signature, &stated)?;
     Ok(text)
 }

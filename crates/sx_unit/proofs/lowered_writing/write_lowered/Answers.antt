@@ -1,4 +1,4 @@
-use Rattle.std.proofs.Common.{List, ℕ, subst}
+use Rattle.std.proofs.Common.{List, ℕ, refl, subst}
 use Rattle.std.specs.List.{AllByRecursion}
 use Rattle.sx_term.specs.Term.{tree}
 use Rattle.sx_rules.specs.ListText.{IsEntry}
@@ -7,7 +7,6 @@ use Rattle.sx_typing.specs.BodySource.{source_of}
 use Rattle.sx_unit.specs.Modules.{module_data}
 use Rattle.sx_unit.specs.PrintedParts.{printed_of}
 use Rattle.sx_unit.proofs.Entries.{names_are}
-use Rattle.sx_interface.proofs.Lengths.{size_of}
 use Rattle.sx_unit.proofs.MadeUnits.{one_subject, one_output, terms_printable, list_good, compiled}
 use Rattle.sx_unit.proofs.lowered_writing.write_lowered.Goals as goal
 
@@ -57,4 +56,4 @@ returns c = λ b t low.
     (record { subject = are.subject; signature = are.output; stated = are.stated })
     c.write_module.result _ good.1
     c.write_module.ensures.written c.write_module.ensures.tokens
-    (size_of c.args.body.now.tokens c.len.result c.len.ensures) c.write_module.ensures.refused
+    refl c.write_module.ensures.refused

@@ -22,13 +22,13 @@ show-requires-clause-fits c =
           c.requires.terms.subject,
     )
 
-pub check_part-requires-clause-utf8 : goal.check_part-requires-clause-utf8
-check_part-requires-clause-utf8 c =
+pub check_body-requires-clause-utf8 : goal.check_body-requires-clause-utf8
+check_body-requires-clause-utf8 c =
     subst IsUtf8 (sym (c.deref-2.ensures.value ∙ c.in_ok-end_line.ensures))
     (line_utf8 c.in_ok-shown.shown.items c.in_ok-shown.ensures.1)
 
-pub check_part-requires-clause-within : goal.check_part-requires-clause-within
-check_part-requires-clause-within c =
+pub check_body-requires-clause-within : goal.check_body-requires-clause-within
+check_body-requires-clause-within c =
     let h = (module_data c.args.given.now).source.header in
     let shown = c.in_ok-shown.shown.items in
     let text = c.in_ok-text.text.items in
@@ -40,6 +40,10 @@ check_part-requires-clause-within c =
     let size : c.len-size.result ≡ length text = size_of c.in_ok-text.text c.len-size.result
     c.len-size.ensures in
     omega (arith, within, line, size)
+
+pub check_body-requires-clause-text : goal.check_body-requires-clause-text
+check_body-requires-clause-text c = c.deref-2.ensures.value ∙ c.in_ok-end_line.ensures
+    ∙ ap (λ (l : List ℕ). l ++ 10 ∷ []) c.in_ok-shown.ensures.0
 
 pub returns-in_err-tokens-clause-refused : goal.returns-in_err-tokens-clause-refused
 returns-in_err-tokens-clause-refused c =

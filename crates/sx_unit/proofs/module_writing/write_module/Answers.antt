@@ -22,3 +22,6 @@ returns-clause-written c = λ q is nodes. record {
   nodes = size_of c.args.list c.len.result c.len.ensures ∙ nodes;
   base_tokens = c.in_ok-base.ensures.tokens;
 }
+
+pub returns-clause-tokens : goal.returns-clause-tokens
+returns-clause-tokens c = size_of c.args.body.now.tokens c.len-2.result c.len-2.ensures

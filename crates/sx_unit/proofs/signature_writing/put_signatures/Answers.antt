@@ -59,8 +59,8 @@ check_stated-requires-clause-within c =
     signatures_within it text c.in_ok-text.ensures in
     let line : length c.deref-2.result.now ≡ length c.in_ok-stated.stated.items =
     ap length c.deref-2.ensures.value in
-    let again : length c.deref-4.result.now ≡ length c.in_ok-stated.stated.items =
-    ap length c.deref-4.ensures.value in
+    let again : length c.deref-5.result.now ≡ length c.in_ok-stated.stated.items =
+    ap length c.deref-5.ensures.value in
     omega (
       arith,
       within,
