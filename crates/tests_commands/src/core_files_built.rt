@@ -1,5 +1,6 @@
 //! Runs of `build --core`: what is written, and within how many tries.
 
+use crate::asserts::assert_same;
 use crate::samples::{LEAVES, LISTS, ONE, PAIR, REPEAT, SIGNATURE};
 use std::alloc::Global;
 use sx_outside::{MemShelf, MemSink};
@@ -92,7 +93,7 @@ fn tries_that_are_spent(rt: HostRuntime) {
         is_spent(alloc, "build --core --tries=4 C", &parts, spent),
         is_done(alloc, "build --core --tries=5 C", &parts, done),
     ];
-    assert_eq!(rt; hold, [true; 2]);
+    assert_same(&rt, &hold, &[true; 2]);
 }
 
 #[test]
@@ -104,7 +105,7 @@ fn tries_of_another_answer(rt: HostRuntime) {
         is_spent(alloc, "build --core --tries=12 C", &[LISTS], spent),
         is_done(alloc, "build --core --tries=13 C", &[LISTS], done),
     ];
-    assert_eq!(rt; hold, [true; 2]);
+    assert_same(&rt, &hold, &[true; 2]);
 }
 
 #[test]
@@ -117,7 +118,7 @@ fn an_endless_rule_before_and_after_a_leaf(rt: HostRuntime) {
         is_done(alloc, "build --core C", &after, b"built C: 1 nodes\n"),
         is_spent(alloc, "build --core --tries=100 C", &before, spent),
     ];
-    assert_eq!(rt; hold, [true; 2]);
+    assert_same(&rt, &hold, &[true; 2]);
 }
 
 #[test]

@@ -1,5 +1,6 @@
 //! Runs of `verify --core`.
 
+use crate::asserts::assert_same;
 use crate::samples::PAIRS;
 use std::alloc::Global;
 use sx_outside::{MemShelf, MemSink};
@@ -92,7 +93,7 @@ fn lists_that_fit_nothing(rt: HostRuntime) {
         is_list_refused(alloc, b"sxder 1\nT-Pair\nT-One\nT-One\nT-One\n", over),
         is_list_refused(alloc, b"sxder 1\nT-None\n", bad),
     ];
-    assert_eq!(rt; hold, [true; 5]);
+    assert_same(&rt, &hold, &[true; 5]);
 }
 
 #[test]
@@ -120,7 +121,7 @@ fn texts_that_differ(rt: HostRuntime) {
         comes(alloc, &other_interface, 1, interface),
         comes(alloc, &built, 0, b"verified P: 3 nodes\n"),
     ];
-    assert_eq!(rt; hold, [true; 3]);
+    assert_same(&rt, &hold, &[true; 3]);
 }
 
 #[test]

@@ -1,5 +1,6 @@
 //! Runs in which a call of the shelf or of the sink fails.
 
+use crate::asserts::assert_same;
 use crate::samples::{LAM, ONE};
 use std::alloc::Global;
 use sx_outside::{MemShelf, MemSink};
@@ -65,7 +66,7 @@ fn faults_of_a_module(rt: HostRuntime) {
         is_fault(alloc, 3, 4, b"soundx: Main.base: write fault\n"),
         is_fault(alloc, 4, 4, b"soundx: Main.der: write fault\n"),
     ];
-    assert_eq!(rt; hold, [true; 4]);
+    assert_same(&rt, &hold, &[true; 4]);
 }
 
 #[test]

@@ -1,5 +1,6 @@
 //! Runs over each front of a file: each is done, or refused with a line.
 
+use crate::asserts::assert_same;
 use crate::samples::ONE;
 use std::alloc::Global;
 use sx_outside::{MemShelf, MemSink};
@@ -57,7 +58,7 @@ fn sources_that_are_cut_off(rt: HostRuntime) {
         are_answered(alloc, &[&LAM], LET.name, LET.text, "check Let"),
         are_answered(alloc, &[&LAM, &LET], NAMED.name, NAMED.text, "build Main"),
     ];
-    assert_eq!(rt; hold, [true; 4]);
+    assert_same(&rt, &hold, &[true; 4]);
 }
 
 /// Whether `verify` is so over the shelf, on which a module was built, with each front of what
@@ -106,5 +107,5 @@ fn written_files_that_are_cut_off(rt: HostRuntime) {
     ];
     drop(shelf);
     drop(whole);
-    assert_eq!(rt; hold, [true; 4]);
+    assert_same(&rt, &hold, &[true; 4]);
 }

@@ -1,5 +1,6 @@
 //! The headers of modules.
 
+use crate::asserts::assert_same;
 use std::alloc::Global;
 use sx_interface::{Header, HeaderError, read_header};
 use sx_term::Text;
@@ -97,5 +98,5 @@ fn bad_headers(rt: HostRuntime) {
         Answer::Read,
         Answer::NotUtf8(1),
     ];
-    assert_eq!(rt; answers, wanted);
+    assert_same(&rt, &answers, &wanted);
 }

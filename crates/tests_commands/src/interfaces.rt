@@ -1,5 +1,6 @@
 //! Interfaces of modules, and the digests in them.
 
+use crate::asserts::assert_same;
 use crate::interface_samples::{EXTENDED_INTERFACE, FIRST_INTERFACE, INTERFACE};
 use std::alloc::Global;
 use sx_interface::{
@@ -31,7 +32,7 @@ fn known_digest(rt: HostRuntime) {
         read_digest(&text[1..]).is_none(),
         read_digest(upper).is_none(),
     ];
-    assert_eq!(rt; hold, [true; 3]);
+    assert_same(&rt, &hold, &[true; 3]);
 }
 
 /// Whether the interface has so many uses, one import, and this stated signature.
@@ -108,7 +109,11 @@ fn interface_both_ways(rt: HostRuntime) {
         reading(alloc, INTERFACE),
         reading(alloc, EXTENDED_INTERFACE),
     ];
-    assert_eq!(rt; answers, [Answer::Plain, Answer::Plain, Answer::Extended]);
+    assert_same(
+        &rt,
+        &answers,
+        &[Answer::Plain, Answer::Plain, Answer::Extended],
+    );
 }
 
 #[test]
@@ -136,5 +141,5 @@ fn versions(rt: HostRuntime) {
         Answer::BadLine(2),
         Answer::Version(3),
     ];
-    assert_eq!(rt; answers, wanted);
+    assert_same(&rt, &answers, &wanted);
 }

@@ -2,6 +2,8 @@
 #![tactic(auto)]
 
 #[cfg(test)]
+mod asserts;
+#[cfg(test)]
 mod core_files_built;
 #[cfg(test)]
 mod core_files_verified;

@@ -1,5 +1,6 @@
 //! Runs of `build` on modules that are built.
 
+use crate::asserts::assert_same;
 use crate::interface_samples::{ARROWS_INTERFACE, LAM_INTERFACE};
 use crate::samples::{LAM, LAST, LEFT};
 use std::alloc::Global;
@@ -19,7 +20,7 @@ fn modules_that_are_built(rt: HostRuntime) {
         LAM.builds(alloc, body, list, body, b"built Main: 4 nodes\n"),
         LAM.builds(alloc, written, longer, printed, b"built Main: 6 nodes\n"),
     ];
-    assert_eq!(rt; hold, [true; 2]);
+    assert_same(&rt, &hold, &[true; 2]);
 }
 
 /// Whether a module with this body is built with this line and these texts.
@@ -75,7 +76,7 @@ fn sums_that_group_to_the_left(rt: HostRuntime) {
         LEFT.builds(alloc, b"( 1 + 2 ) + 3", list, b"1 + 2 + 3", told),
         LEFT.builds(alloc, b"1 + 2 + 3", list, b"1 + 2 + 3", told),
     ];
-    assert_eq!(rt; hold, [true; 2]);
+    assert_same(&rt, &hold, &[true; 2]);
 }
 
 #[test]

@@ -1,5 +1,6 @@
 //! Runs of `build` that are refused, or whose derivation passes a budget.
 
+use crate::asserts::assert_same;
 use crate::language::Language;
 use crate::modules_built::put_bracketed;
 use crate::samples::{AMB, CYCLIC, LAM, LOOP};
@@ -27,7 +28,7 @@ fn modules_that_are_refused(rt: HostRuntime) {
         is_refused(alloc, b"1 )", bracket),
         is_refused(alloc, b"\"a", string),
     ];
-    assert_eq!(rt; hold, [true; 4]);
+    assert_same(&rt, &hold, &[true; 4]);
 }
 
 /// Whether the command line, over the language and this module, is refused with this line.
@@ -54,7 +55,7 @@ fn module_files_that_are_refused(rt: HostRuntime) {
         is_file_refused(alloc, "build Main", &[255], not_utf8),
         is_file_refused(alloc, "build Other", b"", absent),
     ];
-    assert_eq!(rt; hold, [true; 3]);
+    assert_same(&rt, &hold, &[true; 3]);
 }
 
 #[test]
@@ -71,7 +72,7 @@ fn modules_that_need_other_files(rt: HostRuntime) {
         is_file_refused(alloc, "build Main", imports, no_import),
         is_file_refused(alloc, "build Main", other, absent),
     ];
-    assert_eq!(rt; hold, [true; 3]);
+    assert_same(&rt, &hold, &[true; 3]);
 }
 
 #[test]
@@ -83,7 +84,7 @@ fn modules_without_an_end(rt: HostRuntime) {
         LOOP.stops(alloc, "build Main", b"1", 6, deep),
         LOOP.stops(alloc, "build --tries=100 Main", b"1", 6, spent),
     ];
-    assert_eq!(rt; hold, [true; 2]);
+    assert_same(&rt, &hold, &[true; 2]);
 }
 
 #[test]
@@ -97,7 +98,7 @@ fn modules_with_two_readings(rt: HostRuntime) {
         AMB.stops(alloc, "build Main", b"( 1 + 2 ) + 3", 1, printed),
         AMB.stops(alloc, "build Main", b"1 + 2 + 3", 1, written),
     ];
-    assert_eq!(rt; hold, [true; 2]);
+    assert_same(&rt, &hold, &[true; 2]);
 }
 
 /// Whether a module of the language `Few` with this text is refused with this line.
@@ -120,7 +121,7 @@ fn languages_that_are_refused(rt: HostRuntime) {
         is_language_refused(alloc, sorts, main),
         is_language_refused(alloc, b"language Other\n", head),
     ];
-    assert_eq!(rt; hold, [true; 2]);
+    assert_same(&rt, &hold, &[true; 2]);
 }
 
 #[test]

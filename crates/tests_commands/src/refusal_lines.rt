@@ -1,5 +1,6 @@
 //! The lines that name refusals.
 
+use crate::asserts::assert_same;
 use std::alloc::Global;
 use sx_term::Text;
 use sx_words::{
@@ -86,7 +87,7 @@ fn lines_with_places(rt: HostRuntime) {
         has_line(alloc, Position::Nowhere, absent, b"soundx: M.mod: absent\n"),
         has_line(alloc, Position::Line(4), header, line),
     ];
-    assert_eq!(rt; hold, [true; 3]);
+    assert_same(&rt, &hold, &[true; 3]);
 }
 
 #[test]

@@ -1,5 +1,6 @@
 //! Runs that are refused: by their words, by bad lines of core files, and by stuck goals.
 
+use crate::asserts::assert_same;
 use crate::samples::{LEAVES, PAIR, SIGNATURE};
 use std::alloc::Global;
 use sx_outside::{MemShelf, MemSink};
@@ -35,7 +36,7 @@ fn goals_that_are_stuck(rt: HostRuntime) {
         is_refused(alloc, &[SIGNATURE, leaf, asks, goal], mismatch),
         is_refused(alloc, &[SIGNATURE, name, differ, alike], equal),
     ];
-    assert_eq!(rt; hold, [true; 3]);
+    assert_same(&rt, &hold, &[true; 3]);
 }
 
 #[test]
@@ -59,7 +60,7 @@ fn files_that_are_refused(rt: HostRuntime) {
         is_refused(alloc, &[SIGNATURE, LEAVES, LEAVES, goal], twice),
         is_refused(alloc, &[&[b'a', b'\n', 255]], not_utf8),
     ];
-    assert_eq!(rt; hold, [true; 6]);
+    assert_same(&rt, &hold, &[true; 6]);
 }
 
 /// Whether building a core file of so many line feeds is refused with this line.
@@ -77,7 +78,7 @@ fn a_file_that_is_too_long(rt: HostRuntime) {
         are_lines_refused(alloc, 262_145, b"soundx: C.core: too long\n"),
         are_lines_refused(alloc, 262_144, b"soundx: C.core: line 262145: head\n"),
     ];
-    assert_eq!(rt; hold, [true; 2]);
+    assert_same(&rt, &hold, &[true; 2]);
 }
 
 /// Whether the words are no command, with this line.
@@ -99,7 +100,7 @@ fn words_that_are_no_command(rt: HostRuntime) {
         are_refused(alloc, "build --core 1x", b"soundx: words: word 3\n"),
         are_refused(alloc, "build --core One extra", b"soundx: words: word 4\n"),
     ];
-    assert_eq!(rt; hold, [true; 4]);
+    assert_same(&rt, &hold, &[true; 4]);
 }
 
 #[test]
@@ -127,5 +128,5 @@ fn commands_that_there_are_none_of(rt: HostRuntime) {
             b"soundx: words: word 3\n",
         ),
     ];
-    assert_eq!(rt; hold, [true; 8]);
+    assert_same(&rt, &hold, &[true; 8]);
 }

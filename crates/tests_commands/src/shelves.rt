@@ -1,5 +1,6 @@
 //! Shelves in memory, whose calls fail where a test says so, or never.
 
+use crate::asserts::assert_same;
 use std::alloc::Global;
 use sx_outside::{CleanShelf, MemShelf, ReadAnswer, Shelf, WriteAnswer};
 use sx_term::Text;
@@ -84,7 +85,7 @@ fn a_shelf_fails(rt: HostRuntime) {
     drop(into);
     drop(shelf);
     let hold = [is_filled, wrong == 0];
-    assert_eq!(rt; hold, [true; 2]);
+    assert_same(&rt, &hold, &[true; 2]);
 }
 
 /// Puts the older bytes; whether memory was there for that.
@@ -149,5 +150,5 @@ fn a_clean_shelf(rt: HostRuntime) {
     drop(into);
     drop(shelf);
     let hold = [is_filled, wrong == 0];
-    assert_eq!(rt; hold, [true; 2]);
+    assert_same(&rt, &hold, &[true; 2]);
 }

@@ -1,5 +1,6 @@
 //! Sinks in memory, whose writes fail where a test says so, or never.
 
+use crate::asserts::assert_same;
 use sx_outside::{CleanSink, MemSink, Sink, WriteAnswer};
 
 /// What writing these bytes one after the other answers.
@@ -25,7 +26,7 @@ fn a_sink_fails(rt: HostRuntime) {
         answers == [WriteAnswer::Done, WriteAnswer::Failed, WriteAnswer::Done],
         is_written,
     ];
-    assert_eq!(rt; hold, [true; 2]);
+    assert_same(&rt, &hold, &[true; 2]);
 }
 
 #[test]
@@ -38,5 +39,5 @@ fn a_clean_sink(rt: HostRuntime) {
         answers == [WriteAnswer::Done, WriteAnswer::Done, WriteAnswer::Done],
         is_written,
     ];
-    assert_eq!(rt; hold, [true; 2]);
+    assert_same(&rt, &hold, &[true; 2]);
 }

@@ -1,5 +1,6 @@
 //! Sources in memory, whose takes fail where a test says so, or never.
 
+use crate::asserts::assert_same;
 use std::alloc::Global;
 use sx_outside::{CleanSource, MemSource, Source, TakeAnswer};
 
@@ -58,7 +59,7 @@ fn a_source_fails(rt: HostRuntime) {
         }
         None => u8::MAX,
     };
-    assert_eq!(rt; wrong, 0);
+    assert_same(&rt, &wrong, &0);
 }
 
 /// The same where no take fails.
@@ -87,5 +88,5 @@ fn a_clean_source(rt: HostRuntime) {
         }
         Err(_) => u8::MAX,
     };
-    assert_eq!(rt; wrong, 0);
+    assert_same(&rt, &wrong, &0);
 }

@@ -1,5 +1,6 @@
 //! A file that is read, one that is not there, and the files of a unit.
 
+use crate::asserts::assert_same;
 use std::alloc::Global;
 use sx_outside::MemShelf;
 use sx_steps::{StepError, Work, built_work, read_file};
@@ -53,7 +54,7 @@ fn files_are_read(rt: HostRuntime) {
     let wrong = first_wrong(alloc, &mut shelf);
     drop(shelf);
     let hold = [is_put, wrong == 0];
-    assert_eq!(rt; hold, [true; 2]);
+    assert_same(&rt, &hold, &[true; 2]);
 }
 
 /// The bytes, unless memory is lacking.

@@ -1,5 +1,6 @@
 //! The commands that words spell.
 
+use crate::asserts::assert_same;
 use std::alloc::Global;
 use sx_term::Text;
 use sx_words::{Audit, Command, WordsError, read_words};
@@ -46,7 +47,7 @@ fn no_words(rt: HostRuntime) {
     let read = read_words(rt.alloc(), &[]);
     let place = place_of(&read);
     drop(read);
-    assert_eq!(rt; place, 1);
+    assert_same(&rt, &place, &1);
 }
 
 #[test]
@@ -64,7 +65,7 @@ fn words_of_commands(rt: HostRuntime) {
         misfit(alloc, b"verify 1One"),
         misfit(alloc, b"verify One-Two"),
     ];
-    assert_eq!(rt; places, [2, 1, 0, 3, 0, 2, 2, 0, 2, 2]);
+    assert_same(&rt, &places, &[2, 1, 0, 3, 0, 2, 2, 0, 2, 2]);
 }
 
 #[test]
@@ -77,7 +78,7 @@ fn numbers_of_tries(rt: HostRuntime) {
         misfit(alloc, b"build --tries=1000000 --core Main"),
         misfit(alloc, b"build --tries=1 --tries=2 Main"),
     ];
-    assert_eq!(rt; places, [2, 2, 2, 0, 3]);
+    assert_same(&rt, &places, &[2, 2, 2, 0, 3]);
 }
 
 #[test]
@@ -90,7 +91,7 @@ fn options_together(rt: HostRuntime) {
         misfit(alloc, b"build --audit=deny:R --audit=deny:S Main"),
         misfit(alloc, b"compile --core Main"),
     ];
-    assert_eq!(rt; places, [3, 3, 2, 3, 2]);
+    assert_same(&rt, &places, &[3, 3, 2, 3, 2]);
 }
 
 #[test]
@@ -102,7 +103,7 @@ fn words_of_a_sample(rt: HostRuntime) {
         misfit(alloc, b"sample 1 2"),
         misfit(alloc, b"sample"),
     ];
-    assert_eq!(rt; places, [0, 2, 3, 2]);
+    assert_same(&rt, &places, &[0, 2, 3, 2]);
 }
 
 #[test]
@@ -122,7 +123,7 @@ fn options_of_commands(rt: HostRuntime) {
         misfit(alloc, b"compile --audit=deny:R --tries=5 Main"),
         misfit(alloc, b"verify --core --audit=deny:R One"),
     ];
-    assert_eq!(rt; places, [0, 0, 0, 2, 0, 3, 0, 3, 4, 3, 0, 3]);
+    assert_same(&rt, &places, &[0, 0, 0, 2, 0, 3, 0, 3, 4, 3, 0, 3]);
 }
 
 /// Whether the auditor is that of the test.

@@ -1,5 +1,6 @@
 //! Texts that state no language, one for each reason.
 
+use crate::asserts::assert_same;
 use crate::reading::{has_readings, joined, read};
 use std::alloc::Global;
 use std::test::*;
@@ -83,7 +84,7 @@ fn bad_lines_of_rules(rt: HostRuntime) {
         told_after(alloc, b"rule A\n---\n~C |- ~T : ~T\nend\n") == Told::NoReading(17, 6),
         told_after(alloc, SAME_RULE_WITH_A_BAD_LINE) == Told::BadLine(21, Kind::Shape),
     ];
-    assert_eq!(rt; hold, [true; 5]);
+    assert_same(&rt, &hold, &[true; 5]);
 }
 
 /// Whether the line 28 of the language `Amb` with one more rule has two readings.

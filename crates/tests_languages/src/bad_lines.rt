@@ -1,5 +1,6 @@
 //! Language files without an outline, one for each reason.
 
+use crate::asserts::assert_same;
 use crate::reading::joined;
 use std::alloc::Global;
 use std::test::*;
@@ -45,7 +46,7 @@ fn first_lines(rt: HostRuntime) {
         is_bad(&rt, b"sort Exp typed\nlanguage Lam\n", 1, Kind::Head),
         is_bad(&rt, b"language Lam\nlanguage Lam\n", 2, Kind::Order),
     ];
-    assert_eq!(rt; hold, [true; 4]);
+    assert_same(&rt, &hold, &[true; 4]);
 }
 
 #[test]
@@ -65,7 +66,7 @@ fn declarations(rt: HostRuntime) {
         is_bad(&rt, b"language Lam\nmain f a b\n", 2, Kind::Main),
         is_bad(&rt, b"language Lam\nsort Exp typed", 3, Kind::Main),
     ];
-    assert_eq!(rt; hold, [true; 8]);
+    assert_same(&rt, &hold, &[true; 8]);
 }
 
 #[test]
@@ -79,7 +80,7 @@ fn sorts_with_lexical_names(rt: HostRuntime) {
             Kind::Shape,
         ),
     ];
-    assert_eq!(rt; hold, [true; 2]);
+    assert_same(&rt, &hold, &[true; 2]);
 }
 
 /// A file whose signatures have a sort that the file does not declare, since its last line spells
@@ -128,7 +129,7 @@ fn lines_out_of_order(rt: HostRuntime) {
         is_bad_after(&rt, b"rule R\n---\na\nrule S\n", 12, Kind::Order),
         is_bad_after(&rt, b"rule R\n---\na\nb\n", 12, Kind::Directive),
     ];
-    assert_eq!(rt; hold, [true; 5]);
+    assert_same(&rt, &hold, &[true; 5]);
 }
 
 #[test]
@@ -138,7 +139,7 @@ fn rules_without_an_end(rt: HostRuntime) {
         is_bad_after(&rt, b"rule R\na\n---\n", 9, Kind::Unfinished),
         is_bad_after(&rt, b"rule R\n---\na\n\n", 9, Kind::Unfinished),
     ];
-    assert_eq!(rt; hold, [true; 3]);
+    assert_same(&rt, &hold, &[true; 3]);
 }
 
 #[test]
@@ -149,5 +150,5 @@ fn bytes_that_are_not_utf8(rt: HostRuntime) {
         _ => None,
     };
     drop(read);
-    assert_eq!(rt; place, Some(2));
+    assert_same(&rt, &place, &Some(2));
 }

@@ -1,5 +1,6 @@
 //! The first lines of extension files.
 
+use crate::asserts::assert_same;
 use std::alloc::Global;
 use std::test::*;
 use sx_lines::Kind;
@@ -67,7 +68,7 @@ fn what_first_lines_state(rt: HostRuntime) {
         uses_nothing(alloc, b"extension Let\nlanguage Lam"),
         uses_nothing(alloc, b"extension Let\nlanguage Lam\nrule\nuse Seq\n"),
     ];
-    assert_eq!(rt; hold, [true; 4]);
+    assert_same(&rt, &hold, &[true; 4]);
 }
 
 /// Whether the first bad line of the header is this one, and of this kind.
@@ -117,5 +118,5 @@ fn bad_first_lines(rt: HostRuntime) {
         ),
         is_no_text(alloc, b"extension Let\n\xff", 14),
     ];
-    assert_eq!(rt; hold, [true; 10]);
+    assert_same(&rt, &hold, &[true; 10]);
 }

@@ -1,5 +1,6 @@
 //! Languages that are read.
 
+use crate::asserts::assert_same;
 use crate::reading::{joined, read};
 use std::alloc::Global;
 use std::test::*;
@@ -105,7 +106,7 @@ fn a_language_is_read(rt: HostRuntime) {
     };
     drop(read);
     let hold = [is_lam, says_there];
-    assert_eq!(rt; hold, [true; 2]);
+    assert_same(&rt, &hold, &[true; 2]);
 }
 
 /// Whether the text is that of a language with two rules, of which the first has three variables

@@ -3,6 +3,8 @@
 #![tactic(auto)]
 
 #[cfg(test)]
+mod asserts;
+#[cfg(test)]
 mod bad_languages;
 #[cfg(test)]
 mod bad_lines;

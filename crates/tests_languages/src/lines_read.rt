@@ -5,6 +5,7 @@ ghost use Rattle.sx_earley.specs.Completed.{IsSort};
 ghost use Rattle.sx_term.specs.Term.{tree};
 ghost use Rattle.sx_term.specs.Tree.{depth_of};
 
+use crate::asserts::assert_same;
 use crate::reading::{has_readings, read};
 use std::alloc::Global;
 use std::test::*;
@@ -230,7 +231,7 @@ fn lines_are_refused(rt: HostRuntime) {
             "form typing(~C,[plus(plus(num(1),num(2)),num(3))],~T)",
         ),
     ];
-    assert_eq!(rt; hold, [true; 5]);
+    assert_same(&rt, &hold, &[true; 5]);
 }
 
 #[test]
@@ -245,7 +246,7 @@ fn sums_are_refused(rt: HostRuntime) {
             "plus(plus(num(1),num(2)),~e)",
         ),
     ];
-    assert_eq!(rt; hold, [true; 3]);
+    assert_same(&rt, &hold, &[true; 3]);
 }
 
 /// Whether the line with the number 7 states this stem of this sort.
@@ -281,5 +282,5 @@ fn lines_that_extend_a_language(rt: HostRuntime) {
         states_stem(rt.alloc(), b"var x : id", "x", "id"),
         told_directive(rt.alloc(), b"form f :") == Told::BadLine(7, Kind::Shape),
     ];
-    assert_eq!(rt; hold, [true; 2]);
+    assert_same(&rt, &hold, &[true; 2]);
 }

@@ -1,5 +1,6 @@
 //! The outlines of language files.
 
+use crate::asserts::assert_same;
 use crate::reading::joined;
 use std::alloc::Global;
 use std::test::*;
@@ -93,7 +94,7 @@ fn what_a_language_declares(rt: HostRuntime) {
         sizes_read(alloc, b"Lam", LAM_LANG) == Some(sizes),
         main_of(alloc, LAM_LANG) == Some(main),
     ];
-    assert_eq!(rt; hold, [true; 2]);
+    assert_same(&rt, &hold, &[true; 2]);
 }
 
 /// Whether the line has this number and these bytes.
@@ -159,7 +160,7 @@ fn other_languages(rt: HostRuntime) {
         sizes_of_loop(alloc) == Some(of_loop),
         sizes_read(alloc, b"Amb", AMB) == Some(of_amb),
     ];
-    assert_eq!(rt; hold, [true; 2]);
+    assert_same(&rt, &hold, &[true; 2]);
 }
 
 /// A file with carriage returns, comments, blanks, declarations in another order, and no last line
@@ -215,5 +216,5 @@ fn blanks_and_comments(rt: HostRuntime) {
     };
     drop(read);
     let hold = [main_of(alloc, MIXED) == Some(main), is_read];
-    assert_eq!(rt; hold, [true; 2]);
+    assert_same(&rt, &hold, &[true; 2]);
 }

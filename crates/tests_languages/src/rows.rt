@@ -1,5 +1,6 @@
 //! Lines of language and extension files that are read, and lines that are refused.
 
+use crate::asserts::assert_same;
 use std::alloc::Global;
 use std::test::*;
 use sx_directives::{
@@ -179,7 +180,7 @@ fn other_rows(rt: HostRuntime) {
         is_no_row(&rt, b"plain let x e"),
         is_no_row(&rt, b"to (~x)"),
     ];
-    assert_eq!(rt; hold, [true; 11]);
+    assert_same(&rt, &hold, &[true; 11]);
 }
 
 #[test]
@@ -201,7 +202,7 @@ fn rows_of_extensions(rt: HostRuntime) {
         is_bad_in_extension(&rt, b"plain"),
         is_bad_in_extension(&rt, b"plain let 12"),
     ];
-    assert_eq!(rt; hold, [true; 15]);
+    assert_same(&rt, &hold, &[true; 15]);
 }
 
 /// Whether it is a plain line for `let` with the variables `x` and `e1`.
@@ -254,7 +255,7 @@ fn bad_rows(rt: HostRuntime) {
         is_bad(&rt, b"form f : Exp"),
         is_bad(&rt, b"--- end"),
     ];
-    assert_eq!(rt; hold, [true; 12]);
+    assert_same(&rt, &hold, &[true; 12]);
 }
 
 #[test]
@@ -265,7 +266,7 @@ fn lexical_sorts(rt: HostRuntime) {
         is_bad(&rt, b"sort str plain \"(\" \")\""),
         is_row(&rt, b"sort ids plain"),
     ];
-    assert_eq!(rt; hold, [true; 4]);
+    assert_same(&rt, &hold, &[true; 4]);
 }
 
 #[test]
@@ -274,7 +275,7 @@ fn lexical_kinds(rt: HostRuntime) {
         matches!(lexical_kind(b"num"), Some(LexKind::Num)),
         lexical_kind(b"nu").is_none(),
     ];
-    assert_eq!(rt; hold, [true; 2]);
+    assert_same(&rt, &hold, &[true; 2]);
 }
 
 /// Whether the line is a `prod` line.
@@ -306,7 +307,7 @@ fn other_directives(rt: HostRuntime) {
         is_no_directive(&rt, b"form f :"),
         is_no_directive(&rt, b"sorts Exp typed"),
     ];
-    assert_eq!(rt; hold, [true; 3]);
+    assert_same(&rt, &hold, &[true; 3]);
 }
 
 #[test]

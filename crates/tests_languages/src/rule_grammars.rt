@@ -1,5 +1,6 @@
 //! The grammar by which rules of a language of sums are read, and the forms that its lines spell.
 
+use crate::asserts::assert_same;
 use crate::reading::read;
 use std::alloc::Global;
 use std::test::*;
@@ -150,5 +151,5 @@ fn forms_with_their_sorts(rt: HostRuntime) {
             b"form typing : in:Env \"|-\" sub:Exp@51 \":\" out:Type",
         ) == Known::NoSort,
     ];
-    assert_eq!(rt; hold, [true; 2]);
+    assert_same(&rt, &hold, &[true; 2]);
 }

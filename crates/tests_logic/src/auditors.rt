@@ -1,5 +1,6 @@
 //! The four kinds of auditors, each through its box.
 
+use crate::asserts::assert_same;
 use std::alloc::Global;
 use sx_audit::{Auditor, SetError, makers};
 use sx_term::Text;
@@ -55,7 +56,7 @@ fn denied(alloc: Global) -> Option<[bool; 8]> {
 #[test]
 fn deny_objects_to_its_rules(rt: HostRuntime) {
     let alloc = rt.alloc();
-    assert_eq!(rt; denied(alloc), Some([true; 8]));
+    assert_same(&rt, &denied(alloc), &Some([true; 8]));
 }
 
 /// What is told of `depth`.
@@ -78,7 +79,7 @@ fn deep(alloc: Global) -> Option<[bool; 8]> {
 #[test]
 fn depth_objects_to_deep_nodes(rt: HostRuntime) {
     let alloc = rt.alloc();
-    assert_eq!(rt; deep(alloc), Some([true; 8]));
+    assert_same(&rt, &deep(alloc), &Some([true; 8]));
 }
 
 /// What is told of `nodes`.
@@ -100,7 +101,7 @@ fn many(alloc: Global) -> Option<[bool; 7]> {
 #[test]
 fn nodes_objects_to_many(rt: HostRuntime) {
     let alloc = rt.alloc();
-    assert_eq!(rt; many(alloc), Some([true; 7]));
+    assert_same(&rt, &many(alloc), &Some([true; 7]));
 }
 
 /// What is told of `tally`.
@@ -123,5 +124,5 @@ fn tallied(alloc: Global) -> Option<[bool; 8]> {
 #[test]
 fn tally_counts_its_rules(rt: HostRuntime) {
     let alloc = rt.alloc();
-    assert_eq!(rt; tallied(alloc), Some([true; 8]));
+    assert_same(&rt, &tallied(alloc), &Some([true; 8]));
 }

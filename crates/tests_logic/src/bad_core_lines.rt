@@ -1,5 +1,6 @@
 //! The first bad line of a core file, for each reason.
 
+use crate::asserts::assert_same;
 use std::alloc::Global;
 use std::test::Fail;
 use sx_core::{CoreFileError, read_core_file};
@@ -33,7 +34,7 @@ fn first_lines(rt: HostRuntime) {
         is_bad(&rt, b"sxcore 1\nsrot Exp typed\n", 2, Kind::Directive),
         is_bad(&rt, b"sxcore 1\nsxcore 1\n", 2, Kind::Order),
     ];
-    assert_eq!(rt; hold, [true; 4]);
+    assert_same(&rt, &hold, &[true; 4]);
 }
 
 #[test]
@@ -50,7 +51,7 @@ fn declarations(rt: HostRuntime) {
         is_bad(&rt, b"sxcore 1\ncon one Exp\n", 2, Kind::Shape),
         is_bad(&rt, b"sxcore 1\ncon one E\nsort E plain\n", 4, Kind::Main),
     ];
-    assert_eq!(rt; hold, [true; 5]);
+    assert_same(&rt, &hold, &[true; 5]);
 }
 
 #[test]
@@ -66,7 +67,7 @@ fn rules(rt: HostRuntime) {
             Kind::Order,
         ),
     ];
-    assert_eq!(rt; hold, [true; 4]);
+    assert_same(&rt, &hold, &[true; 4]);
 }
 
 #[test]
@@ -105,7 +106,7 @@ fn bad_rows(rt: HostRuntime) {
             Kind::Shape,
         ),
     ];
-    assert_eq!(rt; hold, [true; 7]);
+    assert_same(&rt, &hold, &[true; 7]);
 }
 
 #[test]
@@ -154,7 +155,7 @@ fn bad_judgements(rt: HostRuntime) {
             Kind::Shape,
         ),
     ];
-    assert_eq!(rt; hold, [true; 7]);
+    assert_same(&rt, &hold, &[true; 7]);
 }
 
 #[test]
@@ -187,7 +188,7 @@ fn lines_out_of_order(rt: HostRuntime) {
             Kind::Unfinished,
         ),
     ];
-    assert_eq!(rt; hold, [true; 6]);
+    assert_same(&rt, &hold, &[true; 6]);
 }
 
 /// A file whose goal nests so many nodes round a leaf.

@@ -1,5 +1,6 @@
 //! Core files that are read, and what they state.
 
+use crate::asserts::assert_same;
 use crate::samples::{LAMBDA, number_of, rules_of};
 use std::alloc::Global;
 use sx_core::{CoreFileError, CoreProblem, read_core_file};
@@ -113,11 +114,8 @@ fn number_in(alloc: Global, text: &[u8], name: &[u8]) -> Option<u32> {
 
 #[test]
 fn pairs(rt: HostRuntime) {
-    let hold = [
-        stated(rt.alloc(), PAIRS, 3) == Some((2, 4, 1, 0, 1)),
-        number_in(rt.alloc(), PAIRS, b"P") == Some(2),
-    ];
-    assert_eq!(rt; hold, [true; 2]);
+    assert_same(&rt, &stated(rt.alloc(), PAIRS, 3), &Some((2, 4, 1, 0, 1)));
+    assert_same(&rt, &number_in(rt.alloc(), PAIRS, b"P"), &Some(2));
 }
 
 #[test]

@@ -4,6 +4,8 @@
 #[cfg(test)]
 mod asking;
 #[cfg(test)]
+mod asserts;
+#[cfg(test)]
 mod auditors;
 #[cfg(test)]
 mod bad_core_lines;

@@ -4,6 +4,7 @@ ghost use Rattle.std.specs.Prelude.{◌≤◌, IfOk};
 ghost use Rattle.sx_rules.specs.Derivations.{height_of};
 ghost use Rattle.sx_rules.specs.ProofView.{proof};
 
+use crate::asserts::assert_same;
 use crate::samples::{LAMBDA, PAIR, W, Z, rules, rules_of};
 use std::alloc::Global;
 use sx_rules::{Entry, ListError, Proof, RuleSet, preorder, read_list, write_list};
@@ -36,13 +37,13 @@ fn bad_line(alloc: Global, text: &[u8]) -> Option<u32> {
 #[test]
 fn bad_lists(rt: HostRuntime) {
     let alloc = rt.alloc();
-    let hold = [
-        bad_line(alloc, b"") == Some(1),
-        bad_line(alloc, b"sxder 1\n\n") == Some(2),
-        bad_line(alloc, b"sxder 1\nT-Pair\ngiven 0\n") == Some(3),
-        bad_line(alloc, b"sxder 1\nT-Pair\xff\n") == Some(2),
+    let found = [
+        bad_line(alloc, b""),
+        bad_line(alloc, b"sxder 1\n\n"),
+        bad_line(alloc, b"sxder 1\nT-Pair\ngiven 0\n"),
+        bad_line(alloc, b"sxder 1\nT-Pair\xff\n"),
     ];
-    assert_eq!(rt; hold, [true; 4]);
+    assert_same(&rt, &found, &[Some(1), Some(2), Some(3), Some(2)]);
 }
 
 /// The line at which the text is refused, by the rules for abstractions.
@@ -57,14 +58,14 @@ fn bad_entry(alloc: Global, text: &[u8]) -> Option<u32> {
 fn bad_entries(rt: HostRuntime) {
     let alloc = rt.alloc();
     let blank = b"sxder 1\nT-Lam\nT-Lam\nT-Var\nL-There\nL-Here \n";
-    let hold = [
-        bad_entry(alloc, b"sxder 1\nT-Lam\nT-Lam\nT-Var\nT-Nosuch\n") == Some(5),
-        bad_entry(alloc, blank) == Some(6),
-        bad_entry(alloc, b"sxder 1\nT-Lam\ngiven 0\n") == Some(3),
-        bad_entry(alloc, b"sxder 1\nT-Lam\ngiven 4294967297\n") == Some(3),
-        bad_entry(alloc, b"sxder 2\nT-Lam\n") == Some(1),
+    let found = [
+        bad_entry(alloc, b"sxder 1\nT-Lam\nT-Lam\nT-Var\nT-Nosuch\n"),
+        bad_entry(alloc, blank),
+        bad_entry(alloc, b"sxder 1\nT-Lam\ngiven 0\n"),
+        bad_entry(alloc, b"sxder 1\nT-Lam\ngiven 4294967297\n"),
+        bad_entry(alloc, b"sxder 2\nT-Lam\n"),
     ];
-    assert_eq!(rt; hold, [true; 5]);
+    assert_same(&rt, &found, &[Some(5), Some(6), Some(3), Some(3), Some(1)]);
 }
 
 /// Whether the list that the text states is this one, by the rules for abstractions.

@@ -1,5 +1,6 @@
 //! Auditors that words name.
 
+use crate::asserts::assert_same;
 use std::alloc::Global;
 use sx_audit::{Auditor, makers};
 use sx_auditing::{name_auditors, put_texts};
@@ -83,22 +84,22 @@ fn two(alloc: Global, first: (&str, &str), second: (&str, &str), wanted: &[u8]) 
 fn words_name_auditors(rt: HostRuntime) {
     let alloc = rt.alloc();
     let tally = ("tally", "T-App,T-Lam");
-    let hold = [
+    let found = [
         two(
             alloc,
             tally,
             ("stop", "x"),
             b"stop\ntally T-App 0 T-Lam 0\n",
-        ) == Some(0),
+        ),
         two(
             alloc,
             ("deny", "L-Here"),
             tally,
             b"deny L-Here\ntally T-App 0 T-Lam 0\n",
-        ) == Some(0),
-        two(alloc, ("bogus", "1"), ("deny", ""), b"") == Some(2),
-        two(alloc, tally, ("deny", ""), b"") == Some(3),
-        two(alloc, tally, ("nodes", "1"), b"") == Some(3),
+        ),
+        two(alloc, ("bogus", "1"), ("deny", ""), b""),
+        two(alloc, tally, ("deny", ""), b""),
+        two(alloc, tally, ("nodes", "1"), b""),
     ];
-    assert_eq!(rt; hold, [true; 5]);
+    assert_same(&rt, &found, &[Some(0), Some(0), Some(2), Some(3), Some(3)]);
 }

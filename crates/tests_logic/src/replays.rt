@@ -4,6 +4,7 @@ ghost use Rattle.sx_rules.specs.Deep.{AreShallow};
 ghost use Rattle.sx_rules.specs.Views.{goal as goal_of};
 
 use crate::asking::no_hypotheses;
+use crate::asserts::assert_same;
 use crate::samples::{Z, rules};
 use crate::terms::goal;
 use std::alloc::Global;
@@ -67,13 +68,24 @@ fn ending(alloc: Global, list: &[Entry]) -> Option<(u32, u64)> {
 fn lists_of_a_pair(rt: HostRuntime) {
     let alloc = rt.alloc();
     let (pair, leaf) = (Entry::Rule(1), Entry::Rule(0));
-    let hold = [
-        ending(alloc, &[pair, leaf, leaf]) == Some((0, 1)),
-        ending(alloc, &[pair, leaf]) == Some((2, 0)),
-        ending(alloc, &[pair, leaf, pair]) == Some((1, 3)),
-        ending(alloc, &[pair, leaf, leaf, leaf]) == Some((3, 4)),
-        ending(alloc, &[Entry::Given(0)]) == Some((1, 1)),
-        ending(alloc, &[Entry::Rule(2)]) == Some((1, 1)),
+    let found = [
+        ending(alloc, &[pair, leaf, leaf]),
+        ending(alloc, &[pair, leaf]),
+        ending(alloc, &[pair, leaf, pair]),
+        ending(alloc, &[pair, leaf, leaf, leaf]),
+        ending(alloc, &[Entry::Given(0)]),
+        ending(alloc, &[Entry::Rule(2)]),
     ];
-    assert_eq!(rt; hold, [true; 6]);
+    assert_same(
+        &rt,
+        &found,
+        &[
+            Some((0, 1)),
+            Some((2, 0)),
+            Some((1, 3)),
+            Some((3, 4)),
+            Some((1, 1)),
+            Some((1, 1)),
+        ],
+    );
 }

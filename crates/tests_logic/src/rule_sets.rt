@@ -4,6 +4,7 @@ ghost use Rattle.std.specs.Prelude.{IfSome, map};
 ghost use Rattle.sx_rules.specs.Deep.{RulesAreShallow};
 ghost use Rattle.sx_rules.specs.Views.{rule};
 
+use crate::asserts::assert_same;
 use crate::samples::{PAIR, joined, number_of, rules};
 use crate::terms::judgement;
 use std::alloc::Global;
@@ -82,15 +83,26 @@ const FIVE: &[u8] = b"Exp Exp Exp Ty Ty";
 #[test]
 fn refused_rules(rt: HostRuntime) {
     let alloc = rt.alloc();
-    let hold = [
-        refusal(alloc, FIVE, b"?0", b"?1", b"(2 ?0 ?1)") == (6, 2, 0),
-        refusal(alloc, FIVE, b"?0", b"(1)", b"(2 ?0 ?1)") == (4, 0, 0),
-        refusal(alloc, FIVE, b"?0", b"(0)", b"(2 ?0 ?1)") == (5, 1, 2),
-        refusal(alloc, FIVE, b"?0", b"?1", b"(2 ?0 ?0)") == (5, 2, 1),
-        refusal(alloc, FIVE, b"?0", b"?0", b"?0") == (5, 3, 2),
-        refusal(alloc, FIVE, b"?0", b"?1", b"(2 ?0 (2 ?1 ?2))") == (5, 4, 0),
+    let found = [
+        refusal(alloc, FIVE, b"?0", b"?1", b"(2 ?0 ?1)"),
+        refusal(alloc, FIVE, b"?0", b"(1)", b"(2 ?0 ?1)"),
+        refusal(alloc, FIVE, b"?0", b"(0)", b"(2 ?0 ?1)"),
+        refusal(alloc, FIVE, b"?0", b"?1", b"(2 ?0 ?0)"),
+        refusal(alloc, FIVE, b"?0", b"?0", b"?0"),
+        refusal(alloc, FIVE, b"?0", b"?1", b"(2 ?0 (2 ?1 ?2))"),
     ];
-    assert_eq!(rt; hold, [true; 6]);
+    assert_same(
+        &rt,
+        &found,
+        &[
+            (6, 2, 0),
+            (4, 0, 0),
+            (5, 1, 2),
+            (5, 2, 1),
+            (5, 3, 2),
+            (5, 4, 0),
+        ],
+    );
 }
 
 /// Why the rule with 65 variables is refused.

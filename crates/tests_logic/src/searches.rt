@@ -6,6 +6,7 @@ ghost use Rattle.sx_rules.specs.Derivations.{ShallowJudgements};
 ghost use Rattle.sx_arena.specs.Entered.{ArePairsShallow};
 
 use crate::asking::{Stuck, Told, Why, answer, answer_from, answer_wanted};
+use crate::asserts::assert_same;
 use crate::samples::{OTHER_Z, PAIR, W, Z, rules};
 use crate::terms::{judgement, one_term};
 use std::alloc::Global;
@@ -61,7 +62,7 @@ fn spends_the_depth(rt: HostRuntime) {
         deep == Some(Told::DepthSpent(3000)),
         spent == Some(Told::TriesSpent(2999)),
     ];
-    assert_eq!(rt; hold, [true; 2]);
+    assert_same(&rt, &hold, &[true; 2]);
 }
 
 /// What is answered where the term 0 is to have this type, by the rules that give it two types.
@@ -93,7 +94,7 @@ fn finds_the_wanted_output(rt: HostRuntime) {
         wanting(alloc, "(5)") == Some(Told::By(1)),
         wanting(alloc, "(0)") == Some(Told::Stuck(unwanted)),
     ];
-    assert_eq!(rt; hold, [true; 3]);
+    assert_same(&rt, &hold, &[true; 3]);
 }
 
 #[test]
@@ -105,7 +106,7 @@ fn goes_back_to_another_output(rt: HostRuntime) {
         found == Some(Told::By(2)),
         spent == Some(Told::TriesSpent(5)),
     ];
-    assert_eq!(rt; hold, [true; 2]);
+    assert_same(&rt, &hold, &[true; 2]);
 }
 
 #[test]

@@ -5,6 +5,7 @@ ghost use Rattle.sx_term.specs.Tree.{depth_of};
 ghost use Rattle.sx_term.specs.Term.{tree};
 ghost use Rattle.sx_arena.specs.Arena.{trees, IsArena};
 
+use crate::asserts::assert_same;
 use crate::terms::term;
 use std::alloc::Global;
 use sx_arena::{Arena, Binds, Chain, enter, fit, instances_apart, made};
@@ -58,11 +59,9 @@ fn equal_terms_have_one_number(rt: HostRuntime) {
     let alloc = rt.alloc();
     let one = "(2 (0 i1:f) (0 i1:g))";
     let turned = "(2 (0 i1:g) (0 i1:f))";
-    let hold = [
-        shared(alloc, [one, turned, one]) == (Some((true, false)), 6),
-        measures(alloc, one) == (3, 5),
-    ];
-    assert_eq!(rt; hold, [true; 2]);
+    let found = shared(alloc, [one, turned, one]);
+    assert_same(&rt, &found, &(Some((true, false)), 6));
+    assert_same(&rt, &measures(alloc, one), &(3, 5));
 }
 
 /// What a pattern makes of a term: 0 where it has the term not as an instance; or else 1 where the
@@ -135,13 +134,8 @@ fn patterns(rt: HostRuntime) {
     let different = makes(alloc, "(2 ?0 ?0)", "(2 i1:f i1:g)", "?0", "i1:f");
     let same = makes(alloc, "(2 ?0 ?0)", "(2 i1:f i1:f)", "?0", "i1:f");
     let label = makes(alloc, "(3 ?0)", "(2 i1:f)", "?0", "i1:f");
-    let hold = [
-        turned == Some(1),
-        different == Some(0),
-        same == Some(1),
-        label == Some(0),
-    ];
-    assert_eq!(rt; hold, [true; 4]);
+    let found = [turned, different, same, label];
+    assert_same(&rt, &found, &[Some(1), Some(0), Some(1), Some(0)]);
 }
 
 /// Whether the terms are apart without hypotheses.
@@ -163,10 +157,10 @@ fn are_apart(alloc: Global, one: &str, other: &str) -> Option<bool> {
 #[test]
 fn lexemes_are_apart(rt: HostRuntime) {
     let alloc = rt.alloc();
-    let hold = [
-        are_apart(alloc, "i1:f", "i1:g") == Some(true),
-        are_apart(alloc, "i1:f", "i1:f") == Some(false),
-        are_apart(alloc, "(0 i1:f)", "(0 i1:g)") == Some(false),
+    let found = [
+        are_apart(alloc, "i1:f", "i1:g"),
+        are_apart(alloc, "i1:f", "i1:f"),
+        are_apart(alloc, "(0 i1:f)", "(0 i1:g)"),
     ];
-    assert_eq!(rt; hold, [true; 3]);
+    assert_same(&rt, &found, &[Some(true), Some(false), Some(false)]);
 }

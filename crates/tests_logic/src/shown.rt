@@ -10,6 +10,7 @@ ghost use Rattle.sx_rules.specs.Rules.{Judgement, no_hypotheses};
 ghost use Rattle.sx_rules.specs.Sets.{bare_rules_in};
 ghost use Rattle.sx_rules.specs.Views.{goal as goal_of};
 
+use crate::asserts::assert_same;
 use crate::auditors::{says, takes};
 use crate::samples::{PAIR, W, Z, rules};
 use crate::terms::goal;
@@ -208,5 +209,5 @@ fn pair_is_shown(alloc: Global) -> Option<[bool; 4]> {
 #[test]
 fn nodes_are_shown(rt: HostRuntime) {
     let alloc = rt.alloc();
-    assert_eq!(rt; pair_is_shown(alloc), Some([true; 4]));
+    assert_same(&rt, &pair_is_shown(alloc), &Some([true; 4]));
 }

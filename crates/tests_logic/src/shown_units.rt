@@ -8,6 +8,7 @@ ghost use Rattle.sx_rules.specs.Rules.{Judgement, no_hypotheses};
 ghost use Rattle.sx_rules.specs.Sets.{bare_rules_in};
 ghost use Rattle.sx_rules.specs.Views.{goal as goal_of};
 
+use crate::asserts::assert_same;
 use crate::samples::{PAIR, W, Z, rules};
 use crate::shown::is_shallow;
 use crate::terms::goal;
@@ -137,5 +138,5 @@ fn pair_is_shown(alloc: Global) -> Option<[u64; 2]> {
 
 #[test]
 fn the_third_node_is_the_second_of_its_unit(rt: HostRuntime) {
-    assert_eq!(rt; pair_is_shown(rt.alloc()), Some([0, 2]));
+    assert_same(&rt, &pair_is_shown(rt.alloc()), &Some([0, 2]));
 }

@@ -1,6 +1,7 @@
 //! Which goal is stuck where nothing is derived, and why.
 
 use crate::asking::{Stuck, Told, Why, answer};
+use crate::asserts::assert_same;
 use crate::samples::{PAIR, W, Z, rules};
 use std::alloc::Global;
 
@@ -43,7 +44,7 @@ fn places_of_stuck_goals(rt: HostRuntime) {
         by_pairs(alloc, "(3 (0) (3 (0) (2)))", 30) == no_rule(2, 1),
         by_pairs(alloc, "(3 (1) (0))", 6) == Some(Told::Stuck(first)),
     ];
-    assert_eq!(rt; hold, [true; 3]);
+    assert_same(&rt, &hold, &[true; 3]);
 }
 
 /// What is answered for the term 1, where x and x would have to be apart.

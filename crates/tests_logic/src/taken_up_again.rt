@@ -5,6 +5,7 @@ ghost use Rattle.sx_rules.specs.Deep.{AreShallow};
 ghost use Rattle.sx_rules.specs.Views.{goal as goal_of};
 
 use crate::asking::no_hypotheses;
+use crate::asserts::assert_same;
 use crate::samples::{OTHER_Z, PAIR, W, Z, rules};
 use crate::terms::goal;
 use std::alloc::Global;
@@ -101,7 +102,7 @@ fn goes_on_after_a_pause(rt: HostRuntime) {
         pair_calls(alloc, (6, 9, 9)) == Some([Call::Found(6), Call::Over, Call::Over]),
         pair_calls(alloc, (5, 1, 9)) == Some([Call::Paused, Call::Found(1), Call::Over]),
     ];
-    assert_eq!(rt; hold, [true; 2]);
+    assert_same(&rt, &hold, &[true; 2]);
 }
 
 /// The text of a pair of this text with itself.
@@ -141,5 +142,5 @@ fn the_first_of_very_many(rt: HostRuntime) {
         tree_calls(alloc, (253, 1, 3)) == Some([Call::Found(253), Call::Found(1), Call::Found(3)]),
         tree_calls(alloc, (252, 1, 1)) == Some([Call::Paused, Call::Found(1), Call::Found(1)]),
     ];
-    assert_eq!(rt; hold, [true; 2]);
+    assert_same(&rt, &hold, &[true; 2]);
 }

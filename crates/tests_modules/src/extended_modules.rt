@@ -1,5 +1,6 @@
 //! Runs of `build` on modules that use extensions.
 
+use crate::asserts::assert_same;
 use crate::extensions_checked::UNSOUND;
 use crate::scenes::{file, stops, tells};
 use std::alloc::Global;
@@ -103,7 +104,7 @@ fn the_files_of_modules_with_extensions(rt: HostRuntime) {
         leaves(alloc, &[&LAM, &SHOW, &LOUD, &SHOUTED], &SHOUTED_TEXTS),
         leaves(alloc, &[&LAM, &PAIR, &PAIRED], &PAIRED_TEXTS),
     ];
-    assert_eq!(rt; hold, [true; 2]);
+    assert_same(&rt, &hold, &[true; 2]);
 }
 
 /// The module with this text.
@@ -127,7 +128,7 @@ fn modules_that_pass_a_budget(rt: HostRuntime) {
         tells(alloc, &files, "build --tries=44 Main", 0, built),
         tells(alloc, &files, "build --tries=43 Main", 6, tries),
     ];
-    assert_eq!(rt; hold, [true; 4]);
+    assert_same(&rt, &hold, &[true; 4]);
 }
 
 #[test]
@@ -153,7 +154,7 @@ fn type_errors_in_the_notation_of_extensions(rt: HostRuntime) {
         stops(alloc, &[&LAM, &SHOW, &shown], 1, no_show),
         stops(alloc, &[&LAM, &LET, &unbound], 1, no_name),
     ];
-    assert_eq!(rt; hold, [true; 2]);
+    assert_same(&rt, &hold, &[true; 2]);
 }
 
 #[test]
@@ -171,7 +172,7 @@ fn uses_that_are_refused(rt: HostRuntime) {
         stops(alloc, &[&LAM, &other, &module], 1, written),
         stops(alloc, &[&LAM, &SHOW, &module], 1, absent),
     ];
-    assert_eq!(rt; hold, [true; 3]);
+    assert_same(&rt, &hold, &[true; 3]);
 }
 
 #[test]

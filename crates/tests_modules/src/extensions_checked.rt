@@ -1,5 +1,6 @@
 //! Runs of `check`.
 
+use crate::asserts::assert_same;
 use crate::scenes::{file, tells};
 use std::alloc::Global;
 use sx_outside::{MemShelf, MemSink};
@@ -44,7 +45,7 @@ fn extensions_that_are_accepted(rt: HostRuntime) {
             quad_lines,
         ),
     ];
-    assert_eq!(rt; hold, [true; 6]);
+    assert_same(&rt, &hold, &[true; 6]);
 }
 
 #[test]
@@ -62,7 +63,7 @@ fn extensions_that_pass_a_budget(rt: HostRuntime) {
             nodes,
         ),
     ];
-    assert_eq!(rt; hold, [true; 2]);
+    assert_same(&rt, &hold, &[true; 2]);
 }
 
 /// An extension whose rule has a body of another type.
@@ -123,7 +124,7 @@ end
             b"soundx: X.ext: rule T-X: ~C |- ~e : ~T is not what premise 1 of T-ShowInt asks for\n",
         ),
     ];
-    assert_eq!(rt; hold, [true; 3]);
+    assert_same(&rt, &hold, &[true; 3]);
 }
 
 #[test]
@@ -182,7 +183,7 @@ end
             b"soundx: X.ext: rule T-X: ~e is not bound\n",
         ),
     ];
-    assert_eq!(rt; hold, [true; 4]);
+    assert_same(&rt, &hold, &[true; 4]);
 }
 
 #[test]
@@ -201,7 +202,7 @@ fn plain_bodies_that_are_refused(rt: HostRuntime) {
         is_refused(alloc, none, b"soundx: X.ext: production q: no plain body\n"),
         is_refused(alloc, other, b"soundx: X.ext: line 5: variable\n"),
     ];
-    assert_eq!(rt; hold, [true; 5]);
+    assert_same(&rt, &hold, &[true; 5]);
 }
 
 #[test]
@@ -231,7 +232,7 @@ fn extension_files_that_are_refused(rt: HostRuntime) {
         is_refused(alloc, absent, b"soundx: Y.ext: absent\n"),
         is_refused(alloc, other, b"soundx: Lim.lang: absent\n"),
     ];
-    assert_eq!(rt; hold, [true; 9]);
+    assert_same(&rt, &hold, &[true; 9]);
 }
 
 #[test]

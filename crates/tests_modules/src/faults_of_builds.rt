@@ -1,5 +1,6 @@
 //! Builds of several modules in which a call of the shelf or of the sink fails.
 
+use crate::asserts::assert_same;
 use crate::modules_imported::{A, B, MAIN};
 use std::alloc::Global;
 use sx_outside::{MemShelf, MemSink};
@@ -118,7 +119,7 @@ fn a_read_that_fails(rt: HostRuntime) {
         is_read_fault(alloc, 3, b"soundx: B.mod: read fault\n"),
         is_read_fault(alloc, 4, b"soundx: Lam.lang: read fault\n"),
     ];
-    assert_eq!(rt; hold, [true; 4]);
+    assert_same(&rt, &hold, &[true; 4]);
 }
 
 #[test]

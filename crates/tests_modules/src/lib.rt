@@ -3,6 +3,8 @@
 #![tactic(auto)]
 
 #[cfg(test)]
+mod asserts;
+#[cfg(test)]
 mod extended_modules;
 #[cfg(test)]
 mod extensions_checked;

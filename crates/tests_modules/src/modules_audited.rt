@@ -1,5 +1,6 @@
 //! Runs with auditors that the words name.
 
+use crate::asserts::assert_same;
 use crate::scenes::{ending, plays};
 use tests_given::File;
 use tests_given::extensions::LET;
@@ -34,7 +35,7 @@ fn what_auditors_say(rt: HostRuntime) {
         plays(alloc, &[&LAM, &LET, &CALLED], &[tally]),
         plays(alloc, &[&LAM, &LET, &NAMED], &[three]),
     ];
-    assert_eq!(rt; hold, [true; 2]);
+    assert_same(&rt, &hold, &[true; 2]);
 }
 
 #[test]

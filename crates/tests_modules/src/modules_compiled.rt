@@ -1,5 +1,6 @@
 //! Runs of `compile` against the interfaces of imports.
 
+use crate::asserts::assert_same;
 use crate::modules_imported::{A, B};
 use crate::scenes::{Turn, ending, file, plays, plays_on};
 use tests_given::File;
@@ -27,7 +28,7 @@ fn modules_are_compiled_one_by_one(rt: HostRuntime) {
         plays(alloc, &[&LAM, &B, &A], &[COMPILED, COMPILED_AFTER]),
         plays(alloc, &[&LAM, &B, &A], &[absent]),
     ];
-    assert_eq!(rt; hold, [true; 2]);
+    assert_same(&rt, &hold, &[true; 2]);
 }
 
 #[test]
@@ -41,7 +42,7 @@ fn interfaces_that_are_refused(rt: HostRuntime) {
         plays_on(alloc, &[&LAM, &B, &A], &[COMPILED], &nine, &[version]),
         plays_on(alloc, &[&LAM, &B, &A], &[COMPILED], &empty, &[header]),
     ];
-    assert_eq!(rt; hold, [true; 2]);
+    assert_same(&rt, &hold, &[true; 2]);
 }
 
 #[test]
@@ -94,5 +95,5 @@ fn signatures_are_seen_as_they_are_stated(rt: HostRuntime) {
         plays_on(alloc, &files, &[COMPILED_PAIR], &with, &[stated]),
         plays_on(alloc, &files, &[COMPILED_PAIR], &without, &[plain]),
     ];
-    assert_eq!(rt; hold, [true; 2]);
+    assert_same(&rt, &hold, &[true; 2]);
 }

@@ -1,5 +1,6 @@
 //! Runs of `build` on modules that import others.
 
+use crate::asserts::assert_same;
 use crate::scenes::{Turn, file, plays};
 use tests_given::File;
 use tests_given::extensions::{FOR, LET};
@@ -60,7 +61,7 @@ fn modules_are_built_after_their_imports(rt: HostRuntime) {
         plays(alloc, &[&LAM, &FOR, &f, &xs, &loops], &[looped]),
         plays(alloc, &[&LAM, &LET, &FOR, &xs, &nested], &[inner]),
     ];
-    assert_eq!(rt; hold, [true; 3]);
+    assert_same(&rt, &hold, &[true; 3]);
 }
 
 #[test]
@@ -76,7 +77,7 @@ fn closures_that_are_refused(rt: HostRuntime) {
         plays(alloc, &[&LAM, &A, &MAIN], &[absent]),
         plays(alloc, &[&LAM, &other, &A, &MAIN], &[differs]),
     ];
-    assert_eq!(rt; hold, [true; 3]);
+    assert_same(&rt, &hold, &[true; 3]);
 }
 
 #[test]

@@ -1,6 +1,7 @@
 //! The plans of modules of small languages: what is printed of their bodies, and why they are
 //! refused.
 
+use crate::asserts::assert_same;
 use crate::planning::planned_main;
 use std::alloc::Global;
 use std::test::*;
@@ -115,7 +116,7 @@ fn prints_have_the_brackets_that_are_due(rt: HostRuntime) {
         prints(alloc, b"( 1 + 2 ) + 3", left),
         prints(alloc, b"1+(2+3)", right),
     ];
-    assert_eq!(rt; hold, [true; 3]);
+    assert_same(&rt, &hold, &[true; 3]);
 }
 
 /// Whether the body of a module of the language `Sums` is refused by this line.
@@ -136,7 +137,7 @@ fn bodies_that_are_not_read(rt: HostRuntime) {
         refuses(alloc, b"1 ?", sign),
         refuses(alloc, b"~n", tilde),
     ];
-    assert_eq!(rt; hold, [true; 4]);
+    assert_same(&rt, &hold, &[true; 4]);
 }
 
 #[test]
@@ -152,7 +153,7 @@ fn lines_and_columns(rt: HostRuntime) {
         refuses(alloc, b"1\n\n+ ?", third),
         refuses(alloc, b"1+\n", end),
     ];
-    assert_eq!(rt; hold, [true; 4]);
+    assert_same(&rt, &hold, &[true; 4]);
 }
 
 #[test]
@@ -167,7 +168,7 @@ fn bodies_and_prints_with_two_readings(rt: HostRuntime) {
         is_refused(alloc, header, b"1 + 2 + 3", written),
         is_refused(alloc, header, b"( 1 + 2 ) + 3", printed),
     ];
-    assert_eq!(rt; hold, [true; 2]);
+    assert_same(&rt, &hold, &[true; 2]);
 }
 
 /// The sum of a number with so many digits and 1.
@@ -216,5 +217,5 @@ fn files_that_are_too_long(rt: HostRuntime) {
         has_length(alloc, 262_109, 262_144),
         is_too_long(alloc, 262_110, over),
     ];
-    assert_eq!(rt; hold, [true; 2]);
+    assert_same(&rt, &hold, &[true; 2]);
 }

@@ -1,5 +1,6 @@
 //! Runs of `build`: what modules that use extensions become.
 
+use crate::asserts::assert_same;
 use std::alloc::Global;
 use sx_outside::{MemShelf, MemSink};
 use tests_given::File;
@@ -92,7 +93,7 @@ fn names_for_values(rt: HostRuntime) {
         becomes(alloc, &[&LET], &one),
         becomes(alloc, &[&LET], &function),
     ];
-    assert_eq!(rt; hold, [true; 2]);
+    assert_same(&rt, &hold, &[true; 2]);
 }
 
 #[test]
@@ -138,7 +139,7 @@ fn rules_that_types_choose(rt: HostRuntime) {
         becomes(alloc, &[&NULL], &null),
         becomes(alloc, &[&SHOW, &LOUD], &loud),
     ];
-    assert_eq!(rt; hold, [true; 3]);
+    assert_same(&rt, &hold, &[true; 3]);
 }
 
 #[test]
@@ -168,7 +169,7 @@ fn rules_that_conclude_their_premise(rt: HostRuntime) {
         becomes(alloc, &[&SAME], &same),
         tells(alloc, &[&SAME], b"use Same\n", b"x", 6, deep),
     ];
-    assert_eq!(rt; hold, [true; 2]);
+    assert_same(&rt, &hold, &[true; 2]);
 }
 
 /// Appends `twice`, nested so often round a string, with brackets round each inner one.
@@ -215,7 +216,7 @@ fn parts_that_are_copied(rt: HostRuntime) {
         nested(alloc, 12, 1, tokens),
         nested(alloc, 20, 6, nodes),
     ];
-    assert_eq!(rt; hold, [true; 4]);
+    assert_same(&rt, &hold, &[true; 4]);
 }
 
 /// The last two rules of the language of functions.
@@ -270,7 +271,7 @@ fn lists_that_no_search_of_the_base_finds(rt: HostRuntime) {
         has_list(alloc, b"use Twice\n", b"twice \"a\"", certified, three),
         has_list(alloc, b"", b"\"a\" ++ \"a\"", searched, two),
     ];
-    assert_eq!(rt; hold, [true; 2]);
+    assert_same(&rt, &hold, &[true; 2]);
 }
 
 /// Appends `keep 1` round a part that would be too big.
@@ -300,5 +301,5 @@ fn words_of_extensions(rt: HostRuntime) {
         tells(alloc, &[&CAP], b"use Cap\n", b"\\ f : Int . f", 1, name),
         tells(alloc, &both, b"use Bang\nuse Quest\n", b"? 1 !", 1, two),
     ];
-    assert_eq!(rt; hold, [true; 2]);
+    assert_same(&rt, &hold, &[true; 2]);
 }

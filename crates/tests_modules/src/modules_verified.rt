@@ -1,5 +1,6 @@
 //! Runs of `verify` on modules.
 
+use crate::asserts::assert_same;
 use crate::scenes::{Turn, plays, plays_on};
 use tests_given::File;
 use tests_given::extensions::PAIR;
@@ -53,7 +54,7 @@ fn what_was_built_is_verified(rt: HostRuntime) {
         plays(alloc, &[&LAM, &SHADOWED], &[BUILT, four]),
         plays(alloc, &[&LAM, &PAIR, &pair], &[built, three]),
     ];
-    assert_eq!(rt; hold, [true; 2]);
+    assert_same(&rt, &hold, &[true; 2]);
 }
 
 #[test]
@@ -74,7 +75,7 @@ fn lists_that_fit_no_derivation(rt: HostRuntime) {
         plays_on(alloc, &files, &[BUILT], &long, &[left_over]),
         plays_on(alloc, &files, &[BUILT], &unknown, &[bad]),
     ];
-    assert_eq!(rt; hold, [true; 4]);
+    assert_same(&rt, &hold, &[true; 4]);
 }
 
 #[test]
@@ -100,7 +101,7 @@ fn files_that_were_changed(rt: HostRuntime) {
         plays_on(alloc, &files, &[BUILT], &imported, &[line]),
         plays_on(alloc, &files, &[BUILT], &version, &[nine]),
     ];
-    assert_eq!(rt; hold, [true; 3]);
+    assert_same(&rt, &hold, &[true; 3]);
 }
 
 #[test]

@@ -1,5 +1,6 @@
 //! Runs with an auditor of the caller's own.
 
+use crate::asserts::assert_same;
 use crate::modules_imported::{A, B, MAIN};
 use std::alloc::Global;
 use sx_audit::{Auditor, makers};
@@ -71,5 +72,5 @@ fn it_is_shown_what_the_command_derives(rt: HostRuntime) {
             &["B.base"],
         ),
     ];
-    assert_eq!(rt; hold, [true; 4]);
+    assert_same(&rt, &hold, &[true; 4]);
 }

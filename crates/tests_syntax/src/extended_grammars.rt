@@ -1,19 +1,17 @@
 //! A grammar with more productions than another one.
 
-ghost use Rattle.std.specs.Prelude.{◌≡◌, ◌≤◌, OnOk, IfOk, IsTrue, map};
-ghost use Rattle.sx_term.specs.Tree.{depth_of};
-ghost use Rattle.sx_term.specs.Term.{tree};
+ghost use Rattle.std.specs.Prelude.{◌≡◌, OnOk, IfOk, IsTrue, map};
 ghost use Rattle.sx_grammar.specs.Parts.{line, parts as parts_of};
 ghost use Rattle.sx_grammar.specs.Extended.{extended};
 ghost use Rattle.sx_grammar.specs.Tables.{IsWithinLimits};
 
+use crate::asserts::assert_same;
 use crate::refused_grammars::words;
 use crate::samples::{Sample, grammar_of};
-use crate::symbols::{Piece, add, nothing};
+use crate::symbols::{Piece, Unmade, add, are_words, nothing, term};
 use std::alloc::Global;
-use std::test::Fail;
 use sx_grammar::{Grammar, GrammarError, GrammarParts, Production};
-use sx_term::{NoMemory, Term, read_core};
+use sx_term::NoMemory;
 
 /// Adds copies of the productions.
 pub(crate) fn add_copies(
@@ -30,7 +28,7 @@ pub(crate) fn add_copies(
 }
 
 /// Whether the grammar can be extended by the productions, or why not can be told.
-fn is_extensible(alloc: Global, base: &Grammar, more: &[Production]) -> Result<bool, Fail>
+fn is_extensible(alloc: Global, base: &Grammar, more: &[Production]) -> Result<bool, Unmade>
     ensures { IfOk result (λ r. IsTrue r → IsWithinLimits
         (extended base.now.parts (map line more.now))) }
 {
@@ -48,7 +46,7 @@ pub(crate) fn one(
     label: &str,
     sort: &str,
     piece: Piece,
-) -> Result<Vec<Production>, Fail> {
+) -> Result<Vec<Production>, Unmade> {
     let mut parts = nothing(alloc);
     match add(alloc, &mut parts, label, sort, 90, &[piece]) {
         Ok(()) => {
@@ -56,30 +54,23 @@ pub(crate) fn one(
             drop(sorts);
             Ok(productions)
         }
-        Err(fail) => {
+        Err(unmade) => {
             drop(parts);
-            Err(fail)
+            Err(unmade)
         }
     }
 }
 
-fn read(alloc: Global, core: &str) -> Result<Term, Fail>
-    ensures { IfOk result (λ t. depth_of (tree t) ≤ 1000) }
-{
-    let (term, _) = read_core(alloc, core.as_bytes(), 0)?;
-    Ok(term)
-}
-
 /// Whether all labels of the term with this core text are of base productions.
-fn is_base(alloc: Global, grammar: &Grammar, core: &str) -> Result<bool, Fail> {
-    let term = read(alloc, core)?;
+fn is_base(alloc: Global, grammar: &Grammar, core: &str) -> Result<bool, Unmade> {
+    let term = term(alloc, core)?;
     let answer = grammar.is_base(&term);
     drop(term);
     Ok(answer)
 }
 
 /// The number of productions, and which of the first three are base.
-fn shape(alloc: Global, grammar: &Grammar) -> Result<String, Fail> {
+fn shape(alloc: Global, grammar: &Grammar) -> Result<String, Unmade> {
     let count = grammar.parts().productions.len();
     let first = is_base(alloc, grammar, "(0)")?;
     let second = is_base(alloc, grammar, "(1)")?;
@@ -88,7 +79,7 @@ fn shape(alloc: Global, grammar: &Grammar) -> Result<String, Fail> {
 }
 
 /// What was made, in words.
-pub(crate) fn told(alloc: Global, made: Result<Grammar, GrammarError>) -> Result<String, Fail> {
+pub(crate) fn told(alloc: Global, made: Result<Grammar, GrammarError>) -> Result<String, Unmade> {
     let answer = match &made {
         Ok(grammar) => shape(alloc, grammar),
         Err(error) => words(alloc, error),
@@ -98,22 +89,22 @@ pub(crate) fn told(alloc: Global, made: Result<Grammar, GrammarError>) -> Result
 }
 
 /// What comes of extending the grammar by the productions.
-fn tried(alloc: Global, base: &Grammar, more: Vec<Production>) -> Result<String, Fail> {
+fn tried(alloc: Global, base: &Grammar, more: Vec<Production>) -> Result<String, Unmade> {
     match is_extensible(alloc, base, &more) {
         Ok(true) => told(alloc, Grammar::extend(alloc, base, more)),
         Ok(false) => {
             drop(more);
-            Err(Fail::from("not within limits"))
+            Err(Unmade)
         }
-        Err(fail) => {
+        Err(unmade) => {
             drop(more);
-            Err(fail)
+            Err(unmade)
         }
     }
 }
 
 /// What comes of extending the rows by one production.
-fn rows_with(alloc: Global, label: &str, piece: Piece) -> Result<String, Fail> {
+fn rows_with(alloc: Global, label: &str, piece: Piece) -> Result<String, Unmade> {
     let more = one(alloc, label, "Exp", piece)?;
     match grammar_of(alloc, Sample::Rows) {
         Ok(base) => {
@@ -121,31 +112,27 @@ fn rows_with(alloc: Global, label: &str, piece: Piece) -> Result<String, Fail> {
             drop(base);
             answer
         }
-        Err(fail) => {
+        Err(unmade) => {
             drop(more);
-            Err(fail)
+            Err(unmade)
         }
     }
 }
 
 /// Whether these words tell what comes of extending the rows by one production.
-fn is_told(alloc: Global, label: &str, piece: Piece, wanted: &str) -> Result<bool, Fail> {
-    let words = rows_with(alloc, label, piece)?;
-    let is = words.as_str() == wanted;
-    drop(words);
-    Ok(is)
+fn is_told(alloc: Global, label: &str, piece: Piece, wanted: &str) -> bool {
+    are_words(rows_with(alloc, label, piece), wanted)
 }
 
 /// A new production is not base, a label of the base stays the base's, and a new production may
 /// close a cycle.
 #[test]
-fn rows_with_one_more_production(rt: HostRuntime) -> Result<(), Fail> {
+fn rows_with_one_more_production(rt: HostRuntime) {
     let alloc = rt.alloc();
     let hold = [
-        is_told(alloc, "zero", Piece::Lit("zero"), "3 true true false")?,
-        is_told(alloc, "seq", Piece::Lit("zero"), "SameLabel seq")?,
-        is_told(alloc, "same", Piece::Part("Exp", 0), "Cyclic Exp")?,
+        is_told(alloc, "zero", Piece::Lit("zero"), "3 true true false"),
+        is_told(alloc, "seq", Piece::Lit("zero"), "SameLabel seq"),
+        is_told(alloc, "same", Piece::Part("Exp", 0), "Cyclic Exp"),
     ];
-    assert_eq!(rt; hold, [true; 3]);
-    Ok(())
+    assert_same(&rt, &hold, &[true; 3]);
 }

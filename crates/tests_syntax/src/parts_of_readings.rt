@@ -6,17 +6,17 @@ ghost use Rattle.sx_grammar.specs.Reading.{branch, bracket, leaf, variable, ◌�
 ghost use Rattle.sx_forest.specs.Names.{IsLexeme, IsMetavariable};
 ghost use Rattle.sx_forest.specs.Readings.{plain_reading};
 
+use crate::asserts::assert_same;
 use crate::samples::{Sample, grammar_of};
-use crate::symbols::text;
+use crate::symbols::{Unmade, are_bytes, text};
 use std::alloc::Global;
-use std::test::Fail;
 use sx_forest::{Reading, place_of, strip, write_tree};
 use sx_grammar::Grammar;
 use sx_term::{LexKind, Mark, Path, Term, Vars};
 use sx_token::Token;
 
 /// A lexeme in brackets: the tokens from 0 to 3.
-fn bracketed(alloc: Global) -> Result<Reading, Fail>
+fn bracketed(alloc: Global) -> Result<Reading, Unmade>
     ensures { IfOk result (λ r. plain_reading r ≡ bracket (leaf 1) 0 3) }
 {
     Ok(Reading::Bracket {
@@ -27,7 +27,7 @@ fn bracketed(alloc: Global) -> Result<Reading, Fail>
 }
 
 /// Their sum with a metavariable.
-fn sum(alloc: Global) -> Result<Reading, Fail>
+fn sum(alloc: Global) -> Result<Reading, Unmade>
     ensures { IfOk result (λ r. plain_reading r
         ≡ branch 0 (bracket (leaf 1) 0 3 ▸ variable 4 ▸ done) 0 5) }
 {
@@ -42,35 +42,44 @@ fn sum(alloc: Global) -> Result<Reading, Fail>
     })
 }
 
-/// The place of the part at the path.
-fn place_in(alloc: Global, reading: &Reading, steps: &[usize]) -> Result<Option<u32>, Fail> {
-    let path = Path {
-        steps: Vec::from_slice(alloc, steps)?,
-    };
-    Ok(place_of(reading, &path))
+/// Whether the part at the path stands at this place, or there is none where it is None.
+fn stands_in(alloc: Global, reading: &Reading, steps: &[usize], at: Option<u32>) -> bool {
+    match Vec::from_slice(alloc, steps) {
+        Ok(steps) => {
+            let path = Path { steps };
+            let place = place_of(reading, &path);
+            drop(path);
+            place == at
+        }
+        Err(_) => false,
+    }
 }
 
-/// Whether the part of the sum at the path stands at this place, or None where there is none.
-fn stands_at(alloc: Global, steps: &[usize], at: Option<u32>) -> Result<bool, Fail> {
-    let reading = sum(alloc)?;
-    let place = place_in(alloc, &reading, steps);
-    drop(reading);
-    Ok(place? == at)
+/// The same of the sum.
+fn stands_at(alloc: Global, steps: &[usize], at: Option<u32>) -> bool {
+    match sum(alloc) {
+        Ok(reading) => {
+            let stands = stands_in(alloc, &reading, steps, at);
+            drop(reading);
+            stands
+        }
+        Err(_) => false,
+    }
 }
 
 #[test]
-fn brackets_do_not_belong_to_a_part(rt: HostRuntime) -> Result<(), Fail> {
+fn brackets_do_not_belong_to_a_part(rt: HostRuntime) {
+    let alloc = rt.alloc();
     let hold = [
-        stands_at(rt.alloc(), &[], Some(0))?,
-        stands_at(rt.alloc(), &[0], Some(1))?,
-        stands_at(rt.alloc(), &[1], Some(4))?,
-        stands_at(rt.alloc(), &[2], None)?,
+        stands_at(alloc, &[], Some(0)),
+        stands_at(alloc, &[0], Some(1)),
+        stands_at(alloc, &[1], Some(4)),
+        stands_at(alloc, &[2], None),
     ];
-    assert_eq!(rt; hold, [true; 4]);
-    Ok(())
+    assert_same(&rt, &hold, &[true; 4]);
 }
 
-fn token(alloc: Global, mark: Mark, bytes: &str) -> Result<Token, Fail>
+fn token(alloc: Global, mark: Mark, bytes: &str) -> Result<Token, Unmade>
     ensures { IfOk result (λ t. (t.mark ≡ mark) × (t.text ≡ bytes.now)) }
 {
     Ok(Token {
@@ -82,7 +91,7 @@ fn token(alloc: Global, mark: Mark, bytes: &str) -> Result<Token, Fail>
 }
 
 /// The tokens `(`, `x`, `)`, `+` and a metavariable.
-fn tokens(alloc: Global, variable: &str) -> Result<Vec<Token>, Fail>
+fn tokens(alloc: Global, variable: &str) -> Result<Vec<Token>, Unmade>
     ensures five { IfOk result (λ v. length v.items ≡ 5) }
     ensures lexeme { IfOk result (λ v. IsLexeme (slice_get v.items 1)) }
     ensures metavariable { IfOk result (λ v. IsMetavariable (slice_get v.items 4)) }
@@ -96,47 +105,74 @@ fn tokens(alloc: Global, variable: &str) -> Result<Vec<Token>, Fail>
     Ok(all)
 }
 
-/// How many kids the term has, if it is a node, and the name of the first variable.
-fn told(alloc: Global, term: &Term, vars: &Vars) -> Result<String, Fail> {
+/// Whether the term is a node with so many kids, and this the name of the first variable.
+fn is_told(term: &Term, vars: &Vars, count: usize, first: &str) -> bool {
     match (term, vars.name(0)) {
         (Term::Node { label: _, kids }, Some(name)) => {
-            let count = kids.len();
-            let name = name.as_str();
-            Ok(format!(in alloc; "{count} kids and {name}")?)
+            kids.len() == count && name.as_str() == first
         }
-        _ => Ok(String::from_str(alloc, "no node with a variable")?),
+        _ => false,
     }
 }
 
 /// The same of the term of the sum with this metavariable.
-fn stripped(alloc: Global, variable: &str) -> Result<String, Fail> {
-    let tokens = tokens(alloc, variable)?;
-    let reading = sum(alloc)?;
-    let mut vars = Vars::new(alloc);
-    let term = strip(alloc, &reading, &tokens, &mut vars)?;
-    told(alloc, &term, &vars)
+fn is_stripped(alloc: Global, variable: &str, count: usize, first: &str) -> bool {
+    match (tokens(alloc, variable), sum(alloc)) {
+        (Ok(tokens), Ok(reading)) => {
+            let mut vars = Vars::new(alloc);
+            let term = strip(alloc, &reading, &tokens, &mut vars);
+            drop(reading);
+            drop(tokens);
+            let is = match &term {
+                Ok(term) => is_told(term, &vars, count, first),
+                Err(_) => false,
+            };
+            drop(term);
+            drop(vars);
+            is
+        }
+        (tokens, reading) => {
+            drop(reading);
+            drop(tokens);
+            false
+        }
+    }
 }
 
 #[test]
-fn a_name_is_numbered(rt: HostRuntime) -> Result<(), Fail> {
-    let words = stripped(rt.alloc(), "~y")?;
-    assert_eq!(rt; words.as_str(), "2 kids and y");
-    let words = stripped(rt.alloc(), "y")?;
-    assert_eq!(rt; words.as_str(), "2 kids and y");
-    Ok(())
+fn a_name_is_numbered(rt: HostRuntime) {
+    let alloc = rt.alloc();
+    let hold = [
+        is_stripped(alloc, "~y", 2, "y"),
+        is_stripped(alloc, "y", 2, "y"),
+    ];
+    assert_same(&rt, &hold, &[true; 2]);
 }
 
-/// The tree text of the brackets behind `> `.
-fn written(alloc: Global, grammar: &Grammar) -> Result<Vec<u8>, Fail> {
-    let tokens = tokens(alloc, "~y")?;
-    let reading = bracketed(alloc)?;
-    let mut into = Vec::from_slice(alloc, b"> ")?;
-    write_tree(alloc, grammar, &reading, &tokens, &mut into)?;
-    Ok(into)
+/// Writes the tree text of the brackets behind `> `.
+fn written(alloc: Global, grammar: &Grammar) -> Result<Vec<u8>, Unmade> {
+    match (tokens(alloc, "~y"), bracketed(alloc)) {
+        (Ok(tokens), Ok(reading)) => {
+            let mut into = Vec::new(alloc);
+            let is_written = into.extend_from_slice(b"> ").is_ok()
+                && write_tree(alloc, grammar, &reading, &tokens, &mut into).is_ok();
+            drop(reading);
+            drop(tokens);
+            if !is_written {
+                into.clear();
+            }
+            Ok(into)
+        }
+        (tokens, reading) => {
+            drop(reading);
+            drop(tokens);
+            Err(Unmade)
+        }
+    }
 }
 
 /// The same by a grammar.
-fn text_of_brackets(alloc: Global) -> Result<Vec<u8>, Fail> {
+fn text_of_brackets(alloc: Global) -> Result<Vec<u8>, Unmade> {
     let grammar = grammar_of(alloc, Sample::Rows)?;
     let words = written(alloc, &grammar);
     drop(grammar);
@@ -144,8 +180,10 @@ fn text_of_brackets(alloc: Global) -> Result<Vec<u8>, Fail> {
 }
 
 #[test]
-fn the_text_of_brackets(rt: HostRuntime) -> Result<(), Fail> {
-    let words = text_of_brackets(rt.alloc())?;
-    assert_eq!(rt; words.as_slice(), b"> [x]".as_slice());
-    Ok(())
+fn the_text_of_brackets(rt: HostRuntime) {
+    assert_same(
+        &rt,
+        &are_bytes(text_of_brackets(rt.alloc()), b"> [x]"),
+        &true,
+    );
 }

@@ -1,13 +1,13 @@
 //! Parts that are no grammar, each for one reason, and parts that are one.
 
-use crate::symbols::{Piece, add, add_bare_sort, nothing};
+use crate::asserts::assert_same;
+use crate::symbols::{Piece, Unmade, add, add_bare_sort, are_words, nothing};
 use std::alloc::Global;
-use std::test::Fail;
 use sx_grammar::{Grammar, GrammarError, GrammarParts};
 use sx_term::LexKind;
 
 /// Adds the typed sort `Exp` of variables at level 90, and the plain sort `Ty` of `Int`.
-fn add_language(alloc: Global, parts: &mut GrammarParts) -> Result<(), Fail> {
+fn add_language(alloc: Global, parts: &mut GrammarParts) -> Result<(), Unmade> {
     add_bare_sort(alloc, parts, "Exp", true)?;
     add_bare_sort(alloc, parts, "Ty", false)?;
     add(alloc, parts, "var", "Exp", 90, &[Piece::Lex(LexKind::Id)])?;
@@ -29,13 +29,13 @@ fn told(error: &GrammarError) -> (&str, &str) {
 }
 
 /// The refusal and its name as one text.
-pub(crate) fn words(alloc: Global, error: &GrammarError) -> Result<String, Fail> {
+pub(crate) fn words(alloc: Global, error: &GrammarError) -> Result<String, Unmade> {
     let (kind, name) = told(error);
     Ok(format!(in alloc; "{kind} {name}")?)
 }
 
 /// Why the parts are no grammar, and the name that is told; or nothing where they are one.
-fn refusal(alloc: Global, parts: GrammarParts) -> Result<String, Fail> {
+fn refusal(alloc: Global, parts: GrammarParts) -> Result<String, Unmade> {
     match parts.is_within_limits(alloc) {
         Ok(true) => made(alloc, Grammar::make(alloc, parts)),
         Ok(false) => {
@@ -44,13 +44,13 @@ fn refusal(alloc: Global, parts: GrammarParts) -> Result<String, Fail> {
         }
         Err(error) => {
             drop(parts);
-            Err(Fail::from(error))
+            Err(Unmade)
         }
     }
 }
 
 /// The same of what came of making one.
-fn made(alloc: Global, grammar: Result<Grammar, GrammarError>) -> Result<String, Fail> {
+fn made(alloc: Global, grammar: Result<Grammar, GrammarError>) -> Result<String, Unmade> {
     let answer = match &grammar {
         Ok(_) => Ok(String::new(alloc)),
         Err(error) => words(alloc, error),
@@ -60,12 +60,12 @@ fn made(alloc: Global, grammar: Result<Grammar, GrammarError>) -> Result<String,
 }
 
 /// The refusal of the parts, if they could be filled.
-fn added(alloc: Global, parts: GrammarParts, filled: Result<(), Fail>) -> Result<String, Fail> {
+fn added(alloc: Global, parts: GrammarParts, filled: Result<(), Unmade>) -> Result<String, Unmade> {
     match filled {
         Ok(()) => refusal(alloc, parts),
-        Err(fail) => {
+        Err(unmade) => {
             drop(parts);
-            Err(fail)
+            Err(unmade)
         }
     }
 }
@@ -78,13 +78,13 @@ fn add_with(
     of: &str,
     level: u8,
     piece: Piece,
-) -> Result<(), Fail> {
+) -> Result<(), Unmade> {
     add_language(alloc, parts)?;
     add(alloc, parts, label, of, level, &[piece])
 }
 
 /// The refusal of the language with one more production, of one symbol.
-fn with(alloc: Global, label: &str, of: &str, level: u8, piece: Piece) -> Result<String, Fail> {
+fn with(alloc: Global, label: &str, of: &str, level: u8, piece: Piece) -> Result<String, Unmade> {
     let mut parts = nothing(alloc);
     let filled = add_with(alloc, &mut parts, label, of, level, piece);
     added(alloc, parts, filled)
@@ -92,27 +92,17 @@ fn with(alloc: Global, label: &str, of: &str, level: u8, piece: Piece) -> Result
 
 /// Whether the language with one more production, of one symbol, is refused by these words, or is
 /// one where there are none.
-fn is_told(
-    alloc: Global,
-    label: &str,
-    of: &str,
-    level: u8,
-    piece: Piece,
-    wanted: &str,
-) -> Result<bool, Fail> {
-    let words = with(alloc, label, of, level, piece)?;
-    let is = words.as_str() == wanted;
-    drop(words);
-    Ok(is)
+fn is_told(alloc: Global, label: &str, of: &str, level: u8, piece: Piece, wanted: &str) -> bool {
+    are_words(with(alloc, label, of, level, piece), wanted)
 }
 
 #[test]
-fn one_more_production(rt: HostRuntime) -> Result<(), Fail> {
+fn one_more_production(rt: HostRuntime) {
     let alloc = rt.alloc();
     let bad = Piece::Lit("//");
     let hold = [
-        is_told(alloc, "typed", "Exp", 50, Piece::Part("Ty", 90), "")?,
-        is_told(alloc, "note", "Ty", 0, bad, "BadLiteral //")?,
+        is_told(alloc, "typed", "Exp", 50, Piece::Part("Ty", 90), ""),
+        is_told(alloc, "note", "Ty", 0, bad, "BadLiteral //"),
         is_told(
             alloc,
             "app",
@@ -120,8 +110,8 @@ fn one_more_production(rt: HostRuntime) -> Result<(), Fail> {
             50,
             Piece::Part("Env", 0),
             "UnknownSort Env",
-        )?,
-        is_told(alloc, "int", "Ty", 90, Piece::Lit("Str"), "SameLabel int")?,
+        ),
+        is_told(alloc, "int", "Ty", 90, Piece::Lit("Str"), "SameLabel int"),
         is_told(
             alloc,
             "size",
@@ -129,7 +119,7 @@ fn one_more_production(rt: HostRuntime) -> Result<(), Fail> {
             90,
             Piece::Part("Exp", 0),
             "PlainHasTyped size",
-        )?,
+        ),
         is_told(
             alloc,
             "up",
@@ -137,31 +127,34 @@ fn one_more_production(rt: HostRuntime) -> Result<(), Fail> {
             95,
             Piece::Part("Ty", 91),
             "NoBrackets Ty",
-        )?,
-        is_told(alloc, "loop", "Exp", 0, Piece::Part("Exp", 0), "Cyclic Exp")?,
+        ),
+        is_told(alloc, "loop", "Exp", 0, Piece::Part("Exp", 0), "Cyclic Exp"),
     ];
-    assert_eq!(rt; hold, [true; 7]);
-    Ok(())
+    assert_same(&rt, &hold, &[true; 7]);
 }
 
 /// Adds the language and a second sort `Ty`.
-fn add_twice(alloc: Global, parts: &mut GrammarParts) -> Result<(), Fail> {
+fn add_twice(alloc: Global, parts: &mut GrammarParts) -> Result<(), Unmade> {
     add_language(alloc, parts)?;
     add_bare_sort(alloc, parts, "Ty", true)
 }
 
 #[test]
-fn same_sort(rt: HostRuntime) -> Result<(), Fail> {
+fn same_sort(rt: HostRuntime) {
     let mut parts = nothing(rt.alloc());
     let filled = add_twice(rt.alloc(), &mut parts);
-    let words = added(rt.alloc(), parts, filled)?;
-    assert_eq!(rt; words.as_str(), "SameSort Ty");
-    Ok(())
+    let words = added(rt.alloc(), parts, filled);
+    assert_same(&rt, &are_words(words, "SameSort Ty"), &true);
 }
 
 /// Adds the sort with this number, and the step with this number from it to the sort with the other
 /// number.
-fn add_step(alloc: Global, parts: &mut GrammarParts, number: usize, to: usize) -> Result<(), Fail> {
+fn add_step(
+    alloc: Global,
+    parts: &mut GrammarParts,
+    number: usize,
+    to: usize,
+) -> Result<(), Unmade> {
     let sort = format!(in alloc; "s{number}")?;
     let label = format!(in alloc; "p{number}")?;
     let next = format!(in alloc; "s{to}")?;
@@ -178,7 +171,12 @@ fn add_step(alloc: Global, parts: &mut GrammarParts, number: usize, to: usize) -
 
 /// Adds sorts in a row, each with a step to the next; the last leads back to the sort with this
 /// number.
-fn add_row(alloc: Global, parts: &mut GrammarParts, count: usize, back: usize) -> Result<(), Fail> {
+fn add_row(
+    alloc: Global,
+    parts: &mut GrammarParts,
+    count: usize,
+    back: usize,
+) -> Result<(), Unmade> {
     for number in 0..count {
         let to = if number + 1 < count { number + 1 } else { back };
         add_step(alloc, parts, number, to)?;
@@ -187,10 +185,9 @@ fn add_row(alloc: Global, parts: &mut GrammarParts, count: usize, back: usize) -
 }
 
 #[test]
-fn first_of_the_sorts_that_derive_themselves(rt: HostRuntime) -> Result<(), Fail> {
+fn first_of_the_sorts_that_derive_themselves(rt: HostRuntime) {
     let mut parts = nothing(rt.alloc());
     let filled = add_row(rt.alloc(), &mut parts, 30000, 29998);
-    let words = added(rt.alloc(), parts, filled)?;
-    assert_eq!(rt; words.as_str(), "Cyclic s29998");
-    Ok(())
+    let words = added(rt.alloc(), parts, filled);
+    assert_same(&rt, &are_words(words, "Cyclic s29998"), &true);
 }

@@ -1,8 +1,8 @@
 //! Tokens whose literals are not numbered as the grammar numbers them by which they are read.
 
 use crate::samples::{Sample, grammar_of};
+use crate::symbols::Unmade;
 use std::alloc::Global;
-use std::test::Fail;
 use sx_grammar::Grammar;
 use sx_term::Mark;
 use sx_token::{Token, tokens};
@@ -16,12 +16,19 @@ pub(crate) struct Cut<'a> {
 }
 
 /// The tokens of a short text.
-fn cut_text(alloc: Global, grammar: &Grammar, bytes: &[u8]) -> Result<Vec<Token>, Fail> {
-    if bytes.len() > 100 {
-        return Err(Fail::from("the text is too long"));
+pub(crate) fn cut_text(
+    alloc: Global,
+    grammar: &Grammar,
+    bytes: &[u8],
+) -> Result<Vec<Token>, Unmade> {
+    if bytes.len() > 262144 {
+        return Err(Unmade);
     }
     grammar.facts();
-    Ok(tokens(alloc, bytes, grammar.literals(), false)?)
+    match tokens(alloc, bytes, grammar.literals(), false) {
+        Ok(found) => Ok(found),
+        Err(_) => Err(Unmade),
+    }
 }
 
 /// Gives each literal the number.
@@ -34,7 +41,7 @@ fn number_all(tokens: &mut [Token], number: u32) {
 }
 
 /// The tokens.
-pub(crate) fn cut_as(alloc: Global, cut: Cut) -> Result<Vec<Token>, Fail> {
+pub(crate) fn cut_as(alloc: Global, cut: Cut) -> Result<Vec<Token>, Unmade> {
     let grammar = grammar_of(alloc, cut.by)?;
     let found = cut_text(alloc, &grammar, cut.bytes);
     drop(grammar);

@@ -1,8 +1,7 @@
 //! Small grammars.
 
-use crate::symbols::{Piece, add, add_sort, nothing};
+use crate::symbols::{Piece, Unmade, add, add_sort, nothing};
 use std::alloc::Global;
-use std::test::Fail;
 use sx_grammar::{Grammar, GrammarParts};
 use sx_term::LexKind;
 
@@ -27,11 +26,11 @@ pub(crate) enum Sample {
     Functions,
 }
 
-fn add_number(alloc: Global, parts: &mut GrammarParts) -> Result<(), Fail> {
+fn add_number(alloc: Global, parts: &mut GrammarParts) -> Result<(), Unmade> {
     add(alloc, parts, "last", "Exp", 90, &[NUM])
 }
 
-fn add_row(alloc: Global, parts: &mut GrammarParts) -> Result<(), Fail> {
+fn add_row(alloc: Global, parts: &mut GrammarParts) -> Result<(), Unmade> {
     add(
         alloc,
         parts,
@@ -42,7 +41,7 @@ fn add_row(alloc: Global, parts: &mut GrammarParts) -> Result<(), Fail> {
     )
 }
 
-fn add_sum(alloc: Global, parts: &mut GrammarParts, least: u8) -> Result<(), Fail> {
+fn add_sum(alloc: Global, parts: &mut GrammarParts, least: u8) -> Result<(), Unmade> {
     let symbols = [
         Piece::Part("Exp", 50),
         Piece::Lit("+"),
@@ -51,7 +50,7 @@ fn add_sum(alloc: Global, parts: &mut GrammarParts, least: u8) -> Result<(), Fai
     add(alloc, parts, "plus", "Exp", 50, &symbols)
 }
 
-fn add_chain(alloc: Global, parts: &mut GrammarParts) -> Result<(), Fail> {
+fn add_chain(alloc: Global, parts: &mut GrammarParts) -> Result<(), Unmade> {
     add_sort(alloc, parts, "Up", false)?;
     add_sort(alloc, parts, "Down", false)?;
     add(alloc, parts, "up", "Up", 0, &[Piece::Part("Down", 0)])?;
@@ -59,7 +58,7 @@ fn add_chain(alloc: Global, parts: &mut GrammarParts) -> Result<(), Fail> {
     add(alloc, parts, "none", "Down", 0, &[])
 }
 
-fn add_function(alloc: Global, parts: &mut GrammarParts) -> Result<(), Fail> {
+fn add_function(alloc: Global, parts: &mut GrammarParts) -> Result<(), Unmade> {
     let symbols = [
         Piece::Lit("\\"),
         ID,
@@ -71,7 +70,7 @@ fn add_function(alloc: Global, parts: &mut GrammarParts) -> Result<(), Fail> {
     add(alloc, parts, "lam", "Exp", 10, &symbols)
 }
 
-fn add_application(alloc: Global, parts: &mut GrammarParts) -> Result<(), Fail> {
+fn add_application(alloc: Global, parts: &mut GrammarParts) -> Result<(), Unmade> {
     add(
         alloc,
         parts,
@@ -82,7 +81,7 @@ fn add_application(alloc: Global, parts: &mut GrammarParts) -> Result<(), Fail> 
     )
 }
 
-fn add_arrow(alloc: Global, parts: &mut GrammarParts) -> Result<(), Fail> {
+fn add_arrow(alloc: Global, parts: &mut GrammarParts) -> Result<(), Unmade> {
     let symbols = [
         Piece::Part("Ty", 11),
         Piece::Lit("->"),
@@ -91,7 +90,7 @@ fn add_arrow(alloc: Global, parts: &mut GrammarParts) -> Result<(), Fail> {
     add(alloc, parts, "arrow", "Ty", 10, &symbols)
 }
 
-fn add_functions(alloc: Global, parts: &mut GrammarParts) -> Result<(), Fail> {
+fn add_functions(alloc: Global, parts: &mut GrammarParts) -> Result<(), Unmade> {
     add_sort(alloc, parts, "Exp", true)?;
     add_sort(alloc, parts, "Ty", false)?;
     add(alloc, parts, "var", "Exp", 90, &[ID])?;
@@ -103,7 +102,7 @@ fn add_functions(alloc: Global, parts: &mut GrammarParts) -> Result<(), Fail> {
 }
 
 /// Adds the sorts and productions of the sample.
-fn add_all(alloc: Global, parts: &mut GrammarParts, sample: Sample) -> Result<(), Fail> {
+fn add_all(alloc: Global, parts: &mut GrammarParts, sample: Sample) -> Result<(), Unmade> {
     match sample {
         Sample::Rows => {
             add_sort(alloc, parts, "Exp", false)?;
@@ -125,29 +124,28 @@ fn add_all(alloc: Global, parts: &mut GrammarParts, sample: Sample) -> Result<()
     }
 }
 
-fn parts_of(alloc: Global, sample: Sample) -> Result<GrammarParts, Fail> {
+fn parts_of(alloc: Global, sample: Sample) -> Result<GrammarParts, Unmade> {
     let mut parts = nothing(alloc);
     match add_all(alloc, &mut parts, sample) {
         Ok(()) => Ok(parts),
-        Err(fail) => {
+        Err(unmade) => {
             drop(parts);
-            Err(fail)
+            Err(unmade)
         }
     }
 }
 
 /// The sample as a grammar.
-pub(crate) fn grammar_of(alloc: Global, sample: Sample) -> Result<Grammar, Fail> {
+pub(crate) fn grammar_of(alloc: Global, sample: Sample) -> Result<Grammar, Unmade> {
     let parts = parts_of(alloc, sample)?;
     match parts.is_within_limits(alloc) {
-        Ok(true) => Ok(Grammar::make(alloc, parts)?),
-        Ok(false) => {
+        Ok(true) => match Grammar::make(alloc, parts) {
+            Ok(grammar) => Ok(grammar),
+            Err(_) => Err(Unmade),
+        },
+        _ => {
             drop(parts);
-            Err(Fail::from("the sample is not within limits"))
-        }
-        Err(error) => {
-            drop(parts);
-            Err(Fail::from(error))
+            Err(Unmade)
         }
     }
 }

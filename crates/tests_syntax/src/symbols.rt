@@ -1,11 +1,34 @@
 //! Parts of grammars, made of the words in them.
 
-ghost use Rattle.std.specs.Prelude.{◌≡◌, IfOk};
+ghost use Rattle.std.specs.Prelude.{◌≡◌, ◌≤◌, IfOk};
+ghost use Rattle.sx_term.specs.Tree.{depth_of};
+ghost use Rattle.sx_term.specs.Term.{tree};
 
-use std::alloc::Global;
-use std::test::Fail;
+use std::alloc::{AllocError, AllocFailed, Global};
 use sx_grammar::{GrammarParts, Production, SortLine, Symbol};
-use sx_term::{LexKind, Text};
+use sx_term::{LexKind, NoMemory, Term, Text, read_core};
+
+/// What is wanted could not be made: its conditions are not met, or memory is lacking.
+#[derive(Drop)]
+pub(crate) struct Unmade;
+
+impl From<AllocError> for Unmade {
+    fn from(_: AllocError) -> Unmade {
+        Unmade
+    }
+}
+
+impl<T: Drop> From<AllocFailed<T>> for Unmade {
+    fn from(_: AllocFailed<T>) -> Unmade {
+        Unmade
+    }
+}
+
+impl From<NoMemory> for Unmade {
+    fn from(_: NoMemory) -> Unmade {
+        Unmade
+    }
+}
 
 /// A symbol of a production, by the word in it.
 #[derive(Clone, Copy)]
@@ -15,13 +38,16 @@ pub(crate) enum Piece<'a> {
     Part(&'a str, u8),
 }
 
-pub(crate) fn text(alloc: Global, word: &str) -> Result<Text, Fail>
+pub(crate) fn text(alloc: Global, word: &str) -> Result<Text, Unmade>
     ensures { IfOk result (λ t. t ≡ word.now) }
 {
-    Ok(Text::make(alloc, word.as_bytes())?)
+    match Text::make(alloc, word.as_bytes()) {
+        Ok(text) => Ok(text),
+        Err(_) => Err(Unmade),
+    }
 }
 
-fn symbol(alloc: Global, piece: Piece) -> Result<Symbol, Fail> {
+fn symbol(alloc: Global, piece: Piece) -> Result<Symbol, Unmade> {
     match piece {
         Piece::Lit(word) => Ok(Symbol::Lit(text(alloc, word)?)),
         Piece::Lex(kind) => Ok(Symbol::Lex(kind)),
@@ -32,7 +58,7 @@ fn symbol(alloc: Global, piece: Piece) -> Result<Symbol, Fail> {
     }
 }
 
-fn symbols(alloc: Global, pieces: &[Piece]) -> Result<Vec<Symbol>, Fail> {
+fn symbols(alloc: Global, pieces: &[Piece]) -> Result<Vec<Symbol>, Unmade> {
     let mut all = Vec::new(alloc);
     for piece in pieces {
         all.push(symbol(alloc, *piece)?)?;
@@ -56,7 +82,7 @@ pub(crate) fn add(
     sort: &str,
     level: u8,
     pieces: &[Piece],
-) -> Result<(), Fail> {
+) -> Result<(), Unmade> {
     let production = Production {
         label: text(alloc, label)?,
         sort: text(alloc, sort)?,
@@ -67,7 +93,7 @@ pub(crate) fn add(
     Ok(())
 }
 
-fn round_brackets(alloc: Global) -> Result<(Text, Text), Fail> {
+fn round_brackets(alloc: Global) -> Result<(Text, Text), Unmade> {
     Ok((text(alloc, "(")?, text(alloc, ")")?))
 }
 
@@ -77,7 +103,7 @@ pub(crate) fn add_sort(
     parts: &mut GrammarParts,
     name: &str,
     typed: bool,
-) -> Result<(), Fail> {
+) -> Result<(), Unmade> {
     let line = SortLine {
         name: text(alloc, name)?,
         typed,
@@ -93,7 +119,7 @@ pub(crate) fn add_bare_sort(
     parts: &mut GrammarParts,
     name: &str,
     typed: bool,
-) -> Result<(), Fail> {
+) -> Result<(), Unmade> {
     let line = SortLine {
         name: text(alloc, name)?,
         typed,
@@ -101,4 +127,71 @@ pub(crate) fn add_bare_sort(
     };
     parts.sorts.push(line)?;
     Ok(())
+}
+
+/// The term of a core text.
+pub(crate) fn term(alloc: Global, core: &str) -> Result<Term, Unmade>
+    ensures { IfOk result (λ t. depth_of (tree t) ≤ 1000) }
+{
+    match read_core(alloc, core.as_bytes(), 0) {
+        Ok((term, _)) => Ok(term),
+        Err(_) => Err(Unmade),
+    }
+}
+
+/// Puts the part behind the bytes so many times.
+fn put_many(bytes: &mut Vec<u8>, part: &[u8], count: usize) -> Result<(), AllocError> {
+    for _place in 0..count {
+        bytes.extend_from_slice(part)?;
+    }
+    Ok(())
+}
+
+fn put_nested(
+    bytes: &mut Vec<u8>,
+    front: &[u8],
+    count: usize,
+    middle: &[u8],
+    end: &[u8],
+) -> Result<(), AllocError> {
+    put_many(bytes, front, count)?;
+    bytes.extend_from_slice(middle)?;
+    put_many(bytes, end, count)
+}
+
+/// So many fronts, the middle and as many ends; less where memory is lacking.
+pub(crate) fn nested(
+    alloc: Global,
+    front: &[u8],
+    count: usize,
+    middle: &[u8],
+    end: &[u8],
+) -> Vec<u8> {
+    let mut bytes = Vec::new(alloc);
+    let _memory = put_nested(&mut bytes, front, count, middle, end).is_ok();
+    bytes
+}
+
+/// Whether these are the words, where there are any.
+pub(crate) fn are_words(found: Result<String, Unmade>, wanted: &str) -> bool {
+    match found {
+        Ok(words) => {
+            let are = words.as_str() == wanted;
+            drop(words);
+            are
+        }
+        Err(_) => false,
+    }
+}
+
+/// Whether these are the bytes, where there are any.
+pub(crate) fn are_bytes(found: Result<Vec<u8>, Unmade>, wanted: &[u8]) -> bool {
+    match found {
+        Ok(bytes) => {
+            let are = bytes.as_slice() == wanted;
+            drop(bytes);
+            are
+        }
+        Err(_) => false,
+    }
 }

@@ -5,11 +5,11 @@ ghost use Rattle.sx_grammar.specs.Parts.{line, parts as parts_of};
 ghost use Rattle.sx_grammar.specs.Extended.{widened};
 ghost use Rattle.sx_grammar.specs.Tables.{IsWithinLimits};
 
+use crate::asserts::assert_same;
 use crate::extended_grammars::{add_copies, one, told};
 use crate::samples::{Sample, grammar_of};
-use crate::symbols::{Piece, text};
+use crate::symbols::{Piece, Unmade, are_words, text};
 use std::alloc::Global;
-use std::test::Fail;
 use sx_grammar::{Grammar, GrammarParts, Production, SortLine};
 use sx_term::NoMemory;
 
@@ -33,7 +33,7 @@ fn is_widenable(
     base: &Grammar,
     sort: &SortLine,
     more: &[Production],
-) -> Result<bool, Fail>
+) -> Result<bool, Unmade>
     ensures { IfOk result (λ r. IsTrue r → IsWithinLimits
         (widened base.now.parts sort.now (map line more.now))) }
 {
@@ -51,24 +51,24 @@ fn tried(
     base: &Grammar,
     sort: SortLine,
     more: Vec<Production>,
-) -> Result<String, Fail> {
+) -> Result<String, Unmade> {
     match is_widenable(alloc, base, &sort, &more) {
         Ok(true) => told(alloc, Grammar::with_sort(alloc, base, sort, more)),
         Ok(false) => {
             drop(more);
             drop(sort);
-            Err(Fail::from("not within limits"))
+            Err(Unmade)
         }
-        Err(fail) => {
+        Err(unmade) => {
             drop(more);
             drop(sort);
-            Err(fail)
+            Err(unmade)
         }
     }
 }
 
 /// What comes of the grammar with the plain sort `Top` and the productions behind its own.
-fn with_top(alloc: Global, base: &Grammar, more: Vec<Production>) -> Result<String, Fail> {
+fn with_top(alloc: Global, base: &Grammar, more: Vec<Production>) -> Result<String, Unmade> {
     match text(alloc, "Top") {
         Ok(name) => {
             let sort = SortLine {
@@ -78,15 +78,15 @@ fn with_top(alloc: Global, base: &Grammar, more: Vec<Production>) -> Result<Stri
             };
             tried(alloc, base, sort, more)
         }
-        Err(fail) => {
+        Err(unmade) => {
             drop(more);
-            Err(fail)
+            Err(unmade)
         }
     }
 }
 
 /// What comes of the rows with the sort `Top` and one production of it.
-fn rows_with_top(alloc: Global) -> Result<String, Fail> {
+fn rows_with_top(alloc: Global) -> Result<String, Unmade> {
     let more = one(alloc, "top", "Top", Piece::Lit("top"))?;
     match grammar_of(alloc, Sample::Rows) {
         Ok(base) => {
@@ -94,19 +94,16 @@ fn rows_with_top(alloc: Global) -> Result<String, Fail> {
             drop(base);
             answer
         }
-        Err(fail) => {
+        Err(unmade) => {
             drop(more);
-            Err(fail)
+            Err(unmade)
         }
     }
 }
 
 /// All productions are base, those of the new sort too.
 #[test]
-fn rows_with_one_more_sort(rt: HostRuntime) -> Result<(), Fail> {
-    let words = rows_with_top(rt.alloc())?;
-    let is = words.as_str() == "3 true true true";
-    drop(words);
-    assert!(rt; is);
-    Ok(())
+fn rows_with_one_more_sort(rt: HostRuntime) {
+    let is = are_words(rows_with_top(rt.alloc()), "3 true true true");
+    assert_same(&rt, &is, &true);
 }

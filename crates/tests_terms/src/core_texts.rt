@@ -5,32 +5,24 @@ ghost use Rattle.sx_term.specs.Tree.{depth_of};
 ghost use Rattle.sx_term.specs.Term.{tree};
 ghost use Rattle.sx_term.specs.Core.{HasCore};
 
-use crate::samples::term;
-use std::alloc::{AllocError, Global};
-use std::test::Fail;
+use crate::asserts::assert_same;
+use crate::samples::{nested, term};
+use std::alloc::Global;
 use sx_term::{CoreError, NoMemory, Term, read_core, write_core};
 
-/// What reading a core text answers.
-#[derive(Clone, Copy, PartialEq, Eq)]
-enum Answer {
-    /// The place after the text, and the size and the depth of its term.
-    Read(usize, u64, u32),
-    BadCore(usize),
-    TooDeep(u64),
-    Memory,
-}
-
-/// The core text from place 0 on.
-fn read_whole(alloc: Global, core: &[u8]) -> Answer {
-    let read = read_core(alloc, core, 0);
-    let answer = match &read {
-        Ok((term, end)) => Answer::Read(*end, term.size(), term.depth()),
-        Err(CoreError::BadCore(place)) => Answer::BadCore(*place),
-        Err(CoreError::TooDeep(depth)) => Answer::TooDeep(*depth),
-        Err(CoreError::Memory) => Answer::Memory,
-    };
-    drop(read);
-    answer
+/// What reading the core text from place 0 on answers, in a word, with its numbers: of a term the
+/// place after its text, its size and its depth; of a refusal the place or the depth.
+fn read_whole(alloc: Global, core: &[u8]) -> (&'static str, [u64; 3]) {
+    match read_core(alloc, core, 0) {
+        Ok((term, end)) => {
+            let numbers = [end as u64, term.size(), u64::from(term.depth())];
+            drop(term);
+            ("read", numbers)
+        }
+        Err(CoreError::BadCore(place)) => ("bad core", [place as u64, 0, 0]),
+        Err(CoreError::TooDeep(depth)) => ("too deep", [depth, 0, 0]),
+        Err(CoreError::Memory) => ("memory", [0; 3]),
+    }
 }
 
 /// Whether the term is a node with this label and so many kids.
@@ -41,45 +33,70 @@ fn is_node(term: &Term, wanted: u32, count: usize) -> bool {
     }
 }
 
+/// Writes the term behind a byte.
+fn write_behind(alloc: Global, term: &Term, out: &mut Vec<u8>) -> Result<(), NoMemory>
+    requires depth { depth_of (tree term.now) ≤ 1000 }
+    requires has_core { HasCore (tree term.now) }
+{
+    out.push(b'>')?;
+    write_core(alloc, term, out)
+}
+
 /// Whether this is written behind a byte that stands there.
-fn is_written(alloc: Global, term: &Term, wanted: &[u8]) -> Result<bool, NoMemory>
+fn is_written(alloc: Global, term: &Term, wanted: &[u8]) -> bool
     requires depth { depth_of (tree term.now) ≤ 1000 }
     requires has_core { HasCore (tree term.now) }
 {
     let mut out = Vec::new(alloc);
-    out.push(b'>')?;
-    write_core(alloc, term, &mut out)?;
-    Ok(out.as_slice() == wanted)
+    let is = write_behind(alloc, term, &mut out).is_ok() && out.as_slice() == wanted;
+    drop(out);
+    is
+}
+
+/// Whether the term of the core text is a node `0` with two kids, and whether it is written so.
+fn is_pair_written(alloc: Global, core: &str, wanted: &[u8]) -> [bool; 2] {
+    match term(alloc, core) {
+        Some(term) => {
+            let hold = [is_node(&term, 0, 2), is_written(alloc, &term, wanted)];
+            drop(term);
+            hold
+        }
+        None => [false; 2],
+    }
 }
 
 #[test]
-fn core_text_is_read_and_written(rt: HostRuntime) -> Result<(), Fail> {
+fn core_text_is_read_and_written(rt: HostRuntime) {
     let alloc = rt.alloc();
     let core = "(0 i1:x ?3)";
-    assert!(rt; read_whole(alloc, core.as_bytes()) == Answer::Read(11, 3, 2));
-    let term = term(alloc, core).ok_or("no term")?;
-    let is_pair = is_node(&term, 0, 2);
-    let is_written = is_written(alloc, &term, b">(0 i1:x ?3)");
-    drop(term);
-    let hold = [is_pair, is_written?];
-    assert_eq!(rt; hold, [true; 2]);
-    Ok(())
+    assert_same(
+        &rt,
+        &read_whole(alloc, core.as_bytes()),
+        &("read", [11, 3, 2]),
+    );
+    assert_same(
+        &rt,
+        &is_pair_written(alloc, core, b">(0 i1:x ?3)"),
+        &[true; 2],
+    );
 }
 
 #[test]
 fn bad_core_texts(rt: HostRuntime) {
     let alloc = rt.alloc();
-    let hold = [
-        read_whole(alloc, b"(00)") == Answer::BadCore(2),
-        read_whole(alloc, b"(0 i2:x)") == Answer::BadCore(8),
+    let found = [
+        read_whole(alloc, b"(00)"),
+        read_whole(alloc, b"(0 i2:x)"),
+        read_whole(alloc, "(0 s1:\u{e9})".as_bytes()),
+        read_whole(alloc, b"?x"),
     ];
-    assert_eq!(rt; hold, [true; 2]);
-    let accent = read_whole(alloc, "(0 s1:\u{e9})".as_bytes());
-    let hold = [
-        accent == Answer::BadCore(6),
-        read_whole(alloc, b"?x") == Answer::BadCore(1),
+    let wanted = &[
+        ("bad core", [2, 0, 0]),
+        ("bad core", [8, 0, 0]),
+        ("bad core", [6, 0, 0]),
+        ("bad core", [1, 0, 0]),
     ];
-    assert_eq!(rt; hold, [true; 2]);
+    assert_same(&rt, &found, wanted);
 }
 
 /// The place after the variable whose core text stands at place 1, and its number.
@@ -87,13 +104,17 @@ fn variable_behind(alloc: Global, core: &[u8]) -> Option<(usize, u32)> {
     if core.is_empty() {
         return None;
     }
-    let read = read_core(alloc, core, 1);
-    let answer = match &read {
-        Ok((Term::Var(variable), end)) => Some((*end, *variable)),
-        _ => None,
-    };
-    drop(read);
-    answer
+    match read_core(alloc, core, 1) {
+        Ok((term, end)) => {
+            let number = match &term {
+                Term::Var(variable) => Some((end, *variable)),
+                _ => None,
+            };
+            drop(term);
+            number
+        }
+        Err(_) => None,
+    }
 }
 
 #[test]
@@ -101,34 +122,21 @@ fn longest_core_text(rt: HostRuntime) {
     assert!(rt; variable_behind(rt.alloc(), b"x?31 ") == Some((4, 31)));
 }
 
-/// So many nodes, each in the one before.
-fn opened(alloc: Global, count: u32) -> Result<Vec<u8>, AllocError> {
-    let mut bytes = Vec::new(alloc);
-    for _ in 0..count {
-        bytes.extend_from_slice(b"(0 ")?;
-    }
-    Ok(bytes)
-}
-
-/// The same with a variable in the innermost, and all of them closed.
-fn closed(alloc: Global, count: u32) -> Result<Vec<u8>, AllocError> {
-    let mut bytes = opened(alloc, count)?;
-    bytes.extend_from_slice(b"?0")?;
-    for _ in 0..count {
-        bytes.push(b')')?;
-    }
-    Ok(bytes)
+/// What reading so many nodes answers, each in the one before, round the middle and up to the ends.
+fn read_nested(alloc: Global, count: u32, middle: &[u8], end: &[u8]) -> (&'static str, [u64; 3]) {
+    let core = nested(alloc, b"(0 ", count, middle, end);
+    let told = read_whole(alloc, &core);
+    drop(core);
+    told
 }
 
 #[test]
-fn deep_core_texts(rt: HostRuntime) -> Result<(), Fail> {
+fn deep_core_texts(rt: HostRuntime) {
     let alloc = rt.alloc();
-    let open = read_whole(alloc, &opened(alloc, 87_381)?);
-    let closed = read_whole(alloc, &closed(alloc, 87_381)?);
-    let hold = [
-        open == Answer::BadCore(262_143),
-        closed == Answer::TooDeep(87_382),
+    let found = [
+        read_nested(alloc, 87_381, b"", b""),
+        read_nested(alloc, 87_381, b"?0", b")"),
     ];
-    assert_eq!(rt; hold, [true; 2]);
-    Ok(())
+    let wanted = &[("bad core", [262_143, 0, 0]), ("too deep", [87_382, 0, 0])];
+    assert_same(&rt, &found, wanted);
 }

@@ -1,5 +1,6 @@
 //! The parts of a line: numbers, names, fronts and words.
 
+use crate::asserts::assert_same;
 use sx_lines::{after, is_name, number_within, split_word};
 
 /// The number that the text spells.
@@ -9,18 +10,29 @@ fn number(text: &[u8]) -> Option<u64> {
 
 #[test]
 fn numbers(rt: HostRuntime) {
-    let hold = [
-        number(b"0") == Some(0),
-        number(b"").is_none(),
-        number(b"01").is_none(),
-        number(b"00").is_none(),
-        number(b"1000000") == Some(1_000_000),
-        number(b"18446744073709551615") == Some(u64::MAX),
-        number(b"18446744073709551616").is_none(),
-        number(b"+1").is_none(),
-        number_within(300, b"301").is_none(),
+    let found = [
+        number(b"0"),
+        number(b""),
+        number(b"01"),
+        number(b"00"),
+        number(b"1000000"),
+        number(b"18446744073709551615"),
+        number(b"18446744073709551616"),
+        number(b"+1"),
+        number_within(300, b"301"),
     ];
-    assert_eq!(rt; hold, [true; 9]);
+    let wanted = &[
+        Some(0),
+        None,
+        None,
+        None,
+        Some(1_000_000),
+        Some(u64::MAX),
+        None,
+        None,
+        None,
+    ];
+    assert_same(&rt, &found, wanted);
 }
 
 #[test]
@@ -34,7 +46,7 @@ fn names(rt: HostRuntime) {
         !is_name(true, b"1a"),
         is_name(false, b"a_1"),
     ];
-    assert_eq!(rt; hold, [true; 6]);
+    assert_same(&rt, &hold, &[true; 6]);
 }
 
 /// Whether this follows the front in the text.
@@ -58,5 +70,5 @@ fn fronts_and_words(rt: HostRuntime) {
         after(b"us", b"use ").is_none(),
         is_split(b"Let  12", b"Let", b" 12"),
     ];
-    assert_eq!(rt; hold, [true; 3]);
+    assert_same(&rt, &hold, &[true; 3]);
 }

@@ -1,5 +1,6 @@
 //! The lines of a text, and those that are kept.
 
+use crate::asserts::assert_same;
 use sx_lines::{Line, NoLine, Rest};
 
 /// The line behind so many others, or what stands there in its place.
@@ -43,7 +44,7 @@ fn lines_of_a_text(rt: HostRuntime) {
         is_line(line_behind(bytes, 3), 4, b"four\r"),
         number_of_none(line_behind(bytes, 4)) == Some(5),
     ];
-    assert_eq!(rt; hold, [true; 5]);
+    assert_same(&rt, &hold, &[true; 5]);
 }
 
 /// The kept line behind so many others, or what stands there in its place.
@@ -68,5 +69,5 @@ fn kept_lines(rt: HostRuntime) {
         is_line(kept_behind(bytes, 0), 3, b" /not"),
         number_of_none(kept_behind(bytes, 1)) == Some(5),
     ];
-    assert_eq!(rt; hold, [true; 2]);
+    assert_same(&rt, &hold, &[true; 2]);
 }

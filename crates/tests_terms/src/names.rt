@@ -2,6 +2,7 @@
 
 ghost use Rattle.std.specs.Prelude.{◌+◌, ◌<◌, ◌≤◌, length};
 
+use crate::asserts::assert_same;
 use crate::samples::text;
 use std::alloc::Global;
 use sx_term::{LiteralShape, Text, TextError, Vars, literal_shape};
@@ -14,32 +15,31 @@ fn added(alloc: Global, names: &mut Vars, name: &str) -> Option<u32>
     names.add(text(alloc, name).ok()?).ok()
 }
 
+/// Whether the name with the number is this one.
+fn is_name(names: &Vars, number: u32, wanted: &[u8]) -> bool {
+    match names.name(number) {
+        Some(name) => name.bytes() == wanted,
+        None => false,
+    }
+}
+
 #[test]
 fn names_are_numbered(rt: HostRuntime) {
     let alloc = rt.alloc();
     let mut names = Vars::new(alloc);
-    let first = added(alloc, &mut names, "x");
-    let second = added(alloc, &mut names, "y");
-    let again = added(alloc, &mut names, "x");
-    let is_named = match names.name(1) {
-        Some(name) => name.bytes() == b"y".as_slice(),
-        None => false,
-    };
-    let is_last = names.name(2).is_none();
+    let numbers = [
+        added(alloc, &mut names, "x"),
+        added(alloc, &mut names, "y"),
+        added(alloc, &mut names, "x"),
+    ];
+    let are_named = [is_name(&names, 1, b"y"), names.name(2).is_none()];
     let many = names.count();
     names.cut(1);
     let left = names.count();
     drop(names);
-    let hold = [
-        first == Some(0),
-        second == Some(1),
-        again == Some(0),
-        is_named,
-        is_last,
-        many == 2,
-        left == 1,
-    ];
-    assert_eq!(rt; hold, [true; 7]);
+    assert_same(&rt, &numbers, &[Some(0), Some(1), Some(0)]);
+    assert_same(&rt, &are_named, &[true; 2]);
+    assert_same(&rt, &[many, left], &[2, 1]);
 }
 
 /// How many bytes stand before the first that is not UTF-8.
@@ -51,27 +51,45 @@ fn not_utf8(alloc: Global, bytes: &[u8]) -> Option<usize> {
 }
 
 /// Whether a text has the bytes that it is made of.
-fn has_bytes(alloc: Global, bytes: &[u8]) -> Option<bool> {
-    let text = Text::make(alloc, bytes).ok()?;
-    Some(text.bytes() == bytes)
+fn has_bytes(alloc: Global, bytes: &[u8]) -> bool {
+    match Text::make(alloc, bytes) {
+        Ok(text) => {
+            let has = text.bytes() == bytes;
+            drop(text);
+            has
+        }
+        Err(_) => false,
+    }
 }
 
 /// The shape of the text as a literal.
 fn shape(alloc: Global, literal: &str) -> Option<LiteralShape> {
-    let text = text(alloc, literal).ok()?;
-    Some(literal_shape(&text))
+    match text(alloc, literal) {
+        Ok(text) => {
+            let shape = literal_shape(&text);
+            drop(text);
+            Some(shape)
+        }
+        Err(_) => None,
+    }
 }
 
 #[test]
 fn texts_and_literals(rt: HostRuntime) {
     let alloc = rt.alloc();
-    let hold = [
-        not_utf8(alloc, b"a\xff") == Some(1),
-        has_bytes(alloc, b"let") == Some(true),
-        shape(alloc, "let") == Some(LiteralShape::Word),
-        shape(alloc, "->") == Some(LiteralShape::Symbol),
-        shape(alloc, "a//") == Some(LiteralShape::Bad),
-        shape(alloc, "://") == Some(LiteralShape::Bad),
+    assert_same(&rt, &not_utf8(alloc, b"a\xff"), &Some(1));
+    assert_same(&rt, &has_bytes(alloc, b"let"), &true);
+    let found = [
+        shape(alloc, "let"),
+        shape(alloc, "->"),
+        shape(alloc, "a//"),
+        shape(alloc, "://"),
     ];
-    assert_eq!(rt; hold, [true; 6]);
+    let wanted = &[
+        Some(LiteralShape::Word),
+        Some(LiteralShape::Symbol),
+        Some(LiteralShape::Bad),
+        Some(LiteralShape::Bad),
+    ];
+    assert_same(&rt, &found, wanted);
 }

@@ -1,129 +1,121 @@
 //! The order of modules, and why there is none.
 
-use std::alloc::Global;
-use std::test::Fail;
+use crate::asserts::assert_same;
+use std::alloc::{AllocError, Global};
 use sx_imports::{Order, OrderError};
-use sx_term::Text;
+use sx_term::{NoMemory, Text};
 
-fn text(alloc: Global, name: &str) -> Option<Text> {
-    Text::make(alloc, name.as_bytes()).ok()
-}
-
-fn texts(alloc: Global, names: &[&str]) -> Option<Vec<Text>> {
-    let mut all = Vec::new(alloc);
+/// Adds the names as texts.
+fn put_texts(alloc: Global, texts: &mut Vec<Text>, names: &[&str]) -> Result<(), NoMemory> {
     for name in names {
-        all.push(text(alloc, name)?).ok()?;
+        texts.push(Text::of_str(alloc, name)?)?;
     }
-    Some(all)
+    Ok(())
 }
 
 /// Adds a module with what it imports, and answers whether it was added.
-fn add(alloc: Global, order: &mut Order, name: &str, imports: &[&str]) -> Option<bool> {
-    let name = text(alloc, name)?;
-    match texts(alloc, imports) {
-        Some(imports) => {
-            let added = order.add(name, imports);
-            let answer = added.is_ok();
-            drop(added);
-            Some(answer)
-        }
-        None => {
+fn add(alloc: Global, order: &mut Order, name: &str, imports: &[&str]) -> bool {
+    let mut texts = Vec::new(alloc);
+    match (
+        Text::of_str(alloc, name),
+        put_texts(alloc, &mut texts, imports),
+    ) {
+        (Ok(name), Ok(())) => order.add(name, texts).is_ok(),
+        (name, _) => {
             drop(name);
-            None
+            drop(texts);
+            false
         }
     }
 }
 
-/// The word, and each name after a blank.
-fn listed(alloc: Global, word: &str, names: &[Text]) -> Option<String> {
-    let mut all = String::from_str(alloc, word).ok()?;
+/// Adds the word, and each name after a blank.
+fn list(words: &mut String, word: &str, names: &[Text]) -> Result<(), AllocError> {
+    words.push_str(word)?;
     for name in names {
-        all.push(' ').ok()?;
-        all.push_str(name.as_str()).ok()?;
+        words.push(' ')?;
+        words.push_str(name.as_str())?;
     }
-    Some(all)
+    Ok(())
 }
 
-/// The modules that are reached from the root in order, or why they have no order, in words.
-fn told(alloc: Global, order: &Order, root: &str) -> Option<String> {
-    let root = text(alloc, root)?;
-    let found = order.order(alloc, &root);
-    drop(root);
-    let answer = match &found {
-        Ok(names) => listed(alloc, "order", names),
-        Err(OrderError::Missing(name)) => listed(alloc, "missing", std::slice::from_ref(name)),
-        Err(OrderError::Cycle(names)) => listed(alloc, "cycle", names),
-        Err(_) => None,
+/// Tells the modules that are reached from the root in order, or why they have no order.
+fn tell(alloc: Global, order: &Order, root: &Text, words: &mut String) -> Result<(), AllocError> {
+    let found = order.order(alloc, root);
+    let told = match &found {
+        Ok(names) => list(words, "order", names),
+        Err(OrderError::Missing(name)) => list(words, "missing", std::slice::from_ref(name)),
+        Err(OrderError::Cycle(names)) => list(words, "cycle", names),
+        Err(_) => list(words, "other", &[]),
     };
     drop(found);
-    answer
+    told
 }
 
-/// Adds modules of which `Main` imports `A` and `B`, and `A` imports `B`. Each is new.
-fn add_modules(alloc: Global, order: &mut Order) -> Option<bool> {
-    let main = add(alloc, order, "Main", &["A", "B"])?;
-    let first = add(alloc, order, "A", &["B"])?;
-    let second = add(alloc, order, "B", &[])?;
-    let other = add(alloc, order, "Other", &["Main"])?;
-    Some(main && first && second && other)
+/// Whether these words tell that of the root.
+fn is_told(alloc: Global, order: &Order, root: &str, wanted: &str) -> bool {
+    match Text::of_str(alloc, root) {
+        Ok(root) => {
+            let mut words = String::new(alloc);
+            let is = tell(alloc, order, &root, &mut words).is_ok() && words.as_str() == wanted;
+            drop(words);
+            drop(root);
+            is
+        }
+        Err(_) => false,
+    }
 }
 
-/// What is told of these modules from the root, once another one is there.
-fn told_of_modules(alloc: Global, root: &str, again: &str) -> Option<(bool, String)> {
+/// Whether modules are added of which `Main` imports `A` and `B`, and `A` imports `B`; whether
+/// another one is added then; and whether these words tell what is reached from the root.
+fn modules_are_told(alloc: Global, root: &str, again: &str, wanted: &str) -> [bool; 6] {
     let mut order = Order::new(alloc);
-    let added = add_modules(alloc, &mut order);
-    let repeated = add(alloc, &mut order, again, &["C"]);
-    let words = told(alloc, &order, root);
+    let hold = [
+        add(alloc, &mut order, "Main", &["A", "B"]),
+        add(alloc, &mut order, "A", &["B"]),
+        add(alloc, &mut order, "B", &[]),
+        add(alloc, &mut order, "Other", &["Main"]),
+        add(alloc, &mut order, again, &["C"]),
+        is_told(alloc, &order, root, wanted),
+    ];
     drop(order);
-    Some((added? && repeated?, words?))
+    hold
 }
 
 #[test]
-fn imports_come_first(rt: HostRuntime) -> Result<(), Fail> {
-    let (added, words) = told_of_modules(rt.alloc(), "Main", "Last").ok_or("an answer")?;
-    let hold = [added, words.as_str() == "order B A Main"];
-    assert_eq!(rt; hold, [true; 2]);
-    Ok(())
+fn imports_come_first(rt: HostRuntime) {
+    let hold = modules_are_told(rt.alloc(), "Main", "Last", "order B A Main");
+    assert_same(&rt, &hold, &[true; 6]);
 }
 
 #[test]
-fn a_module_that_is_added_again(rt: HostRuntime) -> Result<(), Fail> {
-    let (added, words) = told_of_modules(rt.alloc(), "A", "B").ok_or("an answer")?;
-    let hold = [!added, words.as_str() == "order B A"];
-    assert_eq!(rt; hold, [true; 2]);
-    Ok(())
+fn a_module_that_is_added_again(rt: HostRuntime) {
+    let hold = modules_are_told(rt.alloc(), "A", "B", "order B A");
+    assert_same(&rt, &hold, &[true, true, true, true, false, true]);
 }
 
 #[test]
-fn a_module_that_is_missing(rt: HostRuntime) -> Result<(), Fail> {
-    let (added, words) = told_of_modules(rt.alloc(), "Last", "Last").ok_or("an answer")?;
-    let hold = [added, words.as_str() == "missing C"];
-    assert_eq!(rt; hold, [true; 2]);
-    Ok(())
+fn a_module_that_is_missing(rt: HostRuntime) {
+    let hold = modules_are_told(rt.alloc(), "Last", "Last", "missing C");
+    assert_same(&rt, &hold, &[true; 6]);
 }
 
-/// Adds modules of which `B` and `D` import one another, and another one that is missing.
-fn add_cycle(alloc: Global, order: &mut Order) -> Option<bool> {
-    let first = add(alloc, order, "A", &["B"])?;
-    let second = add(alloc, order, "B", &["C", "D"])?;
-    let third = add(alloc, order, "C", &[])?;
-    let last = add(alloc, order, "D", &["B", "Z"])?;
-    Some(first && second && third && last)
-}
-
-/// What is told of these modules.
-fn told_of_cycle(alloc: Global) -> Option<(bool, String)> {
+/// Whether modules are added of which `B` and `D` import one another, and another one that is
+/// missing; and whether these words tell what is reached from `A`.
+fn cycle_is_told(alloc: Global, wanted: &str) -> [bool; 5] {
     let mut order = Order::new(alloc);
-    let added = add_cycle(alloc, &mut order);
-    let words = told(alloc, &order, "A");
+    let hold = [
+        add(alloc, &mut order, "A", &["B"]),
+        add(alloc, &mut order, "B", &["C", "D"]),
+        add(alloc, &mut order, "C", &[]),
+        add(alloc, &mut order, "D", &["B", "Z"]),
+        is_told(alloc, &order, "A", wanted),
+    ];
     drop(order);
-    Some((added?, words?))
+    hold
 }
 
 #[test]
-fn a_cycle_from_where_it_begins(rt: HostRuntime) -> Result<(), Fail> {
-    let (added, words) = told_of_cycle(rt.alloc()).ok_or("an answer")?;
-    let hold = [added, words.as_str() == "cycle B D B"];
-    assert_eq!(rt; hold, [true; 2]);
-    Ok(())
+fn a_cycle_from_where_it_begins(rt: HostRuntime) {
+    assert_same(&rt, &cycle_is_told(rt.alloc(), "cycle B D B"), &[true; 5]);
 }

@@ -1,26 +1,33 @@
 //! Plain tables and plain images, by values that are worked out by hand.
 
 ghost use Rattle.std.specs.Prelude.{◌≡◌, ◌≤◌};
+ghost use Rattle.sx_term.specs.Tree.{depth_of};
+ghost use Rattle.sx_term.specs.Term.{tree};
 
+use crate::asserts::assert_same;
 use crate::conditions::{are_below, fits};
-use crate::samples::{term, term_of};
-use std::alloc::{AllocError, Global};
-use std::test::Fail;
+use crate::samples::{nested, term, term_of};
+use std::alloc::Global;
 use sx_plain::{PlainError, PlainTable, lower};
 use sx_term::{Term, TermError};
 
+/// What a call answers, in a word, and the number that goes with it.
+pub(crate) type Told = (&'static str, u64);
+
+/// The conditions of the call are not met.
+pub(crate) const UNFIT: Told = ("unfit", 0);
+
 /// What adding an entry answers.
-#[derive(Clone, Copy, PartialEq, Eq)]
-pub(crate) enum Added {
-    Done,
-    Memory,
-    Twice(u32),
-    UsesLater(u32),
-    Drops(u32),
-    TooDeep(u32),
-    TooBig(u64),
-    /// The conditions are not met.
-    Unfit,
+fn added(answer: Result<(), PlainError>) -> Told {
+    match answer {
+        Ok(()) => ("added", 0),
+        Err(PlainError::Memory) => ("memory", 0),
+        Err(PlainError::Twice(label)) => ("twice", u64::from(label)),
+        Err(PlainError::UsesLater(label)) => ("uses later", u64::from(label)),
+        Err(PlainError::Drops(part)) => ("drops", u64::from(part)),
+        Err(PlainError::TooDeep(depth)) => ("too deep", u64::from(depth)),
+        Err(PlainError::TooBig(nodes)) => ("too big", nodes),
+    }
 }
 
 /// Adds the body that this core text spells.
@@ -30,25 +37,18 @@ pub(crate) fn add(
     label: u32,
     arity: u32,
     core: &[u8],
-) -> Added
+) -> Told
     requires { table.old.base ≤ label }
     ensures { table.new.base ≡ table.old.base }
 {
     let Some(body) = term_of(alloc, core) else {
-        return Added::Unfit;
+        return UNFIT;
     };
     if !are_below(&body, arity) || !fits(table, &body) {
-        return Added::Unfit;
+        drop(body);
+        return UNFIT;
     }
-    match table.add(label, arity, body) {
-        Ok(()) => Added::Done,
-        Err(PlainError::Memory) => Added::Memory,
-        Err(PlainError::Twice(label)) => Added::Twice(label),
-        Err(PlainError::UsesLater(label)) => Added::UsesLater(label),
-        Err(PlainError::Drops(part)) => Added::Drops(part),
-        Err(PlainError::TooDeep(depth)) => Added::TooDeep(depth),
-        Err(PlainError::TooBig(nodes)) => Added::TooBig(nodes),
-    }
+    added(table.add(label, arity, body))
 }
 
 /// The table with `2` as `(0 ?0 ?0)`, `3` as `(1 ?1 (2 ?0))` and `4` as `(1 (1 ?0))`, over the base
@@ -64,7 +64,7 @@ pub(crate) fn three_entries(alloc: Global) -> PlainTable
 }
 
 /// What adding one more entry answers, and whether the label has one then.
-fn tried(alloc: Global, label: u32, arity: u32, core: &[u8]) -> (Added, bool)
+fn tried(alloc: Global, label: u32, arity: u32, core: &[u8]) -> (Told, bool)
     requires { 2 ≤ label }
 {
     let mut table = three_entries(alloc);
@@ -74,105 +74,134 @@ fn tried(alloc: Global, label: u32, arity: u32, core: &[u8]) -> (Added, bool)
     (added, is_there)
 }
 
-/// So many fronts of a node, a core text in the innermost, and all of them closed.
-pub(crate) fn nested(
-    alloc: Global,
-    front: &[u8],
-    count: u32,
-    core: &[u8],
-) -> Result<Vec<u8>, AllocError> {
-    let mut bytes = Vec::new(alloc);
-    for _ in 0..count {
-        bytes.extend_from_slice(front)?;
-    }
-    bytes.extend_from_slice(core)?;
-    for _ in 0..count {
-        bytes.push(b')')?;
-    }
-    Ok(bytes)
+/// The same for `5` with one part, whose body is so many fronts of nodes round this core text.
+fn tried_nested(alloc: Global, front: &[u8], count: u32, middle: &[u8]) -> (Told, bool) {
+    let core = nested(alloc, front, count, middle, b")");
+    let told = tried(alloc, 5, 1, &core);
+    drop(core);
+    told
 }
 
 /// Whether the flat body of the label is this term.
-fn is_flat(alloc: Global, table: &PlainTable, label: u32, core: &str) -> Option<bool> {
-    let wanted = term(alloc, core)?;
-    Some(table.flat(label)?.same(&wanted))
+fn is_flat(alloc: Global, table: &PlainTable, label: u32, core: &str) -> bool {
+    match term(alloc, core) {
+        Some(wanted) => {
+            let is = match table.flat(label) {
+                Some(flat) => flat.same(&wanted),
+                None => false,
+            };
+            drop(wanted);
+            is
+        }
+        None => false,
+    }
 }
 
 #[test]
 fn entries_are_flat(rt: HostRuntime) {
     let alloc = rt.alloc();
     let table = three_entries(alloc);
-    let twice = is_flat(alloc, &table, 2, "(0 ?0 ?0)");
-    let swap = is_flat(alloc, &table, 3, "(1 ?1 (0 ?0 ?0))");
-    let is_base_there = table.flat(1).is_some();
-    let is_later_there = table.flat(5).is_some();
-    drop(table);
-    let hold = [
-        twice == Some(true),
-        swap == Some(true),
-        !is_base_there,
-        !is_later_there,
+    let found = [
+        is_flat(alloc, &table, 2, "(0 ?0 ?0)"),
+        is_flat(alloc, &table, 3, "(1 ?1 (0 ?0 ?0))"),
+        table.flat(1).is_some(),
+        table.flat(5).is_some(),
     ];
-    assert_eq!(rt; hold, [true; 4]);
+    drop(table);
+    assert_same(&rt, &found, &[true, true, false, false]);
 }
 
 #[test]
 fn entries_are_refused(rt: HostRuntime) {
     let alloc = rt.alloc();
-    let hold = [
-        tried(alloc, 5, 1, b"(3 ?0 ?0)") == (Added::Done, true),
-        tried(alloc, 2, 2, b"(7 ?0)") == (Added::Twice(2), true),
-        tried(alloc, 5, 1, b"(0 (1 ?0) (1 (8 (7))))") == (Added::UsesLater(8), false),
-        tried(alloc, 5, 2, b"(5 ?0)") == (Added::UsesLater(5), false),
-        tried(alloc, 5, 3, b"(0 ?0 ?2)") == (Added::Drops(1), false),
-        tried(alloc, 5, 1, b"(0 ?0 ?1)") == (Added::Unfit, false),
-        tried(alloc, 5, 1, b"(3 ?0)") == (Added::Unfit, false),
+    let found = [
+        tried(alloc, 5, 1, b"(3 ?0 ?0)"),
+        tried(alloc, 2, 2, b"(7 ?0)"),
+        tried(alloc, 5, 1, b"(0 (1 ?0) (1 (8 (7))))"),
+        tried(alloc, 5, 2, b"(5 ?0)"),
+        tried(alloc, 5, 3, b"(0 ?0 ?2)"),
+        tried(alloc, 5, 1, b"(0 ?0 ?1)"),
+        tried(alloc, 5, 1, b"(3 ?0)"),
     ];
-    assert_eq!(rt; hold, [true; 7]);
+    let wanted = &[
+        (("added", 0), true),
+        (("twice", 2), true),
+        (("uses later", 8), false),
+        (("uses later", 5), false),
+        (("drops", 1), false),
+        (UNFIT, false),
+        (UNFIT, false),
+    ];
+    assert_same(&rt, &found, wanted);
 }
 
 #[test]
-fn flat_bodies_have_limits(rt: HostRuntime) -> Result<(), Fail> {
+fn flat_bodies_have_limits(rt: HostRuntime) {
     let alloc = rt.alloc();
-    let deep = tried(alloc, 5, 1, &nested(alloc, b"(4 ", 500, b"?0")?);
-    let shallow = tried(alloc, 5, 1, &nested(alloc, b"(4 ", 499, b"(1 ?0)")?);
-    let big = tried(alloc, 5, 1, &nested(alloc, b"(2 ", 40, b"?0")?);
-    let small = tried(alloc, 5, 1, &nested(alloc, b"(2 ", 18, b"?0")?);
-    let hold = [
-        deep == (Added::TooDeep(1001), false),
-        shallow == (Added::Done, true),
-        big == (Added::TooBig(2_199_023_255_551), false),
-        small == (Added::Done, true),
+    let found = [
+        tried_nested(alloc, b"(4 ", 500, b"?0"),
+        tried_nested(alloc, b"(4 ", 499, b"(1 ?0)"),
+        tried_nested(alloc, b"(2 ", 40, b"?0"),
+        tried_nested(alloc, b"(2 ", 18, b"?0"),
     ];
-    assert_eq!(rt; hold, [true; 4]);
-    Ok(())
+    let wanted = &[
+        (("too deep", 1001), false),
+        (("added", 0), true),
+        (("too big", 2_199_023_255_551), false),
+        (("added", 0), true),
+    ];
+    assert_same(&rt, &found, wanted);
 }
 
-/// What lowering answers.
-#[derive(Clone, Copy, PartialEq, Eq)]
-pub(crate) enum Lowered {
-    /// Whether the plain image is the wanted term.
-    Is(bool),
-    Memory,
-    TooDeep(u32),
-    TooBig(u64),
-    /// The conditions are not met.
-    Unfit,
+/// The image is the wanted term.
+pub(crate) const SAME: Told = ("same", 0);
+
+/// What a refusal to lower answers.
+pub(crate) fn unlowered(error: &TermError) -> Told {
+    match error {
+        TermError::Memory => ("memory", 0),
+        TermError::TooDeep(depth) => ("too deep", u64::from(*depth)),
+        TermError::TooBig(nodes) => ("too big", *nodes),
+    }
+}
+
+/// The plain image of the term, compared with the wanted one.
+fn lower_term(alloc: Global, table: &PlainTable, term: &Term, wanted: &Term) -> Told
+    requires depth { depth_of (tree term.now) ≤ 1000 }
+    requires wanted_depth { depth_of (tree wanted.now) ≤ 1000 }
+{
+    if !fits(table, term) {
+        return UNFIT;
+    }
+    let lowered = lower(alloc, table, term);
+    let told = match &lowered {
+        Ok(image) => {
+            if image.same(wanted) {
+                SAME
+            } else {
+                ("another", 0)
+            }
+        }
+        Err(error) => unlowered(error),
+    };
+    drop(lowered);
+    told
 }
 
 /// The plain image of the term that this core text spells, compared with the wanted one.
-pub(crate) fn lower_as(alloc: Global, table: &PlainTable, core: &[u8], wanted: &str) -> Lowered {
-    let (Some(term), Some(wanted)) = (term_of(alloc, core), term(alloc, wanted)) else {
-        return Lowered::Unfit;
-    };
-    if !fits(table, &term) {
-        return Lowered::Unfit;
-    }
-    match lower(alloc, table, &term) {
-        Ok(image) => Lowered::Is(image.same(&wanted)),
-        Err(TermError::Memory) => Lowered::Memory,
-        Err(TermError::TooDeep(depth)) => Lowered::TooDeep(depth),
-        Err(TermError::TooBig(nodes)) => Lowered::TooBig(nodes),
+pub(crate) fn lower_as(alloc: Global, table: &PlainTable, core: &[u8], wanted: &str) -> Told {
+    match (term_of(alloc, core), term(alloc, wanted)) {
+        (Some(term), Some(wanted)) => {
+            let told = lower_term(alloc, table, &term, &wanted);
+            drop(wanted);
+            drop(term);
+            told
+        }
+        (term, wanted) => {
+            drop(wanted);
+            drop(term);
+            UNFIT
+        }
     }
 }
 
@@ -195,32 +224,38 @@ fn terms_are_lowered(rt: HostRuntime) {
             b"(0 ?5 (1 (3 ?6 i1:y)))",
             "(0 ?5 (1 (1 i1:y (0 ?6 ?6))))",
         ),
-        Err(_) => Lowered::Memory,
+        Err(_) => UNFIT,
     };
     drop(copied);
-    let hold = [both == Lowered::Is(true), inner == Lowered::Is(true)];
-    assert_eq!(rt; hold, [true; 2]);
+    assert_same(&rt, &[both, inner], &[SAME; 2]);
+}
+
+/// What lowering so many fronts of nodes round this core text answers, by the three entries.
+fn lower_nested(alloc: Global, front: &[u8], count: u32, middle: &[u8]) -> Told {
+    let core = nested(alloc, front, count, middle, b")");
+    let table = three_entries(alloc);
+    let told = lower_as(alloc, &table, &core, "?7");
+    drop(table);
+    drop(core);
+    told
 }
 
 #[test]
-fn images_have_limits(rt: HostRuntime) -> Result<(), Fail> {
+fn images_have_limits(rt: HostRuntime) {
     let alloc = rt.alloc();
-    let deep = nested(alloc, b"(4 ", 500, b"?7")?;
-    let big = nested(alloc, b"(2 ", 40, b"i1:x")?;
-    let table = three_entries(alloc);
-    let too_deep = lower_as(alloc, &table, &deep, "?7");
-    let too_big = lower_as(alloc, &table, &big, "?7");
-    drop(table);
-    let hold = [
-        too_deep == Lowered::TooDeep(1001),
-        too_big == Lowered::TooBig(2_199_023_255_551),
+    let found = [
+        lower_nested(alloc, b"(4 ", 500, b"?7"),
+        lower_nested(alloc, b"(2 ", 40, b"i1:x"),
     ];
-    assert_eq!(rt; hold, [true; 2]);
-    Ok(())
+    assert_same(
+        &rt,
+        &found,
+        &[("too deep", 1001), ("too big", 2_199_023_255_551)],
+    );
 }
 
 /// What lowering the term answers, by the three entries and by `5`, which is its part as it is.
-fn lower_bare(alloc: Global, core: &[u8], wanted: &str) -> Lowered {
+fn lower_bare(alloc: Global, core: &[u8], wanted: &str) -> Told {
     let mut table = three_entries(alloc);
     add(alloc, &mut table, 5, 1, b"?0");
     let answer = lower_as(alloc, &table, core, wanted);
@@ -231,8 +266,9 @@ fn lower_bare(alloc: Global, core: &[u8], wanted: &str) -> Lowered {
 #[test]
 fn bare_nodes_give_way(rt: HostRuntime) {
     let alloc = rt.alloc();
-    let inner = lower_bare(alloc, b"(5 (5 (2 (5 (5 i1:x)))))", "(0 i1:x i1:x)");
-    let alone = lower_bare(alloc, b"(5 (5 ?3))", "?3");
-    let hold = [inner == Lowered::Is(true), alone == Lowered::Is(true)];
-    assert_eq!(rt; hold, [true; 2]);
+    let found = [
+        lower_bare(alloc, b"(5 (5 (2 (5 (5 i1:x)))))", "(0 i1:x i1:x)"),
+        lower_bare(alloc, b"(5 (5 ?3))", "?3"),
+    ];
+    assert_same(&rt, &found, &[SAME; 2]);
 }

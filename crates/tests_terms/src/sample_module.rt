@@ -2,6 +2,7 @@
 
 ghost use Rattle.std.specs.Prelude.{◌≡◌, ◌≤◌, [], ◌∷◌, IfOk};
 
+use crate::asserts::assert_same;
 use crate::samples::text;
 use std::alloc::Global;
 use sx_sample::{LAM_LANG, LET_EXT, Summary, sample, sample_shelf, summary_line};
@@ -37,7 +38,11 @@ fn is_text(alloc: Global, number: u32, wanted: &[u8]) -> bool
     requires most { number ≤ 300 }
 {
     match sample(alloc, number) {
-        Ok(text) => text.as_slice() == wanted,
+        Ok(text) => {
+            let is = text.as_slice() == wanted;
+            drop(text);
+            is
+        }
         Err(_) => false,
     }
 }
@@ -72,58 +77,73 @@ fn many_tokens(alloc: Global, bytes: &[u8]) -> usize {
 }
 
 /// How many tokens the body with so many names has.
-fn body_tokens(alloc: Global, number: u32) -> Option<usize>
+fn body_tokens(alloc: Global, number: u32) -> usize
     requires some { 1 ≤ number }
     requires most { number ≤ 300 }
 {
-    let text = sample(alloc, number).ok()?;
-    let many = match text.as_slice().strip_prefix(HEAD) {
-        Some(body) => many_tokens(alloc, body),
-        None => 0,
-    };
-    drop(text);
-    Some(many)
+    match sample(alloc, number) {
+        Ok(text) => {
+            let many = match text.as_slice().strip_prefix(HEAD) {
+                Some(body) => many_tokens(alloc, body),
+                None => 0,
+            };
+            drop(text);
+            many
+        }
+        Err(_) => 0,
+    }
 }
 
 #[test]
 fn texts(rt: HostRuntime) {
     let alloc = rt.alloc();
-    let hold = [
-        is_text(alloc, 1, ONE),
-        is_text(alloc, 3, THREE),
-        body_tokens(alloc, 1) == Some(6),
-        body_tokens(alloc, 300) == Some(1501),
-    ];
-    assert_eq!(rt; hold, [true; 4]);
+    assert_same(
+        &rt,
+        &[is_text(alloc, 1, ONE), is_text(alloc, 3, THREE)],
+        &[true; 2],
+    );
+    assert_same(
+        &rt,
+        &[body_tokens(alloc, 1), body_tokens(alloc, 300)],
+        &[6, 1501],
+    );
 }
 
 /// Whether the shelf with three names has these bytes under the name.
-fn is_held(alloc: Global, name: &str, wanted: Option<&[u8]>) -> Option<bool> {
-    let name = Text::of_str(alloc, name).ok()?;
-    let is = match sample_shelf(alloc, 3) {
+fn is_held_as(alloc: Global, name: &Text, wanted: Option<&[u8]>) -> bool {
+    match sample_shelf(alloc, 3) {
         Ok(shelf) => {
-            let is = shelf.get(&name) == wanted;
+            let is = shelf.get(name) == wanted;
             drop(shelf);
             is
         }
         Err(_) => false,
-    };
-    drop(name);
-    Some(is)
+    }
+}
+
+/// The same of a name that is not yet a text.
+fn is_held(alloc: Global, name: &str, wanted: Option<&[u8]>) -> bool {
+    match Text::of_str(alloc, name) {
+        Ok(name) => {
+            let is = is_held_as(alloc, &name, wanted);
+            drop(name);
+            is
+        }
+        Err(_) => false,
+    }
 }
 
 #[test]
 fn files(rt: HostRuntime) {
     let alloc = rt.alloc();
     let hold = [
-        is_held(alloc, "Lam.lang", Some(LAM_LANG)) == Some(true),
-        is_held(alloc, "Let.ext", Some(LET_EXT)) == Some(true),
-        is_held(alloc, "Sample.mod", Some(THREE)) == Some(true),
-        is_held(alloc, "Sample.base", None) == Some(true),
-        LAM_LANG.len() == 1492,
-        LET_EXT.len() == 193,
+        is_held(alloc, "Lam.lang", Some(LAM_LANG)),
+        is_held(alloc, "Let.ext", Some(LET_EXT)),
+        is_held(alloc, "Sample.mod", Some(THREE)),
+        is_held(alloc, "Sample.base", None),
     ];
-    assert_eq!(rt; hold, [true; 6]);
+    assert_same(&rt, &hold, &[true; 4]);
+    assert_same(&rt, &[LAM_LANG.len(), LET_EXT.len()], &[1492, 193]);
 }
 
 /// Whether this is the line of a sample with 300 names.
@@ -135,7 +155,11 @@ fn is_line(alloc: Global, wanted: &[u8]) -> bool {
         nodes: 1201,
     };
     match summary_line(alloc, &summary) {
-        Ok(line) => line.as_slice() == wanted,
+        Ok(line) => {
+            let is = line.as_slice() == wanted;
+            drop(line);
+            is
+        }
         Err(_) => false,
     }
 }

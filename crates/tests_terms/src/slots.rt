@@ -1,5 +1,6 @@
 //! Numbers that are found by their hashes.
 
+use crate::asserts::assert_same;
 use std::alloc::Global;
 use sx_slots::{Slots, folded, mix};
 
@@ -39,21 +40,29 @@ fn found(alloc: Global, count: u32, left: usize, hash: u32) -> [Option<usize>; 2
 #[test]
 fn numbers_are_found(rt: HostRuntime) {
     let alloc = rt.alloc();
-    let hold = [
-        found(alloc, 120, 120, 7) == [Some(107), Some(57)],
-        found(alloc, 120, 120, 49) == [Some(99), Some(49)],
-        found(alloc, 120, 120, 50) == [None, None],
-        found(alloc, 120, 107, 7) == [Some(57), Some(7)],
-        found(alloc, 120, 8, 7) == [Some(7), None],
-        found(alloc, 120, 0, 7) == [None, None],
-        found(alloc, 0, 5, 0) == [None, None],
+    let found = [
+        found(alloc, 120, 120, 7),
+        found(alloc, 120, 120, 49),
+        found(alloc, 120, 120, 50),
+        found(alloc, 120, 107, 7),
+        found(alloc, 120, 8, 7),
+        found(alloc, 120, 0, 7),
+        found(alloc, 0, 5, 0),
     ];
-    assert_eq!(rt; hold, [true; 7]);
+    let wanted = &[
+        [Some(107), Some(57)],
+        [Some(99), Some(49)],
+        [None, None],
+        [Some(57), Some(7)],
+        [Some(7), None],
+        [None, None],
+        [None, None],
+    ];
+    assert_same(&rt, &found, wanted);
 }
 
 #[test]
 fn hashes_of_numbers(rt: HostRuntime) {
-    assert_eq!(rt; mix(1, 5), 11_400_714_819_323_198_490);
-    assert_eq!(rt; folded(mix(1, 5)), 4_133_064_130);
-    assert_eq!(rt; folded(0), 0);
+    assert_same(&rt, &mix(1, 5), &11_400_714_819_323_198_490);
+    assert_same(&rt, &[folded(mix(1, 5)), folded(0)], &[4_133_064_130, 0]);
 }

@@ -1,5 +1,6 @@
 //! Texts that state no extension of the language `Lam`, one for each reason.
 
+use crate::asserts::assert_same;
 use crate::extensions::read;
 use std::alloc::Global;
 use std::test::*;
@@ -86,7 +87,7 @@ fn bad_lines(rt: HostRuntime) {
         is_bad(alloc, pair, 4, Kind::Unfinished),
         is_bad(alloc, cut_let(), 4, Kind::Unfinished),
     ];
-    assert_eq!(rt; hold, [true; 10]);
+    assert_same(&rt, &hold, &[true; 10]);
 }
 
 #[test]
@@ -105,7 +106,7 @@ fn bad_texts_of_lines(rt: HostRuntime) {
         told(alloc, token) == Told::BadToken(6, 3),
         told(alloc, sort) == Told::NoReading(6, 3),
     ];
-    assert_eq!(rt; hold, [true; 6]);
+    assert_same(&rt, &hold, &[true; 6]);
 }
 
 /// Whether the premise with this number of the rule breaks this part of the discipline.
@@ -146,7 +147,7 @@ fn a_premise_and_a_part(rt: HostRuntime) {
         Err(error) => drops(error, "pair", "T2"),
     };
     drop(pair);
-    assert_eq!(rt; [breaks, drops], [true; 2]);
+    assert_same(&rt, &[breaks, drops], &[true; 2]);
 }
 
 /// Why a plain table or a body is refused.
@@ -235,5 +236,5 @@ fn plain_tables_and_bodies(rt: HostRuntime) {
         refused(alloc, some, "R") == Why::BodySort,
         refused(alloc, OWN, "R") == Why::BodyExtended,
     ];
-    assert_eq!(rt; hold, [true; 6]);
+    assert_same(&rt, &hold, &[true; 6]);
 }

@@ -17,6 +17,7 @@ ghost use Rattle.sx_expand.specs.Expansions.{HasOneSubject, IsListedAnswer};
 ghost use Rattle.sx_uses.specs.ExtensionFile.{extension_of, IsHeaderStated};
 ghost use Rattle.sx_accepting.specs.ReadLanguage.{HasText};
 
+use crate::asserts::assert_same;
 use crate::goals::{inputs_fit, one_goal, subject_count, term};
 use crate::opened::tell_open;
 use crate::samples::{SUMS, THRICE, TWICE};
@@ -385,5 +386,5 @@ fn a_list_is_expanded(rt: HostRuntime) {
         told_of(alloc, "(3 n1:7)", "(3 n1:7)", 1) == Some(Told::Alike(0, 0)),
         told_of(alloc, "(5 (2))", "(2)", 9) == Some(Told::Unasked),
     ];
-    assert_eq!(rt; hold, [true; 6]);
+    assert_same(&rt, &hold, &[true; 6]);
 }

@@ -11,6 +11,7 @@ ghost use Rattle.sx_plain.specs.Views.{table_of};
 ghost use Rattle.sx_rewrite.specs.ExtensionView.{ext_rule};
 ghost use Rattle.sx_extension.specs.Fitting.{ExtensionIsUsable};
 
+use crate::asserts::assert_same;
 use std::alloc::Global;
 use std::test::*;
 use sx_extension::{Before, ExtensionError, ReadExtension, languages_begin, read_extension};
@@ -200,5 +201,5 @@ fn what_extensions_state(rt: HostRuntime) {
         states(alloc, TWICE.text, "Twice", "", &twice_rules),
         states(alloc, PAIR.text, "Pair", "(5 (5 ?0 (5 ?1 (3))) (3))", &[]),
     ];
-    assert_eq!(rt; hold, [true; 6]);
+    assert_same(&rt, &hold, &[true; 6]);
 }

@@ -19,6 +19,7 @@ ghost use Rattle.sx_expand.specs.Boxes.{HasList};
 ghost use Rattle.sx_expand.specs.Expansions.{HasOneSubject, IsListedFrom};
 ghost use Rattle.tests_uses.specs.Held.{FitPlaces, IsHypothesisHeld};
 
+use crate::asserts::assert_same;
 use crate::expanded::{Asked, MOST, Told, both, same_terms, tell_asked};
 use crate::goals::{one_goal, term};
 use std::alloc::Global;
@@ -264,5 +265,5 @@ fn a_list_is_expanded_from_a_hypothesis(rt: HostRuntime) {
         told_from(alloc, subject, part, lowered, 10) == Some(Told::Spent(10)),
         told_from(alloc, subject, "(5 (3 n1:7))", lowered, 11) == Some(Told::Unasked),
     ];
-    assert_eq!(rt; hold, [true; 3]);
+    assert_same(&rt, &hold, &[true; 3]);
 }

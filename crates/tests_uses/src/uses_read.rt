@@ -1,5 +1,6 @@
 //! Extensions that are read along their `use` lines.
 
+use crate::asserts::assert_same;
 use std::alloc::Global;
 use sx_outside::MemShelf;
 use sx_steps::{StepError, Stop};
@@ -133,5 +134,5 @@ fn extensions_along_use_lines(rt: HostRuntime) {
         tells(alloc, b"foo\n", y, z, b"soundx: X.ext: line 1: head\n"),
         tells(alloc, x, &[255], z, b"soundx: Y.ext: not UTF-8 at byte 0\n"),
     ];
-    assert_eq!(rt; hold, [true; 11]);
+    assert_same(&rt, &hold, &[true; 11]);
 }
