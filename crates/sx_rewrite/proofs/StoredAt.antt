@@ -87,3 +87,19 @@ module _ (base rules : List Rule) (flats : List Flat) (table : Table) (first r :
 pub shown : (o : Option (Bor TermOf)) (s : Option TermOf) (x : Option Tree) → option_copied o ≡ s → x ≡ option_map tree s → MatchOption o (x ≡ None) (λ t. x ≡ Some (tree t.now))
 shown None s x e f = f ∙ ap (option_map tree) (sym e)
 shown (Some t) s x e f = f ∙ ap (option_map tree) (sym e)
+
+-- where nothing is stored there are no extension rules, and else there are
+pub none-stored : (rs : List Rule) (flats : List Flat) → flats ≡ [] → checked_of rs flats ≡ []
+none-stored rs flats none = ap (checked_of rs) none ∙ stored rs
+  where
+    stored : (rs : List Rule) → checked_of rs [] ≡ []
+    stored [] = refl
+    stored (r ∷ rs) = refl
+
+pub some-stored : (base rules : List Rule) (flats : List Flat) (first : ℕ) → first ≡ length base → length rules ≡ first + length flats → checked_of (drop (length base) rules) flats ≡ [] → flats ≡ []
+some-stored base rules flats first counted many none = go (drop (length base) rules) flats (length-drop (length base) rules (length flats) (omega (arith, counted, many))) none
+  where
+    go : (rs : List Rule) (fs : List Flat) → length rs ≡ length fs → checked_of rs fs ≡ [] → fs ≡ []
+    go rs [] e none = refl
+    go [] (f ∷ fs) e none = absurd (omega (arith, e))
+    go (r ∷ rs) (f ∷ fs) e none = cc

@@ -17,3 +17,7 @@ pub mod OneUnit
 pub mod LoweredTerms
 pub mod MadeUnits
 pub mod ExpandedTypings
+pub mod BaseAlone
+pub mod SmallAnswers
+pub mod GoalTerms
+pub mod TypedAlone

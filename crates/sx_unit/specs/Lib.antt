@@ -13,3 +13,5 @@ pub mod Unit
 pub mod Lowered
 pub mod Refused
 pub mod Alike
+pub mod BaseAlone
+pub mod SmallTerms

@@ -13,6 +13,7 @@ ghost use Rattle.sx_unit.specs.Refused.{IsCompiled, IsCounted, IsFinal};
 ghost use Rattle.sx_unit.specs.Unit.{IsUnit};
 ghost use Rattle.sx_unit.specs.Written.{unit_of};
 
+use crate::base_writing::{is_lowered, write_typed};
 use crate::compiled::Compiled;
 use crate::errors::{rewrite_error, typing_error};
 use crate::lowered_writing::write_lowered;
@@ -26,7 +27,7 @@ use sx_term::Steps;
 use sx_typing::{Body, Typed, read_source, type_source};
 
 /// Lowers the derivation of a typed body, and writes the module's texts.
-fn compile_typed(
+fn compile_lowered(
     alloc: Global,
     given: &ModuleSource,
     body: &Body,
@@ -49,6 +50,33 @@ fn compile_typed(
     }
 }
 
+/// Writes the module's texts of a typed body: at once where its derivation is lowered to itself, or
+/// else of what it is lowered to.
+fn compile_typed(
+    alloc: Global,
+    given: &ModuleSource,
+    body: &Body,
+    typed: Typed,
+    nodes: u64,
+) -> Result<Compiled, ModuleError>
+    requires can { CanType given.now.source }
+    requires body { IsBody (module_data given.now).source body.now.tokens.items
+        (plain_reading body.now.reading) (tree body.now.term) }
+    requires good { IsTermFor (module_data given.now).source.dialect Sub (tree body.now.term) }
+    requires typed { (tries : ℕ) ×
+        IsTypedBy (module_data given.now).source tries (tree body.now.term) typed }
+    ensures { (b : budget.Budgets) → b.nodes ≡ nodes →
+        IsTypedBy (module_data given.now).source b.tries (tree body.now.term) typed →
+        IsCompiled (module_data given.now) b result }
+{
+    if is_lowered(&given.source.dialect, &typed) {
+        return write_typed(alloc, given, body, typed, nodes);
+    }
+    let compiled = compile_lowered(alloc, given, body, &typed, nodes);
+    drop(typed);
+    compiled
+}
+
 /// Types the body, and compiles what is typed.
 fn compile_body<L: Ledger>(
     alloc: Global,
@@ -66,7 +94,7 @@ fn compile_body<L: Ledger>(
     ensures most { steps.new ≤ steps.old + budgets.tries }
 {
     match type_source(alloc, &given.source, body, budgets.tries, steps) {
-        Ok(typed) => compile_typed(alloc, given, body, &typed, budgets.nodes),
+        Ok(typed) => compile_typed(alloc, given, body, typed, budgets.nodes),
         Err(error) => Err(typing_error(error)),
     }
 }

@@ -12,6 +12,7 @@
 //!   a type error comes only where there is none.
 #![tactic(auto)]
 
+mod base_writing;
 mod captured;
 mod compiled;
 mod compiling;
