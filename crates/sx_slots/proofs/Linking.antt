@@ -1,7 +1,7 @@
 -- Numbers in slots: one is put in, one is taken out, and one is sought.
-use Rattle.std.proofs.Common.{◌≡◌, ℕ, suc, ◌+◌, ◌-◌, ◌^◌, ◌<◌, ◌≤◌, ◌⊎◌, inl, inr, min, List, [], ◌∷◌, ◌++◌, take, drop, length, get_or, Option, Some, None, refl, sym, ap, ◌∙◌, subst, arith}
+use Rattle.std.proofs.Common.{◌≡◌, ℕ, suc, ◌+◌, ◌-◌, ◌^◌, ◌<◌, ◌≤◌, ◌⊎◌, inl, inr, min, List, [], ◌∷◌, ◌++◌, take, drop, replicate, length, get_or, Option, Some, None, refl, sym, ap, ◌∙◌, subst, arith}
 use Rattle.std.proofs.lemmas.Bool.{cases_eq, cases_lt}
-use Rattle.std.proofs.lemmas.List.{append-nil, drop_all, take_all, get_or_default, get_or_append_left, get_or-take, length-take, length_push}
+use Rattle.std.proofs.lemmas.List.{append-nil, drop_all, take_all, get_or_default, get_or_append_left, get_or_past, get_or-take, get_or-replicate, length-replicate, length-take, length_push}
 use Rattle.sx_slots.specs.Slots.{slot_of, slot_at, IsLast, AreLinked, IsSlotTable, IsLastWith}
 
 module _ (n : ℕ) (hs links lasts : List ℕ) where
@@ -151,6 +151,19 @@ pub written_back : (n : ℕ) (new old : List ℕ) → length new ≡ length old 
 written_back n new old e f =
     ap (λ xs. take n (new ++ xs)) (drop_all (length new) old (omega arith)) ∙ ap (take n) (append-nil new) ∙ take_all n new (omega arith)
 
+-- the same numbers in wider slots
+pub table_grown : (hs gs links others new lasts wider : List ℕ) (n : ℕ) → IsSlotTable hs links lasts → gs ≡ hs → others ≡ links → length new ≡ length others → n ≡ length links →
+    length lasts ≤ length wider → length wider < 2 ^ 32 → AreLinked (length wider) gs new wider (length gs) → IsSlotTable hs (take n (new ++ drop (length new) links)) wider
+table_grown hs gs links others new lasts wider n t g o m e r f h =
+    let l : length new ≡ length links = m ∙ ap length o in
+    let w = written_back n new links l e in
+    record {
+      many = ap length w ∙ l ∙ t.many;
+      room = (let a = t.room in omega arith);
+      few = f;
+      linked = linked_is _ (length wider) hs gs _ new _ wider _ (length gs) refl (sym g) w refl (ap length (sym g)) h;
+    }
+
 -- the first numbers, whose hashes and links are kept
 pub table_cut : (hs links lasts new : List ℕ) (many : ℕ) → IsSlotTable hs links lasts → AreLinked (length lasts) hs links new (min many (length hs)) → length new ≡ length lasts →
     IsSlotTable (take many hs) (take many links) new
@@ -168,6 +181,20 @@ table_cut hs links lasts new many t h e =
       few = omega arith;
       linked = subst (λ (x : ℕ). AreLinked x (take many hs) (take many links) new (length (take many hs))) (sym e) (subst (λ (x : ℕ). AreLinked (length lasts) (take many hs) (take many links) new x) (sym l) g);
     }
+
+-- a table with the hashes that are told, in which there is a slot more
+pub record IsRoomy (told hashes links lasts : List ℕ) : Type 0 where
+  pub same : hashes ≡ told
+  pub table : IsSlotTable hashes links lasts
+  pub room : length hashes < length lasts
+
+pub roomy_grown : (hs gs links others new lasts wider : List ℕ) (n : ℕ) → IsSlotTable hs links lasts → gs ≡ hs → others ≡ links → length new ≡ length others → n ≡ length links →
+    length lasts ≤ length wider → length wider < 2 ^ 32 → AreLinked (length wider) gs new wider (length gs) → length gs < length wider → IsRoomy hs hs (take n (new ++ drop (length new) links)) wider
+roomy_grown hs gs links others new lasts wider n t g o m e r f h more = record {
+  same = refl;
+  table = table_grown hs gs links others new lasts wider n t g o m e r f h;
+  room = (let l = ap length g in omega arith);
+}
 
 -- one more number is put in
 pub table_push : (hs links lasts : List ℕ) (hash : ℕ) → length links ≡ length hs + 1 → length hs + 1 ≤ length lasts → length lasts < 2 ^ 32 →
@@ -233,3 +260,10 @@ pub answered : (n : ℕ) (hs gs links others lasts : List ℕ) (k hash got from 
 answered n hs gs links others lasts k hash got from start answer a b d e h few o f =
     let g : IsAnswer hs links hash from answer = coe 0 1 (i. IsAnswer (a i) (b i) (d i) (e i) answer) f in
     g n k lasts few h o
+
+-- a list of zeros has 0 at each place
+pub zero_at : (n : ℕ) (xs : List ℕ) → xs ≡ replicate n 0 → (s : ℕ) → get_or xs s 0 ≡ 0
+zero_at n xs e s = elim (cases_lt s n) [
+  | inl l ↦ ap (λ ys. get_or ys s 0) e ∙ get_or-replicate n s 0 0 l
+  | inr l ↦ get_or_past xs s 0 (let k = ap length e ∙ length-replicate n 0 in omega arith)
+]
