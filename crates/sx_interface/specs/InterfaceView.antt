@@ -3,9 +3,11 @@ use Rattle.std.specs.Prelude.{ℕ, List, map}
 use Rattle.std.specs.Borrow.{Bor}
 use Rattle.sx_interface.specs.declared.interfaces.Interface as code
 use Rattle.sx_interface.specs.declared.interfaces.ImportMark as mark
-use Rattle.sx_interface.specs.declared.interface_reading.Rows.{Rows}
+use Rattle.sx_interface.specs.declared.interface_rows.Front as front
+use Rattle.sx_interface.specs.declared.interface_rows.Rows.{Rows}
 use Rattle.sx_interface.specs.declared.marks.Digest.{Digest}
-use Rattle.sx_interface.specs.Interfaces.{Mark, InterfaceParts}
+use Rattle.sx_lines.specs.Left.{left}
+use Rattle.sx_interface.specs.Interfaces.{Mark, InterfaceParts, Front}
 
 -- a mark without where it lies in memory
 abbrev pub mark_view : mark.ImportMark → Mark
@@ -18,6 +20,16 @@ marks_view marks = map mark_view marks
 -- a name and a digest as a mark
 abbrev pub import_view : Bor (List ℕ) × Digest → Mark
 import_view p = record { name = p.0.now; digest = p.1.bytes }
+
+-- what stands before the imports, with the marks of the uses
+abbrev pub front_view : front.Front → List Mark → Front
+front_view it uses = record {
+  version = it.version;
+  language = record { name = it.language.now; digest = it.language_digest.bytes };
+  uses = uses;
+  base = it.base_digest.bytes;
+  rest = left it.rest;
+}
 
 -- what the rows of an interface say, under the module's name
 abbrev pub rows_view : List ℕ → Rows → (uses imports : List Mark) → InterfaceParts

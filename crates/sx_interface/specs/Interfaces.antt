@@ -89,6 +89,38 @@ abbrev pub stated_signature : Version → List ℕ × Lines → Result (List ℕ
 stated_signature One signature = Ok signature
 stated_signature Two signature = next_line Some signature.1
 
+-- what stands before the imports, and the lines from there on
+pub record Front : Type 0 where
+  pub version : Version
+  pub language : Mark
+  pub uses : List Mark
+  pub base : List ℕ
+  pub rest : Lines
+
+unfoldable pub front_of : List ℕ → Lines → Result Front ℕ
+front_of name lines = do
+  version ← next_line version_of lines
+  rest ← the_line (codes "module " ++ name) version.1
+  language ← next_line (mark_after (codes "language ")) rest
+  uses ← distinct_rows (λ m. m.name) (use_after version.0) [] language.1
+  base ← next_line (digest_after (codes "base ")) uses.1
+  Ok (record {
+    version = version.0;
+    language = language.0;
+    uses = uses.0;
+    base = base.0;
+    rest = base.1;
+  })
+
+-- the signature and the stated one, which stand after the imports
+unfoldable pub signatures_of : Version → Lines → Result (List ℕ × List ℕ) ℕ
+signatures_of version lines = do
+  signed ← the_line (codes "---") lines
+  signature ← next_line Some signed
+  stated ← stated_signature version signature
+  end ← no_line stated.1
+  Ok (signature.0, stated.0)
+
 -- The interface that the lines of its file state, or the number of the first line that is not as
 -- defined.
 unfoldable pub interface_of : List ℕ → Lines → Result InterfaceParts ℕ

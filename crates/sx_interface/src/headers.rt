@@ -47,7 +47,6 @@ struct Parts<'a> {
 
 /// The language and the body that the lines of a module's file state, with the names in the `use`
 /// and `import` lines.
-#[tactic(auto, unfolding(crate::specs::Headers::header_of))]
 fn read_rows<'a>(
     alloc: Global,
     name: &Text,

@@ -6,6 +6,7 @@ mod hashing;
 mod headers;
 mod import;
 mod interface_reading;
+mod interface_rows;
 mod interface_writing;
 mod interfaces;
 mod laws;
