@@ -47,6 +47,20 @@ module _ (cs : List Cell) (wanted : Shape → Bool) (hash : ℕ) (alike : (s : S
       let f : get_or cs x _ ≡ c = get_or_default cs x _ c (let m = many in let a = g.0 in omega arith) ∙ sym e in
       sought_next slots (Wants cs wanted) hash alike_at x answer g (λ w. d (ap (λ (k : Cell). wanted k.shape) (sym f) ∙ w)) h
 
+  -- a cell that is sought is there
+  pub cell_there : (x : ℕ) → IsSought slots (Wants cs wanted) hash (Some x) → x < length cs
+  cell_there x g = (let m = many in let a = g.0 in omega arith)
+
+  -- the cell is what is wanted
+  pub cell_found : (x : ℕ) (c : Cell) → IsSought slots (Wants cs wanted) hash (Some x) → c ≡ get_or cs x c → wanted c.shape ≡ true → IsFind wanted cs (Some x)
+  cell_found x c g e w =
+      let f : get_or cs x _ ≡ c = get_or_default cs x _ c (cell_there x g) ∙ sym e in
+      (cell_there x g, ap (λ (k : Cell). wanted k.shape) f ∙ w)
+
+  -- no cell is what is wanted
+  pub cell_none : IsSought slots (Wants cs wanted) hash None → IsFind wanted cs None
+  cell_none g = λ i l w. g i (let m = many in omega arith) w
+
 -- equal shapes have one hash
 pub hash_alike : (x y : Shape) → shape_eq.it x y ≡ true → hash_of x ≡ hash_of y
 hash_alike (Node label kids) (Node other others) same =

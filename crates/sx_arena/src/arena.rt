@@ -109,7 +109,10 @@ impl Arena {
     {
         let hash = hash(&cell.shape);
         match self.found(&cell, hash) {
-            Some(index) => Ok(index),
+            Some(index) => {
+                drop(cell);
+                Ok(index)
+            }
             None => Ok(self.add(cell, hash)?),
         }
     }

@@ -96,10 +96,23 @@ impl Cells {
         requires hash { hash ≡ hash_of cell.shape }
         ensures { OnOk result (self.new ≡ self.old ++ cell ∷ []) }
     {
-        self.cells.reserve(1)?;
-        self.slots.push(folded(hash))?;
-        self.cells.push_reserved(cell);
-        Ok(())
+        match self.cells.reserve(1) {
+            Ok(()) => {}
+            Err(e) => {
+                drop(cell);
+                return Err(e);
+            }
+        }
+        match self.slots.push(folded(hash)) {
+            Ok(()) => {
+                self.cells.push_reserved(cell);
+                Ok(())
+            }
+            Err(e) => {
+                drop(cell);
+                Err(e)
+            }
+        }
     }
 
     /// Drops the cells past the first so many.
