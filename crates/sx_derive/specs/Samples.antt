@@ -3,7 +3,7 @@ use Rattle.std.specs.Prelude.{◌≡◌, true, false, List, [], ◌∷◌, Some,
 use Rattle.sx_term.specs.declared.lex_kind.LexKind.TheVariants.{Id}
 use Rattle.sx_term.specs.Tree.{Tree, node, lexeme, hole, none, ◌▹◌}
 use Rattle.sx_term.specs.declared.sort.Sort.TheVariants.{Plain, Lex}
-use Rattle.sx_rules.specs.Rules.{Judgement, holds, apart, Rule, Hypotheses, no_hypotheses}
+use Rattle.sx_rules.specs.Rules.{Judgement, holds, apart, Rule, no_hypotheses}
 use Rattle.sx_rules.specs.Modes.{Modes, Goal, AllModed}
 use Rattle.sx_rules.specs.Derivations.{by, no_more, ◌⊳◌}
 use Rattle.sx_derive.specs.Walk.{events}

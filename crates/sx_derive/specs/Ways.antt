@@ -1,26 +1,11 @@
 -- Ways to variables, and the subjects of judgements.
-use Rattle.std.specs.Prelude.{
-  ◌≡◌,
-  ℕ,
-  Bool,
-  true,
-  false,
-  List,
-  [],
-  ◌∷◌,
-  ◌++◌,
-  Option,
-  Some,
-  None,
-  map,
-}
+use Rattle.std.specs.Prelude.{◌≡◌, ℕ, Bool, true, false, List, [], ◌∷◌, ◌++◌, Option, Some, None}
 use Rattle.sx_term.specs.declared.term.Term.{Term}
 use Rattle.sx_term.specs.Tree.{Tree}
 use Rattle.sx_term.specs.Term.{tree}
-use Rattle.sx_rules.specs.declared.rule.Place.{Place}
 use Rattle.sx_rules.specs.declared.rule_set.RuleSet.{RuleSet}
 use Rattle.sx_rules.specs.Modes.{Modes}
-use Rattle.sx_rules.specs.Views.{is_sub, forms, subjects_in}
+use Rattle.sx_rules.specs.Views.{forms, subjects_in}
 
 -- for each form of the set, which of its places are subjects
 abbrev pub subject_modes : RuleSet → Modes

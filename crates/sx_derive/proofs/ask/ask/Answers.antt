@@ -2,7 +2,6 @@ use Rattle.std.proofs.Common.{List, map, length, refl, sym, ◌∙◌, arith, su
 use Rattle.sx_arena.specs.Places.{selected}
 use Rattle.sx_term.specs.Term.{tree}
 use Rattle.sx_rules.specs.Rules.{Judgement}
-use Rattle.sx_rules.specs.Modes.{outputs}
 use Rattle.sx_arena.specs.Matching.{match_all}
 use Rattle.sx_arena.specs.Arena.{tree_at, AreBelow}
 use Rattle.sx_derive.specs.Asking.{asked_goal, asked_events}

@@ -3,7 +3,6 @@ use Rattle.sx_arena.specs.Places.{selected}
 use Rattle.std.proofs.lemmas.Option.{slice_get_within}
 use Rattle.std.proofs.lemmas.List.{length-map}
 use Rattle.sx_term.specs.Term.{tree}
-use Rattle.sx_rules.specs.Modes.{outputs}
 use Rattle.sx_rules.specs.Rules.{holds}
 use Rattle.sx_rules.specs.declared.rule.Premise.TheVariants.{Apart}
 use Rattle.sx_rules.specs.Deep.{AreShallow}

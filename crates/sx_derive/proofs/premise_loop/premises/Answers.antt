@@ -3,8 +3,14 @@ use Rattle.sx_arena.specs.Views.{rule_of, rules_of, set_modes}
 use Rattle.sx_arena.proofs.Growing.{extends-length}
 use Rattle.sx_arena.proofs.Patterns.{ok_weaker}
 use Rattle.sx_arena.proofs.Parted.{pairs_more_terms}
-use Rattle.sx_derive.proofs.Premised.{IsShallowPremise, stays, shallow_premise_at, drop_premise, drop_premises_end, passed_as, premise_get, apart_fails, apart_holds, asked_is, concluded_is}
+use Rattle.sx_derive.proofs.Premised.{IsShallowPremise, Stays, stays, shallow_premise_at, drop_premise, drop_premises_end, passed_as, premise_get, apart_fails, apart_holds, asked_is, concluded_is}
 use Rattle.sx_derive.proofs.premise_loop.premises.Goals as goal
+use Rattle.sx_derive.proofs.premise_loop.premises.Goals.{At-loop-k}
+
+-- what was there stays
+stayed : (c : At-loop-k) → Stays (set_modes c.args.given.now.rules.now) (rules_of c.args.given.now.rules.now) c.args.store.now c.loop-k.store c.args.from.env c.args.from.kids c.args.from.before
+stayed c =
+    stays (set_modes c.args.given.now.rules.now) (rules_of c.args.given.now.rules.now) c.args.store.now c.loop-k.store c.args.from.env c.args.from.kids c.args.from.before c.loop-k.invariant.grows c.requires.env c.requires.kids c.requires.frames
 
 pub instances_apart-requires-clause-first : goal.instances_apart-requires-clause-first
 instances_apart-requires-clause-first c =
@@ -20,7 +26,7 @@ instances_apart-requires-clause-second c =
 
 pub instances_apart-requires-clause-env : goal.instances_apart-requires-clause-env
 instances_apart-requires-clause-env c =
-    let v = stays (set_modes c.args.given.now.rules.now) (rules_of c.args.given.now.rules.now) c.args.store.now c.loop-k.store c.args.from.env c.args.from.kids c.args.from.before c.loop-k.invariant.grows c.requires.env c.requires.kids c.requires.frames in
+    let v = stayed (goal.at.instances_apart-requires-clause-env c).At-loop-k in
     v.env_within
 
 pub instances_apart-requires-clause-pairs : goal.instances_apart-requires-clause-pairs
@@ -50,17 +56,17 @@ asked-requires-clause-waits c =
 
 pub asked-requires-clause-env : goal.asked-requires-clause-env
 asked-requires-clause-env c =
-    let v = stays (set_modes c.args.given.now.rules.now) (rules_of c.args.given.now.rules.now) c.args.store.now c.loop-k.store c.args.from.env c.args.from.kids c.args.from.before c.loop-k.invariant.grows c.requires.env c.requires.kids c.requires.frames in
+    let v = stayed (goal.at.asked-requires-clause-env c).At-loop-k in
     v.env_within
 
 pub asked-requires-clause-kids : goal.asked-requires-clause-kids
 asked-requires-clause-kids c =
-    let v = stays (set_modes c.args.given.now.rules.now) (rules_of c.args.given.now.rules.now) c.args.store.now c.loop-k.store c.args.from.env c.args.from.kids c.args.from.before c.loop-k.invariant.grows c.requires.env c.requires.kids c.requires.frames in
+    let v = stayed (goal.at.asked-requires-clause-kids c).At-loop-k in
     v.kids_within
 
 pub asked-requires-clause-before : goal.asked-requires-clause-before
 asked-requires-clause-before c =
-    let v = stays (set_modes c.args.given.now.rules.now) (rules_of c.args.given.now.rules.now) c.args.store.now c.loop-k.store c.args.from.env c.args.from.kids c.args.from.before c.loop-k.invariant.grows c.requires.env c.requires.kids c.requires.frames in
+    let v = stayed (goal.at.asked-requires-clause-before c).At-loop-k in
     v.frames_within
 
 pub returns-in-Holds : goal.returns-in-Holds
@@ -70,12 +76,12 @@ returns-in-Holds c =
 
 pub concluded-requires-clause-env : goal.concluded-requires-clause-env
 concluded-requires-clause-env c =
-    let v = stays (set_modes c.args.given.now.rules.now) (rules_of c.args.given.now.rules.now) c.args.store.now c.loop-k.store c.args.from.env c.args.from.kids c.args.from.before c.loop-k.invariant.grows c.requires.env c.requires.kids c.requires.frames in
+    let v = stayed (goal.at.concluded-requires-clause-env c).At-loop-k in
     v.env_within
 
 pub concluded-requires-clause-kids : goal.concluded-requires-clause-kids
 concluded-requires-clause-kids c =
-    let v = stays (set_modes c.args.given.now.rules.now) (rules_of c.args.given.now.rules.now) c.args.store.now c.loop-k.store c.args.from.env c.args.from.kids c.args.from.before c.loop-k.invariant.grows c.requires.env c.requires.kids c.requires.frames in
+    let v = stayed (goal.at.concluded-requires-clause-kids c).At-loop-k in
     v.kids_within
 
 pub returns : goal.returns

@@ -2,13 +2,20 @@ use Rattle.std.proofs.Common.{◌+◌, length}
 use Rattle.sx_arena.specs.Views.{rules_of, set_modes}
 use Rattle.sx_arena.proofs.Growing.{extends-length}
 use Rattle.sx_arena.proofs.Parted.{pairs_more_terms}
-use Rattle.sx_derive.proofs.Resuming.{reaching_first, last_less, facts_then, reaching_settled, reaching_end, reaching_spent, rest_fits, task_fits, reaching_failed, reaching_more, reaching_ends}
+use Rattle.sx_derive.proofs.Resuming.{Reaching, reaching_first, last_less, facts_then, reaching_settled, reaching_end, reaching_spent, rest_fits, task_fits, reaching_failed, reaching_more, reaching_ends}
 use Rattle.sx_derive.proofs.reach.reach.Goals as goal
+use Rattle.sx_derive.proofs.reach.reach.Goals.{After-settle}
+
+-- the walk after the top was settled
+settled : (g : _) (c : After-settle g) → Reaching (set_modes c.args.given.now.rules.now) (rules_of c.args.given.now.rules.now) c.args.given.now.pairs.now c.args.given.now.facts.now c.args.store.now c.args.budget c.args.tasks.now.items c.args.steps.now c.loop-budget.store c.loop-budget.tries c.loop-budget.steps c.settle.new.tasks.items
+settled g c =
+    let b = c.requires.facts in
+    reaching_settled (set_modes c.args.given.now.rules.now) (rules_of c.args.given.now.rules.now) c.args.given.now.pairs.now c.args.given.now.facts.now c.args.store.now c.args.budget c.args.tasks.now.items c.args.steps.now c.loop-budget.store c.loop-budget.tries c.loop-budget.steps c.loop-budget.tasks.items c.loop-budget.invariant b.0 b.1 c.settle.new.tasks.items (λ js s e. c.settle.ensures.settled c.args.given.now.pairs.now js s e)
 
 pub returns-then-tries-budget : goal.returns-then-tries-budget
 returns-then-tries-budget g c = λ js a.
     let b = c.requires.facts in
-    let w = reaching_settled (set_modes c.args.given.now.rules.now) (rules_of c.args.given.now.rules.now) c.args.given.now.pairs.now c.args.given.now.facts.now c.args.store.now c.args.budget c.args.tasks.now.items c.args.steps.now c.loop-budget.store c.loop-budget.tries c.loop-budget.steps c.loop-budget.tasks.items c.loop-budget.invariant b.0 b.1 c.settle.new.tasks.items (λ js s e. c.loop-budget-test.ensures.settled c.args.given.now.pairs.now js s e) in
+    let w = settled g (goal.at.returns-then-tries-budget g c).After-settle in
     let k = c.loop-budget-test.ensures.last in
     reaching_spent (set_modes c.args.given.now.rules.now) (rules_of c.args.given.now.rules.now) c.args.given.now.pairs.now c.args.given.now.facts.now c.args.store.now c.args.budget c.args.tasks.now.items c.args.steps.now c.loop-budget.store c.loop-budget.tries c.loop-budget.steps c.settle.new.tasks.items w k.0 k.1 k.2 k.3 c.if-tries-budget.true js a
 
@@ -23,7 +30,7 @@ turn-requires-clause-pairs g c = pairs_more_terms _ _ (extends-length _ _ c.loop
 pub turn-requires-clause-task : goal.turn-requires-clause-task
 turn-requires-clause-task g c =
     let b = c.requires.facts in
-    let w = reaching_settled (set_modes c.args.given.now.rules.now) (rules_of c.args.given.now.rules.now) c.args.given.now.pairs.now c.args.given.now.facts.now c.args.store.now c.args.budget c.args.tasks.now.items c.args.steps.now c.loop-budget.store c.loop-budget.tries c.loop-budget.steps c.loop-budget.tasks.items c.loop-budget.invariant b.0 b.1 c.settle.new.tasks.items (λ js s e. c.loop-budget-test.ensures.settled c.args.given.now.pairs.now js s e) in
+    let w = settled g (goal.at.turn-requires-clause-task g c).After-settle in
     let e = c.in-Some.ensures.items in
     let l = last_less c.settle.new.tasks.items c.pop.new.self.items c.in-Some.task (length c.args.given.now.facts.now + length (rules_of c.args.given.now.rules.now)) e c.loop-budget-test.ensures.last in
     task_fits (set_modes c.args.given.now.rules.now) (rules_of c.args.given.now.rules.now) c.args.given.now.pairs.now c.args.given.now.facts.now c.args.store.now c.args.budget c.args.tasks.now.items c.args.steps.now c.loop-budget.store c.loop-budget.tries c.loop-budget.steps c.settle.new.tasks.items w c.pop.new.self.items c.in-Some.task e l
@@ -31,7 +38,7 @@ turn-requires-clause-task g c =
 pub turn-requires-clause-tasks : goal.turn-requires-clause-tasks
 turn-requires-clause-tasks g c =
     let b = c.requires.facts in
-    let w = reaching_settled (set_modes c.args.given.now.rules.now) (rules_of c.args.given.now.rules.now) c.args.given.now.pairs.now c.args.given.now.facts.now c.args.store.now c.args.budget c.args.tasks.now.items c.args.steps.now c.loop-budget.store c.loop-budget.tries c.loop-budget.steps c.loop-budget.tasks.items c.loop-budget.invariant b.0 b.1 c.settle.new.tasks.items (λ js s e. c.loop-budget-test.ensures.settled c.args.given.now.pairs.now js s e) in
+    let w = settled g (goal.at.turn-requires-clause-tasks g c).After-settle in
     let e = c.in-Some.ensures.items in
     let l = last_less c.settle.new.tasks.items c.pop.new.self.items c.in-Some.task (length c.args.given.now.facts.now + length (rules_of c.args.given.now.rules.now)) e c.loop-budget-test.ensures.last in
     rest_fits (set_modes c.args.given.now.rules.now) (rules_of c.args.given.now.rules.now) c.args.given.now.pairs.now c.args.given.now.facts.now c.args.store.now c.args.budget c.args.tasks.now.items c.args.steps.now c.loop-budget.store c.loop-budget.tries c.loop-budget.steps c.settle.new.tasks.items w c.pop.new.self.items c.in-Some.task e l
@@ -39,7 +46,7 @@ turn-requires-clause-tasks g c =
 pub returns-in-Err : goal.returns-in-Err
 returns-in-Err g c = λ js a.
     let b = c.requires.facts in
-    let w = reaching_settled (set_modes c.args.given.now.rules.now) (rules_of c.args.given.now.rules.now) c.args.given.now.pairs.now c.args.given.now.facts.now c.args.store.now c.args.budget c.args.tasks.now.items c.args.steps.now c.loop-budget.store c.loop-budget.tries c.loop-budget.steps c.loop-budget.tasks.items c.loop-budget.invariant b.0 b.1 c.settle.new.tasks.items (λ js s e. c.loop-budget-test.ensures.settled c.args.given.now.pairs.now js s e) in
+    let w = settled g (goal.at.returns-in-Err g c).After-settle in
     let e = c.in-Some.ensures.items in
     let l = last_less c.settle.new.tasks.items c.pop.new.self.items c.in-Some.task (length c.args.given.now.facts.now + length (rules_of c.args.given.now.rules.now)) e c.loop-budget-test.ensures.last in
     reaching_failed (set_modes c.args.given.now.rules.now) (rules_of c.args.given.now.rules.now) c.args.given.now.pairs.now c.args.given.now.facts.now c.args.store.now c.args.budget c.args.tasks.now.items c.args.steps.now c.loop-budget.store c.loop-budget.tries c.loop-budget.steps c.settle.new.tasks.items w c.pop.new.self.items c.in-Some.task e l c.if-tries-budget.false c.tick.new.self c.tick.ensures c.in-Err.e c.turn.new.store c.turn.new.tasks.items js a
@@ -47,7 +54,7 @@ returns-in-Err g c = λ js a.
 pub loop-budget-preserved : goal.loop-budget-preserved
 loop-budget-preserved g c =
     let b = c.requires.facts in
-    let w = reaching_settled (set_modes c.args.given.now.rules.now) (rules_of c.args.given.now.rules.now) c.args.given.now.pairs.now c.args.given.now.facts.now c.args.store.now c.args.budget c.args.tasks.now.items c.args.steps.now c.loop-budget.store c.loop-budget.tries c.loop-budget.steps c.loop-budget.tasks.items c.loop-budget.invariant b.0 b.1 c.settle.new.tasks.items (λ js s e. c.loop-budget-test.ensures.settled c.args.given.now.pairs.now js s e) in
+    let w = settled g (goal.at.loop-budget-preserved g c).After-settle in
     let e = c.in-Some.ensures.items in
     let l = last_less c.settle.new.tasks.items c.pop.new.self.items c.in-Some.task (length c.args.given.now.facts.now + length (rules_of c.args.given.now.rules.now)) e c.loop-budget-test.ensures.last in
     reaching_more (set_modes c.args.given.now.rules.now) (rules_of c.args.given.now.rules.now) c.args.given.now.pairs.now c.args.given.now.facts.now c.args.store.now c.args.budget c.args.tasks.now.items c.args.steps.now c.loop-budget.store c.loop-budget.tries c.loop-budget.steps c.settle.new.tasks.items w c.pop.new.self.items c.in-Some.task e l c.if-tries-budget.false c.tick.new.self c.tick.ensures c.turn.new.store c.turn.new.tasks.items b.0 b.1 (λ js a. rw c.in-Ok-None.field-0-is at (c.in-Ok-None.ensures js a))
@@ -55,7 +62,7 @@ loop-budget-preserved g c =
 pub returns-in-Ok-Some : goal.returns-in-Ok-Some
 returns-in-Ok-Some g c = λ js a.
     let b = c.requires.facts in
-    let w = reaching_settled (set_modes c.args.given.now.rules.now) (rules_of c.args.given.now.rules.now) c.args.given.now.pairs.now c.args.given.now.facts.now c.args.store.now c.args.budget c.args.tasks.now.items c.args.steps.now c.loop-budget.store c.loop-budget.tries c.loop-budget.steps c.loop-budget.tasks.items c.loop-budget.invariant b.0 b.1 c.settle.new.tasks.items (λ js s e. c.loop-budget-test.ensures.settled c.args.given.now.pairs.now js s e) in
+    let w = settled g (goal.at.returns-in-Ok-Some g c).After-settle in
     let e = c.in-Some.ensures.items in
     let l = last_less c.settle.new.tasks.items c.pop.new.self.items c.in-Some.task (length c.args.given.now.facts.now + length (rules_of c.args.given.now.rules.now)) e c.loop-budget-test.ensures.last in
     reaching_ends (set_modes c.args.given.now.rules.now) (rules_of c.args.given.now.rules.now) c.args.given.now.pairs.now c.args.given.now.facts.now c.args.store.now c.args.budget c.args.tasks.now.items c.args.steps.now c.loop-budget.store c.loop-budget.tries c.loop-budget.steps c.settle.new.tasks.items w c.pop.new.self.items c.in-Some.task e l c.if-tries-budget.false c.tick.new.self c.tick.ensures c.turn.new.store c.turn.new.tasks.items c.in-Ok-Some.ending (λ ks d. rw c.in-Ok-Some.field-0-is at (c.in-Ok-Some.ensures ks d)) js a
@@ -63,7 +70,7 @@ returns-in-Ok-Some g c = λ js a.
 pub returns : goal.returns
 returns g c = λ js a.
     let b = c.requires.facts in
-    let w = reaching_settled (set_modes c.args.given.now.rules.now) (rules_of c.args.given.now.rules.now) c.args.given.now.pairs.now c.args.given.now.facts.now c.args.store.now c.args.budget c.args.tasks.now.items c.args.steps.now c.loop-budget.store c.loop-budget.tries c.loop-budget.steps c.loop-budget.tasks.items c.loop-budget.invariant b.0 b.1 c.settle.new.tasks.items (λ js s e. c.loop-budget-test.ensures.settled c.args.given.now.pairs.now js s e) in
+    let w = settled g (goal.at.returns g c).After-settle in
     reaching_end (set_modes c.args.given.now.rules.now) (rules_of c.args.given.now.rules.now) c.args.given.now.pairs.now c.args.given.now.facts.now c.args.store.now c.args.budget c.args.tasks.now.items c.args.steps.now c.loop-budget.store c.loop-budget.tries c.loop-budget.steps c.settle.new.tasks.items w c.loop-budget-test.ensures.last js a
 
 pub loop-budget-init : goal.loop-budget-init

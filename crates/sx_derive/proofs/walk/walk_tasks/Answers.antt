@@ -5,8 +5,15 @@ use Rattle.sx_arena.proofs.Growing.{extends-length}
 use Rattle.sx_arena.proofs.Parted.{pairs_more_terms}
 use Rattle.sx_derive.proofs.Tasked.{facts_length}
 use Rattle.sx_derive.proofs.Turned.{fits_pop}
-use Rattle.sx_derive.proofs.Walking.{walking_first, facts_now, wanted_below, walking_end, walking_spent, walking_failed, walking_more, walking_ends, walking_cut, popped_same}
+use Rattle.sx_derive.proofs.Walking.{Walking, walking_first, facts_now, wanted_below, walking_end, walking_spent, walking_failed, walking_more, walking_ends, walking_cut, popped_same}
 use Rattle.sx_derive.proofs.walk.walk_tasks.Goals as goal
+use Rattle.sx_derive.proofs.walk.walk_tasks.Goals.{After-cut}
+
+-- the walk after the cut
+cut_walk : (g : _) (c : After-cut g) → Walking (set_modes c.args.given.now.rules.now) (rules_of c.args.given.now.rules.now) c.args.given.now.pairs.now c.args.given.now.facts.now c.args.wanted.now c.args.store.now c.args.budget c.args.tasks.items c.args.steps.now c.cut.new.self c.loop-task.left c.loop-task.steps (c.next_task.new.tasks.items ++ c.in-Some.task ∷ [])
+cut_walk g c =
+    let b = c.requires.facts in
+    walking_cut (set_modes c.args.given.now.rules.now) (rules_of c.args.given.now.rules.now) c.args.given.now.pairs.now c.args.given.now.facts.now c.args.wanted.now c.args.store.now c.args.budget c.args.tasks.items c.args.steps.now c.loop-task.store c.loop-task.left c.loop-task.steps c.loop-task.tasks.items c.loop-task.invariant c.in-Some.task c.next_task.new.tasks.items (λ js s e. c.in-Some.ensures c.args.given.now.pairs.now js s e) c.requires.pairs c.cut.new.self c.cut.ensures b.0 b.1
 
 pub returns-then-left-eq0 : goal.returns-then-left-eq0
 returns-then-left-eq0 g c = walking_spent (set_modes c.args.given.now.rules.now) (rules_of c.args.given.now.rules.now) c.args.given.now.pairs.now c.args.given.now.facts.now c.args.wanted.now c.args.store.now c.args.budget c.args.tasks.items c.args.steps.now c.loop-task.store c.loop-task.left c.loop-task.steps c.loop-task.tasks.items c.loop-task.invariant c.in-Some.task c.next_task.new.tasks.items (λ js s e. c.in-Some.ensures c.args.given.now.pairs.now js s e) c.if-left-eq0.true
@@ -14,25 +21,25 @@ returns-then-left-eq0 g c = walking_spent (set_modes c.args.given.now.rules.now)
 pub turn-requires-clause-facts : goal.turn-requires-clause-facts
 turn-requires-clause-facts g c =
     let b = c.requires.facts in
-    let w = walking_cut (set_modes c.args.given.now.rules.now) (rules_of c.args.given.now.rules.now) c.args.given.now.pairs.now c.args.given.now.facts.now c.args.wanted.now c.args.store.now c.args.budget c.args.tasks.items c.args.steps.now c.loop-task.store c.loop-task.left c.loop-task.steps c.loop-task.tasks.items c.loop-task.invariant c.in-Some.task c.next_task.new.tasks.items (λ js s e. c.in-Some.ensures c.args.given.now.pairs.now js s e) c.requires.pairs c.cut.new.self c.cut.ensures b.0 b.1 in
+    let w = cut_walk g (goal.at.turn-requires-clause-facts g c).After-cut in
     (b.0, facts_now (set_modes c.args.given.now.rules.now) (rules_of c.args.given.now.rules.now) c.args.given.now.pairs.now c.args.given.now.facts.now c.args.wanted.now c.args.store.now c.args.budget c.args.tasks.items c.args.steps.now c.cut.new.self c.loop-task.left c.loop-task.steps (c.next_task.new.tasks.items ++ c.in-Some.task ∷ []) w b.0 b.1)
 
 pub turn-requires-clause-pairs : goal.turn-requires-clause-pairs
 turn-requires-clause-pairs g c =
     let b = c.requires.facts in
-    let w = walking_cut (set_modes c.args.given.now.rules.now) (rules_of c.args.given.now.rules.now) c.args.given.now.pairs.now c.args.given.now.facts.now c.args.wanted.now c.args.store.now c.args.budget c.args.tasks.items c.args.steps.now c.loop-task.store c.loop-task.left c.loop-task.steps c.loop-task.tasks.items c.loop-task.invariant c.in-Some.task c.next_task.new.tasks.items (λ js s e. c.in-Some.ensures c.args.given.now.pairs.now js s e) c.requires.pairs c.cut.new.self c.cut.ensures b.0 b.1 in
+    let w = cut_walk g (goal.at.turn-requires-clause-pairs g c).After-cut in
     pairs_more_terms _ _ (extends-length _ _ w.grows.trees) _ c.requires.pairs
 
 pub turn-requires-clause-wanted : goal.turn-requires-clause-wanted
 turn-requires-clause-wanted g c =
     let b = c.requires.facts in
-    let w = walking_cut (set_modes c.args.given.now.rules.now) (rules_of c.args.given.now.rules.now) c.args.given.now.pairs.now c.args.given.now.facts.now c.args.wanted.now c.args.store.now c.args.budget c.args.tasks.items c.args.steps.now c.loop-task.store c.loop-task.left c.loop-task.steps c.loop-task.tasks.items c.loop-task.invariant c.in-Some.task c.next_task.new.tasks.items (λ js s e. c.in-Some.ensures c.args.given.now.pairs.now js s e) c.requires.pairs c.cut.new.self c.cut.ensures b.0 b.1 in
+    let w = cut_walk g (goal.at.turn-requires-clause-wanted g c).After-cut in
     wanted_below _ _ (extends-length _ _ w.grows.trees) _ c.requires.wanted
 
 pub turn-requires-clause-task : goal.turn-requires-clause-task
 turn-requires-clause-task g c =
     let b = c.requires.facts in
-    let w = walking_cut (set_modes c.args.given.now.rules.now) (rules_of c.args.given.now.rules.now) c.args.given.now.pairs.now c.args.given.now.facts.now c.args.wanted.now c.args.store.now c.args.budget c.args.tasks.items c.args.steps.now c.loop-task.store c.loop-task.left c.loop-task.steps c.loop-task.tasks.items c.loop-task.invariant c.in-Some.task c.next_task.new.tasks.items (λ js s e. c.in-Some.ensures c.args.given.now.pairs.now js s e) c.requires.pairs c.cut.new.self c.cut.ensures b.0 b.1 in
+    let w = cut_walk g (goal.at.turn-requires-clause-task g c).After-cut in
     (fits_pop _ _ _ c.cut.new.self c.next_task.new.tasks.items c.in-Some.task w.fits).1
 
 pub turn-requires-clause-next : goal.turn-requires-clause-next
@@ -45,7 +52,7 @@ turn-requires-clause-next g c =
 pub turn-requires-clause-tasks : goal.turn-requires-clause-tasks
 turn-requires-clause-tasks g c =
     let b = c.requires.facts in
-    let w = walking_cut (set_modes c.args.given.now.rules.now) (rules_of c.args.given.now.rules.now) c.args.given.now.pairs.now c.args.given.now.facts.now c.args.wanted.now c.args.store.now c.args.budget c.args.tasks.items c.args.steps.now c.loop-task.store c.loop-task.left c.loop-task.steps c.loop-task.tasks.items c.loop-task.invariant c.in-Some.task c.next_task.new.tasks.items (λ js s e. c.in-Some.ensures c.args.given.now.pairs.now js s e) c.requires.pairs c.cut.new.self c.cut.ensures b.0 b.1 in
+    let w = cut_walk g (goal.at.turn-requires-clause-tasks g c).After-cut in
     (fits_pop _ _ _ c.cut.new.self c.next_task.new.tasks.items c.in-Some.task w.fits).0
 
 pub returns-in-Err : goal.returns-in-Err
@@ -56,7 +63,7 @@ returns-in-Err g c = λ js a.
 pub loop-task-preserved : goal.loop-task-preserved
 loop-task-preserved g c =
     let b = c.requires.facts in
-    let w = walking_cut (set_modes c.args.given.now.rules.now) (rules_of c.args.given.now.rules.now) c.args.given.now.pairs.now c.args.given.now.facts.now c.args.wanted.now c.args.store.now c.args.budget c.args.tasks.items c.args.steps.now c.loop-task.store c.loop-task.left c.loop-task.steps c.loop-task.tasks.items c.loop-task.invariant c.in-Some.task c.next_task.new.tasks.items (λ js s e. c.in-Some.ensures c.args.given.now.pairs.now js s e) c.requires.pairs c.cut.new.self c.cut.ensures b.0 b.1 in
+    let w = cut_walk g (goal.at.loop-task-preserved g c).After-cut in
     let n = (c.in-Some.ensures c.args.given.now.pairs.now b.0 c.loop-task.store (sym (facts_length _ (store_trees c.args.store.now) b.0 c.args.given.now.facts.now b.1))).0 in
     let l : 0 < c.loop-task.left = (let z = c.if-left-eq0.false in omega arith) in
     walking_more (set_modes c.args.given.now.rules.now) (rules_of c.args.given.now.rules.now) c.args.given.now.pairs.now c.args.given.now.facts.now c.args.wanted.now c.args.store.now c.args.budget c.args.tasks.items c.args.steps.now c.cut.new.self c.loop-task.left c.loop-task.steps (c.next_task.new.tasks.items ++ c.in-Some.task ∷ []) w c.in-Some.task c.next_task.new.tasks.items (λ js s e. popped_same _ _ c.args.given.now.pairs.now js s _ c.next_task.new.tasks.items c.in-Some.task n) l c.requires.wanted c.turn.new.store c.turn.new.tasks.items (λ js a. rw c.in-Ok-None.field-0-is at (c.in-Ok-None.ensures js a)) b.0 b.1 c.tick.new.self c.tick.ensures
@@ -64,7 +71,7 @@ loop-task-preserved g c =
 pub returns-in-Ok-Some : goal.returns-in-Ok-Some
 returns-in-Ok-Some g c = λ js a.
     let b = c.requires.facts in
-    let w = walking_cut (set_modes c.args.given.now.rules.now) (rules_of c.args.given.now.rules.now) c.args.given.now.pairs.now c.args.given.now.facts.now c.args.wanted.now c.args.store.now c.args.budget c.args.tasks.items c.args.steps.now c.loop-task.store c.loop-task.left c.loop-task.steps c.loop-task.tasks.items c.loop-task.invariant c.in-Some.task c.next_task.new.tasks.items (λ js s e. c.in-Some.ensures c.args.given.now.pairs.now js s e) c.requires.pairs c.cut.new.self c.cut.ensures b.0 b.1 in
+    let w = cut_walk g (goal.at.returns-in-Ok-Some g c).After-cut in
     let n = (c.in-Some.ensures c.args.given.now.pairs.now b.0 c.loop-task.store (sym (facts_length _ (store_trees c.args.store.now) b.0 c.args.given.now.facts.now b.1))).0 in
     let l : 0 < c.loop-task.left = (let z = c.if-left-eq0.false in omega arith) in
     walking_ends (set_modes c.args.given.now.rules.now) (rules_of c.args.given.now.rules.now) c.args.given.now.pairs.now c.args.given.now.facts.now c.args.wanted.now c.args.store.now c.args.budget c.args.tasks.items c.args.steps.now c.cut.new.self c.loop-task.left c.loop-task.steps (c.next_task.new.tasks.items ++ c.in-Some.task ∷ []) w c.in-Some.task c.next_task.new.tasks.items (λ js s e. popped_same _ _ c.args.given.now.pairs.now js s _ c.next_task.new.tasks.items c.in-Some.task n) l c.requires.wanted c.turn.new.store c.turn.new.tasks.items c.in-Ok-Some.ending (λ ks b. rw c.in-Ok-Some.field-0-is at (c.in-Ok-Some.ensures ks b)) c.tick.new.self c.tick.ensures js a
@@ -75,7 +82,7 @@ returns g c = λ js a. walking_end (set_modes c.args.given.now.rules.now) (rules
 pub turn-requires-clause-store : goal.turn-requires-clause-store
 turn-requires-clause-store g c =
     let b = c.requires.facts in
-    let w = walking_cut (set_modes c.args.given.now.rules.now) (rules_of c.args.given.now.rules.now) c.args.given.now.pairs.now c.args.given.now.facts.now c.args.wanted.now c.args.store.now c.args.budget c.args.tasks.items c.args.steps.now c.loop-task.store c.loop-task.left c.loop-task.steps c.loop-task.tasks.items c.loop-task.invariant c.in-Some.task c.next_task.new.tasks.items (λ js s e. c.in-Some.ensures c.args.given.now.pairs.now js s e) c.requires.pairs c.cut.new.self c.cut.ensures b.0 b.1 in
+    let w = cut_walk g (goal.at.turn-requires-clause-store g c).After-cut in
     w.grows.store
 
 pub loop-task-init : goal.loop-task-init
