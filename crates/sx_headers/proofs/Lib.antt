@@ -1,4 +1,5 @@
 pub mod HeaderAnswers
+pub mod StopsTold
 pub mod HeaderLines
 pub mod TakenNames
 pub mod FirstLines
