@@ -158,10 +158,14 @@ pub(crate) fn answer_wanted(
 ) -> Option<Told>
     requires wanted { MatchOption wanted Unit (λ w. AreShallow (map tree w.now.items)) }
 {
-    let goal = goal(alloc, subject)?;
-    let told = derive_with::<Brand>(alloc, rules, &goal, wanted, budget, Blank::new(1));
-    drop(goal);
-    Some(told)
+    match goal(alloc, subject) {
+        Some(goal) => {
+            let told = derive_with::<Brand>(alloc, rules, &goal, wanted, budget, Blank::new(1));
+            drop(goal);
+            Some(told)
+        }
+        None => None,
+    }
 }
 
 /// What is answered for the subject's type.
@@ -205,8 +209,12 @@ pub(crate) fn answer_from(
     requires holds { ShallowJudgements (hypotheses given.now).judgements }
     requires apart { ArePairsShallow (hypotheses given.now).pairs }
 {
-    let goal = goal(alloc, subject)?;
-    let told = derive_from::<Brand>(alloc, rules, given, &goal, budget, Blank::new(1));
-    drop(goal);
-    Some(told)
+    match goal(alloc, subject) {
+        Some(goal) => {
+            let told = derive_from::<Brand>(alloc, rules, given, &goal, budget, Blank::new(1));
+            drop(goal);
+            Some(told)
+        }
+        None => None,
+    }
 }

@@ -8,3 +8,8 @@ use std::process::Abort;
 pub(crate) fn assert_same<T: PartialEq + Debug>(rt: &impl Abort, found: &T, wanted: &T) {
     assert!(rt; *found == *wanted, "found {found:?}, wanted {wanted:?}");
 }
+
+/// Ends the test where that does not hold. It is proved once too.
+pub(crate) fn assert_holds(rt: &impl Abort, holds: bool) {
+    assert!(rt; holds);
+}

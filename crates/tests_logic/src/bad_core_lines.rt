@@ -1,8 +1,7 @@
 //! The first bad line of a core file, for each reason.
 
-use crate::asserts::assert_same;
+use crate::asserts::{assert_holds, assert_same};
 use std::alloc::Global;
-use std::test::Fail;
 use sx_core::{CoreFileError, read_core_file};
 use sx_lines::Kind;
 use sx_term::NoMemory;
@@ -191,20 +190,26 @@ fn lines_out_of_order(rt: HostRuntime) {
     assert_same(&rt, &hold, &[true; 6]);
 }
 
-/// A file whose goal nests so many nodes round a leaf.
-fn nested(alloc: Global, levels: usize) -> Result<Vec<u8>, NoMemory> {
-    let mut bytes = Vec::from_slice(
-        alloc,
-        b"sxcore 1\nsort E typed\ncon a E\ncon b E E\nform f sub:E\ngoal f ",
-    )?;
-    for _ in 0..levels {
-        bytes.extend_from_slice(b"(1 ")?;
+/// Puts the part behind the bytes so many times.
+fn put_many(bytes: &mut Vec<u8>, part: &[u8], count: usize) -> Result<(), NoMemory> {
+    for _ in 0..count {
+        bytes.extend_from_slice(part)?;
     }
+    Ok(())
+}
+
+fn put_nested(bytes: &mut Vec<u8>, levels: usize) -> Result<(), NoMemory> {
+    bytes.extend_from_slice(b"sxcore 1\nsort E typed\ncon a E\ncon b E E\nform f sub:E\ngoal f ")?;
+    put_many(bytes, b"(1 ", levels)?;
     bytes.extend_from_slice(b"(0)")?;
-    for _ in 0..levels {
-        bytes.push(b')')?;
-    }
-    Ok(bytes)
+    put_many(bytes, b")", levels)
+}
+
+/// A file whose goal nests so many nodes round a leaf; less where memory is lacking.
+fn nested(alloc: Global, levels: usize) -> Vec<u8> {
+    let mut bytes = Vec::new(alloc);
+    let _memory = put_nested(&mut bytes, levels).is_ok();
+    bytes
 }
 
 /// The line with a core text that is too deep, and its depth.
@@ -222,10 +227,11 @@ fn too_deep(alloc: Global, bytes: &[u8]) -> Option<(u32, u64)> {
 }
 
 #[test]
-fn a_term_that_is_too_deep(rt: HostRuntime) -> Result<(), Fail> {
-    let bytes = nested(rt.alloc(), 1000)?;
-    assert!(rt; too_deep(rt.alloc(), &bytes) == Some((6, 1001)));
-    Ok(())
+fn a_term_that_is_too_deep(rt: HostRuntime) {
+    let bytes = nested(rt.alloc(), 1000);
+    let told = too_deep(rt.alloc(), &bytes);
+    drop(bytes);
+    assert_holds(&rt, told == Some((6, 1001)));
 }
 
 /// How many bytes stand before those that are not UTF-8.
@@ -244,5 +250,5 @@ fn not_utf8(alloc: Global, bytes: &[u8]) -> Option<usize> {
 
 #[test]
 fn bytes_that_are_not_utf8(rt: HostRuntime) {
-    assert!(rt; not_utf8(rt.alloc(), &[b'a', b'\n', 255]) == Some(2));
+    assert_holds(&rt, not_utf8(rt.alloc(), &[b'a', b'\n', 255]) == Some(2));
 }

@@ -1,6 +1,6 @@
 //! Core files that are read, and what they state.
 
-use crate::asserts::assert_same;
+use crate::asserts::{assert_holds, assert_same};
 use crate::samples::{LAMBDA, number_of, rules_of};
 use std::alloc::Global;
 use sx_core::{CoreFileError, CoreProblem, read_core_file};
@@ -101,15 +101,19 @@ fn stated(alloc: Global, text: &[u8], rules: u32) -> Option<(usize, usize, usize
 
 #[test]
 fn look_up(rt: HostRuntime) {
-    assert!(rt; stated(rt.alloc(), LOOK_UP, 3) == Some((3, 4, 2, 0, 2)));
+    assert_holds(&rt, stated(rt.alloc(), LOOK_UP, 3) == Some((3, 4, 2, 0, 2)));
 }
 
 /// The number of the rule with this name among those that the file states.
 fn number_in(alloc: Global, text: &[u8], name: &[u8]) -> Option<u32> {
-    let rules = rules_of(alloc, text)?;
-    let number = number_of(alloc, &rules, name);
-    drop(rules);
-    Some(number)
+    match rules_of(alloc, text) {
+        Some(rules) => {
+            let number = number_of(alloc, &rules, name);
+            drop(rules);
+            Some(number)
+        }
+        None => None,
+    }
 }
 
 #[test]
@@ -120,7 +124,7 @@ fn pairs(rt: HostRuntime) {
 
 #[test]
 fn abstractions(rt: HostRuntime) {
-    assert!(rt; stated(rt.alloc(), LAMBDA, 4) == Some((3, 7, 2, 0, 2)));
+    assert_holds(&rt, stated(rt.alloc(), LAMBDA, 4) == Some((3, 7, 2, 0, 2)));
 }
 
 /// The variable 1 is used, and there is none.
@@ -150,5 +154,5 @@ fn differs_in(alloc: Global, text: &[u8], rule: &[u8]) -> bool {
 
 #[test]
 fn rules_that_are_no_rule_set(rt: HostRuntime) {
-    assert!(rt; differs_in(rt.alloc(), ONE_SORT_TOO_FEW, b"R"));
+    assert_holds(&rt, differs_in(rt.alloc(), ONE_SORT_TOO_FEW, b"R"));
 }

@@ -4,7 +4,7 @@ ghost use Rattle.std.specs.Prelude.{◌≤◌, IfOk};
 ghost use Rattle.sx_rules.specs.Derivations.{height_of};
 ghost use Rattle.sx_rules.specs.ProofView.{proof};
 
-use crate::asserts::assert_same;
+use crate::asserts::{assert_holds, assert_same};
 use crate::samples::{LAMBDA, PAIR, W, Z, rules, rules_of};
 use std::alloc::Global;
 use sx_rules::{Entry, ListError, Proof, RuleSet, preorder, read_list, write_list};
@@ -28,10 +28,14 @@ fn line_of(alloc: Global, rules: &RuleSet, text: &[u8]) -> u32 {
 
 /// The line at which the text is refused, by the rules for pairs.
 fn bad_line(alloc: Global, text: &[u8]) -> Option<u32> {
-    let rules = rules(alloc, Z, W, PAIR)?;
-    let line = line_of(alloc, &rules, text);
-    drop(rules);
-    Some(line)
+    match rules(alloc, Z, W, PAIR) {
+        Some(rules) => {
+            let line = line_of(alloc, &rules, text);
+            drop(rules);
+            Some(line)
+        }
+        None => None,
+    }
 }
 
 #[test]
@@ -48,10 +52,14 @@ fn bad_lists(rt: HostRuntime) {
 
 /// The line at which the text is refused, by the rules for abstractions.
 fn bad_entry(alloc: Global, text: &[u8]) -> Option<u32> {
-    let rules = rules_of(alloc, LAMBDA)?;
-    let line = line_of(alloc, &rules, text);
-    drop(rules);
-    Some(line)
+    match rules_of(alloc, LAMBDA) {
+        Some(rules) => {
+            let line = line_of(alloc, &rules, text);
+            drop(rules);
+            Some(line)
+        }
+        None => None,
+    }
 }
 
 #[test]
@@ -98,7 +106,7 @@ fn lists_are_read(rt: HostRuntime) {
         Entry::Rule(1),
         Entry::Rule(0),
     ];
-    assert!(rt; states(rt.alloc(), text, &wanted));
+    assert_holds(&rt, states(rt.alloc(), text, &wanted));
 }
 
 /// The text of the list that the text states.
@@ -130,12 +138,13 @@ fn is_written(alloc: Global, text: &[u8], wanted: &[u8]) -> bool {
 
 #[test]
 fn lists_are_written(rt: HostRuntime) {
-    assert!(rt;
+    assert_holds(
+        &rt,
         is_written(
             rt.alloc(),
             b"sxder 1\r\nT-Pair\r\ngiven 1\ngiven 4294967296",
-            b"sxder 1\nT-Pair\ngiven 1\ngiven 4294967296\n"
-        )
+            b"sxder 1\nT-Pair\ngiven 1\ngiven 4294967296\n",
+        ),
     );
 }
 
@@ -171,5 +180,5 @@ fn has_entries(alloc: Global, wanted: &[Entry]) -> bool {
 #[test]
 fn kids_follow_their_node(rt: HostRuntime) {
     let wanted = [Entry::Rule(3), Entry::Given(7), Entry::Given(5)];
-    assert!(rt; has_entries(rt.alloc(), &wanted));
+    assert_holds(&rt, has_entries(rt.alloc(), &wanted));
 }

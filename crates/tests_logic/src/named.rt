@@ -1,6 +1,7 @@
 //! Auditors that words name.
 
 use crate::asserts::assert_same;
+use crate::auditors::boxed;
 use std::alloc::Global;
 use sx_audit::{Auditor, makers};
 use sx_auditing::{name_auditors, put_texts};
@@ -8,15 +9,6 @@ use sx_steps::{StepError, Stop as Stopped};
 use sx_term::{NoMemory, Text};
 use sx_words::{Audit, Defect, FileDefect};
 use tests_given::Stop;
-
-/// An option that names an auditor, at this place among the words.
-fn audit(alloc: Global, kind: &str, setting: &str, word: u32) -> Result<Audit, NoMemory> {
-    Ok(Audit {
-        kind: Text::of_str(alloc, kind)?,
-        setting: Text::of_str(alloc, setting)?,
-        word,
-    })
-}
 
 /// The place of the word that is refused; the greatest number where it is another stop.
 fn place_in(stop: &Stopped) -> u64 {
@@ -53,31 +45,71 @@ fn told(alloc: Global, named: &Result<Vec<Box<dyn Auditor>>, StepError>, wanted:
     }
 }
 
-/// What is told where these options name auditors among four, of which two have one name.
-fn named(alloc: Global, audits: &[Audit], wanted: &[u8]) -> Option<u64> {
-    let mut row: Vec<Box<dyn Auditor>> = Vec::new(alloc);
-    row.push(Box::new(alloc, Stop::new(alloc).ok()?).ok()?)
-        .ok()?;
-    row.push(Box::new(alloc, makers::deny(alloc).ok()?).ok()?)
-        .ok()?;
-    row.push(Box::new(alloc, Stop::new(alloc).ok()?).ok()?)
-        .ok()?;
-    row.push(Box::new(alloc, makers::tally(alloc).ok()?).ok()?)
-        .ok()?;
+/// What is told where these options name auditors of the row.
+fn named_in(alloc: Global, row: Vec<Box<dyn Auditor>>, audits: &[Audit], wanted: &[u8]) -> u64 {
     let kept = name_auditors(alloc, row, audits);
     let told = told(alloc, &kept, wanted);
     drop(kept);
-    Some(told)
+    told
+}
+
+/// What is told where these options name auditors among four, of which two have one name.
+fn named(alloc: Global, audits: &[Audit], wanted: &[u8]) -> u64 {
+    match (
+        boxed(alloc, Stop::new(alloc)),
+        boxed(alloc, makers::deny(alloc)),
+        boxed(alloc, Stop::new(alloc)),
+        boxed(alloc, makers::tally(alloc)),
+    ) {
+        (Some(stop), Some(deny), Some(other), Some(tally)) => {
+            let four: [Box<dyn Auditor>; 4] = [stop, deny, other, tally];
+            match Vec::from_array(alloc, four) {
+                Ok(row) => named_in(alloc, row, audits, wanted),
+                Err(_) => u64::MAX,
+            }
+        }
+        (stop, deny, other, tally) => {
+            drop(tally);
+            drop(other);
+            drop(deny);
+            drop(stop);
+            u64::MAX
+        }
+    }
+}
+
+/// Adds an option that names an auditor, at this place among the words.
+fn put_audit(
+    alloc: Global,
+    named: (&str, &str),
+    word: u32,
+    audits: &mut Vec<Audit>,
+) -> Result<(), NoMemory> {
+    let kind = Text::of_str(alloc, named.0)?;
+    match Text::of_str(alloc, named.1) {
+        Ok(setting) => {
+            audits.push(Audit {
+                kind,
+                setting,
+                word,
+            })?;
+            Ok(())
+        }
+        Err(e) => {
+            drop(kind);
+            Err(e)
+        }
+    }
 }
 
 /// What is told of two options, the words 2 and 3.
-fn two(alloc: Global, first: (&str, &str), second: (&str, &str), wanted: &[u8]) -> Option<u64> {
+fn two(alloc: Global, first: (&str, &str), second: (&str, &str), wanted: &[u8]) -> u64 {
     let mut audits = Vec::new(alloc);
-    audits.push(audit(alloc, first.0, first.1, 2).ok()?).ok()?;
-    audits.push(audit(alloc, second.0, second.1, 3).ok()?).ok()?;
+    let are_put = put_audit(alloc, first, 2, &mut audits).is_ok()
+        && put_audit(alloc, second, 3, &mut audits).is_ok();
     let told = named(alloc, &audits, wanted);
     drop(audits);
-    told
+    if are_put { told } else { u64::MAX }
 }
 
 #[test]
@@ -101,5 +133,5 @@ fn words_name_auditors(rt: HostRuntime) {
         two(alloc, tally, ("deny", ""), b""),
         two(alloc, tally, ("nodes", "1"), b""),
     ];
-    assert_same(&rt, &found, &[Some(0), Some(0), Some(2), Some(3), Some(3)]);
+    assert_same(&rt, &found, &[0, 0, 2, 3, 3]);
 }

@@ -4,7 +4,7 @@ ghost use Rattle.std.specs.Prelude.{IfSome, map};
 ghost use Rattle.sx_rules.specs.Deep.{RulesAreShallow};
 ghost use Rattle.sx_rules.specs.Views.{rule};
 
-use crate::asserts::assert_same;
+use crate::asserts::{assert_holds, assert_same};
 use crate::samples::{PAIR, joined, number_of, rules};
 use crate::terms::judgement;
 use std::alloc::Global;
@@ -72,10 +72,10 @@ fn refusal(
         last,
         GOAL,
     ];
-    match joined(alloc, &parts) {
-        Ok(text) => refused(alloc, &text),
-        Err(_) => (0, 0, 0),
-    }
+    let text = joined(alloc, &parts);
+    let told = refused(alloc, &text);
+    drop(text);
+    told
 }
 
 const FIVE: &[u8] = b"Exp Exp Exp Ty Ty";
@@ -107,18 +107,18 @@ fn refused_rules(rt: HostRuntime) {
 
 /// Why the rule with 65 variables is refused.
 fn many_variables(alloc: Global) -> (u32, u32, usize) {
-    match joined(alloc, &[b"Exp ".as_slice(); 64]) {
-        Ok(mut sorts) => match sorts.extend_from_slice(b"Exp") {
-            Ok(()) => refusal(alloc, &sorts, b"?0", b"?1", b"(2 ?0 ?1)"),
-            Err(_) => (0, 0, 0),
-        },
+    let mut sorts = joined(alloc, &[b"Exp ".as_slice(); 64]);
+    let told = match sorts.extend_from_slice(b"Exp") {
+        Ok(()) => refusal(alloc, &sorts, b"?0", b"?1", b"(2 ?0 ?1)"),
         Err(_) => (0, 0, 0),
-    }
+    };
+    drop(sorts);
+    told
 }
 
 #[test]
 fn sixty_five_variables(rt: HostRuntime) {
-    assert!(rt; many_variables(rt.alloc()) == (2, 0, 0));
+    assert_holds(&rt, many_variables(rt.alloc()) == (2, 0, 0));
 }
 
 /// The one rule with this name: the term 1 has the type 4.
@@ -150,17 +150,21 @@ fn extended(alloc: Global) -> Option<RuleSet> {
 
 /// The numbers of the first rule, of the one that was added, and of a name that no rule has.
 fn found(alloc: Global) -> Option<(u32, u32, u32)> {
-    let all = extended(alloc)?;
-    let numbers = (
-        number_of(alloc, &all, b"T-Pair"),
-        number_of(alloc, &all, b"T-More"),
-        number_of(alloc, &all, b"T-Pai"),
-    );
-    drop(all);
-    Some(numbers)
+    match extended(alloc) {
+        Some(all) => {
+            let numbers = (
+                number_of(alloc, &all, b"T-Pair"),
+                number_of(alloc, &all, b"T-More"),
+                number_of(alloc, &all, b"T-Pai"),
+            );
+            drop(all);
+            Some(numbers)
+        }
+        None => None,
+    }
 }
 
 #[test]
 fn rules_are_found(rt: HostRuntime) {
-    assert!(rt; found(rt.alloc()) == Some((0, 1, 9)));
+    assert_holds(&rt, found(rt.alloc()) == Some((0, 1, 9)));
 }

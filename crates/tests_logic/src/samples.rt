@@ -78,13 +78,18 @@ end
 goal typing (0) (6 i1:x (2) (6 i1:x (3) (5 i1:x)))
 ";
 
-/// The texts one after the other.
-pub(crate) fn joined(alloc: Global, parts: &[&[u8]]) -> Result<Vec<u8>, NoMemory> {
-    let mut text = Vec::new(alloc);
+fn put_joined(parts: &[&[u8]], text: &mut Vec<u8>) -> Result<(), NoMemory> {
     for part in parts {
         text.extend_from_slice(part)?;
     }
-    Ok(text)
+    Ok(())
+}
+
+/// The texts one after the other; less where memory is lacking.
+pub(crate) fn joined(alloc: Global, parts: &[&[u8]]) -> Vec<u8> {
+    let mut text = Vec::new(alloc);
+    let _memory = put_joined(parts, &mut text).is_ok();
+    text
 }
 
 /// The rules of the core file.
@@ -111,14 +116,20 @@ pub(crate) fn rules_of(alloc: Global, text: &[u8]) -> Option<RuleSet> {
 
 /// The rules with these texts, over terms, pairs and types.
 pub(crate) fn rules(alloc: Global, first: &[u8], second: &[u8], third: &[u8]) -> Option<RuleSet> {
-    let text = joined(alloc, &[PAIRS, first, second, third, b"goal typing (0)\n"]).ok()?;
-    rules_of(alloc, &text)
+    let text = joined(alloc, &[PAIRS, first, second, third, b"goal typing (0)\n"]);
+    let rules = rules_of(alloc, &text);
+    drop(text);
+    rules
 }
 
 /// The number of the rule with this name; 9 where there is none, and 8 where memory is lacking.
 pub(crate) fn number_of(alloc: Global, rules: &RuleSet, name: &[u8]) -> u32 {
     match Text::make(alloc, name) {
-        Ok(name) => rules.find(&name).unwrap_or(9),
+        Ok(name) => {
+            let number = rules.find(&name).unwrap_or(9);
+            drop(name);
+            number
+        }
         Err(_) => 8,
     }
 }

@@ -11,7 +11,7 @@ ghost use Rattle.sx_rules.specs.Sets.{bare_rules_in};
 ghost use Rattle.sx_rules.specs.Views.{goal as goal_of};
 
 use crate::asserts::assert_same;
-use crate::auditors::{says, takes};
+use crate::auditors::{boxed, says, takes};
 use crate::samples::{PAIR, W, Z, rules};
 use crate::terms::goal;
 use std::alloc::Global;
@@ -84,68 +84,118 @@ fn show_it(
     }
 }
 
-/// Whether an auditor between two others stops at the third node.
-fn stops(alloc: Global, rules: &RuleSet, proof: &Proof, list: Option<&[Entry]>) -> Option<bool>
+/// Shows the derivation to the auditors, of which the first gets a setting. The number of the node
+/// to which the auditor of this name objects; the greatest number where that one or memory is
+/// lacking.
+fn objected_in(
+    alloc: Global,
+    row: &mut Vec<Box<dyn Auditor>>,
+    setting: &str,
+    name: &str,
+    rules: &RuleSet,
+    proof: &Proof,
+    list: Option<&[Entry]>,
+) -> u64
     requires height { height_of (view.proof proof.now) ≤ 3000 }
     requires derived { (j : Judgement)
         × Derives (bare_rules_in rules.now) no_hypotheses j (view.proof proof.now) }
     requires order { MatchOption list Unit
         (λ l. entries l.now ≡ order_of (view.proof proof.now)) }
 {
-    let mut row: Vec<Box<dyn Auditor>> = Vec::new(alloc);
-    row.push(Box::new(alloc, makers::tally(alloc).ok()?).ok()?)
-        .ok()?;
-    row.push(Box::new(alloc, Stop::new(alloc).ok()?).ok()?)
-        .ok()?;
-    row.push(Box::new(alloc, makers::nodes(alloc).ok()?).ok()?)
-        .ok()?;
-    if row.len() < 3 {
-        return None;
+    match row.get_mut(0) {
+        Some(first) => {
+            if !takes(alloc, first, setting, true) {
+                return u64::MAX;
+            }
+        }
+        None => return u64::MAX,
     }
-    let set = takes(alloc, &mut row[0], "T-Pair,Z");
-    let shown = show_it(alloc, &mut row, rules, proof, list);
-    if row.len() < 3 {
-        return None;
-    }
-    let is = set == Some(true)
-        && objected(&shown, "stop") == 3
-        && says(alloc, &row[0], b"tally T-Pair 2 Z 1")
-        && says(alloc, &row[2], b"nodes 2 of 1000000");
+    let shown = show_it(alloc, row, rules, proof, list);
+    let number = objected(&shown, name);
     drop(shown);
-    drop(row);
-    Some(is)
+    number
+}
+
+/// Whether this is the text of the auditor with this number.
+fn says_at(alloc: Global, row: &[Box<dyn Auditor>], number: usize, wanted: &[u8]) -> bool {
+    match row.get(number) {
+        Some(auditor) => says(alloc, auditor, wanted),
+        None => false,
+    }
+}
+
+/// Whether an auditor between two others stops at the third node.
+fn stops(alloc: Global, rules: &RuleSet, proof: &Proof, list: Option<&[Entry]>) -> bool
+    requires height { height_of (view.proof proof.now) ≤ 3000 }
+    requires derived { (j : Judgement)
+        × Derives (bare_rules_in rules.now) no_hypotheses j (view.proof proof.now) }
+    requires order { MatchOption list Unit
+        (λ l. entries l.now ≡ order_of (view.proof proof.now)) }
+{
+    match (
+        boxed(alloc, makers::tally(alloc)),
+        boxed(alloc, Stop::new(alloc)),
+        boxed(alloc, makers::nodes(alloc)),
+    ) {
+        (Some(tally), Some(stop), Some(nodes)) => {
+            let three: [Box<dyn Auditor>; 3] = [tally, stop, nodes];
+            match Vec::from_array(alloc, three) {
+                Ok(made) => {
+                    let mut row = made;
+                    let number = objected_in(
+                        alloc, &mut row, "T-Pair,Z", "stop", rules, proof, list,
+                    );
+                    let are_said = says_at(alloc, &row, 0, b"tally T-Pair 2 Z 1")
+                        && says_at(alloc, &row, 2, b"nodes 2 of 1000000");
+                    drop(row);
+                    number == 3 && are_said
+                }
+                Err(_) => false,
+            }
+        }
+        (tally, stop, nodes) => {
+            drop(nodes);
+            drop(stop);
+            drop(tally);
+            false
+        }
+    }
 }
 
 /// Whether three auditors admit the nodes, and see them all.
-fn passes(alloc: Global, rules: &RuleSet, proof: &Proof, list: Option<&[Entry]>) -> Option<bool>
+fn passes(alloc: Global, rules: &RuleSet, proof: &Proof, list: Option<&[Entry]>) -> bool
     requires height { height_of (view.proof proof.now) ≤ 3000 }
     requires derived { (j : Judgement)
         × Derives (bare_rules_in rules.now) no_hypotheses j (view.proof proof.now) }
     requires order { MatchOption list Unit
         (λ l. entries l.now ≡ order_of (view.proof proof.now)) }
 {
-    let mut row: Vec<Box<dyn Auditor>> = Vec::new(alloc);
-    row.push(Box::new(alloc, makers::deny(alloc).ok()?).ok()?)
-        .ok()?;
-    row.push(Box::new(alloc, makers::depth(alloc).ok()?).ok()?)
-        .ok()?;
-    row.push(Box::new(alloc, makers::nodes(alloc).ok()?).ok()?)
-        .ok()?;
-    if row.len() < 3 {
-        return None;
+    match (
+        boxed(alloc, makers::deny(alloc)),
+        boxed(alloc, makers::depth(alloc)),
+        boxed(alloc, makers::nodes(alloc)),
+    ) {
+        (Some(deny), Some(depth), Some(nodes)) => {
+            let three: [Box<dyn Auditor>; 3] = [deny, depth, nodes];
+            match Vec::from_array(alloc, three) {
+                Ok(made) => {
+                    let mut row = made;
+                    let number = objected_in(alloc, &mut row, "Other", "", rules, proof, list);
+                    let are_said = says_at(alloc, &row, 1, b"depth 3 of 3000")
+                        && says_at(alloc, &row, 2, b"nodes 5 of 1000000");
+                    drop(row);
+                    number == 0 && are_said
+                }
+                Err(_) => false,
+            }
+        }
+        (deny, depth, nodes) => {
+            drop(nodes);
+            drop(depth);
+            drop(deny);
+            false
+        }
     }
-    let deny = takes(alloc, &mut row[0], "Other");
-    let shown = show_it(alloc, &mut row, rules, proof, list);
-    if row.len() < 3 {
-        return None;
-    }
-    let is = deny == Some(true)
-        && objected(&shown, "") == 0
-        && says(alloc, &row[1], b"depth 3 of 3000")
-        && says(alloc, &row[2], b"nodes 5 of 1000000");
-    drop(shown);
-    drop(row);
-    Some(is)
 }
 
 /// What holds of the derivation in its boxes, and of its list.
@@ -158,10 +208,10 @@ fn both_ways(alloc: Global, rules: &RuleSet, proof: &Proof) -> Option<[bool; 4]>
     }
     let list = preorder(alloc, proof).ok()?;
     let hold = [
-        stops(alloc, rules, proof, None) == Some(true),
-        stops(alloc, rules, proof, Some(&list)) == Some(true),
-        passes(alloc, rules, proof, None) == Some(true),
-        passes(alloc, rules, proof, Some(&list)) == Some(true),
+        stops(alloc, rules, proof, None),
+        stops(alloc, rules, proof, Some(&list)),
+        passes(alloc, rules, proof, None),
+        passes(alloc, rules, proof, Some(&list)),
     ];
     drop(list);
     Some(hold)

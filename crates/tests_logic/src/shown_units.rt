@@ -9,6 +9,7 @@ ghost use Rattle.sx_rules.specs.Sets.{bare_rules_in};
 ghost use Rattle.sx_rules.specs.Views.{goal as goal_of};
 
 use crate::asserts::assert_same;
+use crate::auditors::boxed;
 use crate::samples::{PAIR, W, Z, rules};
 use crate::shown::is_shallow;
 use crate::terms::goal;
@@ -47,48 +48,76 @@ fn objected(shown: &Result<(), StepError>, name: &str, by: &str) -> u64 {
     }
 }
 
-/// Shows the derivation by its list, and tells the number of the node to which `stop` objects.
+/// Shows the derivation of the file by its list, and tells the number of the node to which `stop`
+/// objects.
 fn show_proof(
     alloc: Global,
+    file: &Text,
     auditors: &mut Vec<Box<dyn Auditor>>,
     rules: &RuleSet,
     proof: &Proof,
-) -> Option<u64>
+) -> u64
     requires { (j : Judgement)
         × Derives (bare_rules_in rules.now) no_hypotheses j (view.proof proof.now) }
 {
     if !is_shallow(proof, 3000) {
-        return None;
+        return u64::MAX;
     }
-    let file = Text::of_str(alloc, "A.mod").ok()?;
-    let told = match preorder(alloc, proof) {
+    match preorder(alloc, proof) {
         Ok(list) => {
-            let shown = show_unit(alloc, &file, auditors, rules, &list);
+            let shown = show_unit(alloc, file, auditors, rules, &list);
             drop(list);
             let told = objected(&shown, "stop", "Z");
             drop(shown);
-            Some(told)
+            told
         }
-        Err(_) => None,
-    };
-    drop(file);
-    told
+        Err(_) => u64::MAX,
+    }
+}
+
+/// The same of `A.mod`.
+fn show_file(
+    alloc: Global,
+    auditors: &mut Vec<Box<dyn Auditor>>,
+    rules: &RuleSet,
+    proof: &Proof,
+) -> u64
+    requires { (j : Judgement)
+        × Derives (bare_rules_in rules.now) no_hypotheses j (view.proof proof.now) }
+{
+    match Text::of_str(alloc, "A.mod") {
+        Ok(file) => {
+            let told = show_proof(alloc, &file, auditors, rules, proof);
+            drop(file);
+            told
+        }
+        Err(_) => u64::MAX,
+    }
 }
 
 /// What is told of two derivations one after the other.
-fn two_shown(alloc: Global, rules: &RuleSet, one: &Proof, other: &Proof) -> Option<[u64; 2]>
+fn two_shown(alloc: Global, rules: &RuleSet, one: &Proof, other: &Proof) -> [u64; 2]
     requires one { (j : Judgement)
         × Derives (bare_rules_in rules.now) no_hypotheses j (view.proof one.now) }
     requires other { (j : Judgement)
         × Derives (bare_rules_in rules.now) no_hypotheses j (view.proof other.now) }
 {
-    let mut row: Vec<Box<dyn Auditor>> = Vec::new(alloc);
-    row.push(Box::new(alloc, Stop::new(alloc).ok()?).ok()?)
-        .ok()?;
-    let first = show_proof(alloc, &mut row, rules, one)?;
-    let second = show_proof(alloc, &mut row, rules, other)?;
-    drop(row);
-    Some([first, second])
+    match boxed(alloc, Stop::new(alloc)) {
+        Some(made) => {
+            let stop: Box<dyn Auditor> = made;
+            match Vec::from_array(alloc, [stop]) {
+                Ok(made) => {
+                    let mut row = made;
+                    let first = show_file(alloc, &mut row, rules, one);
+                    let second = show_file(alloc, &mut row, rules, other);
+                    drop(row);
+                    [first, second]
+                }
+                Err(_) => [u64::MAX; 2],
+            }
+        }
+        None => [u64::MAX; 2],
+    }
 }
 
 /// What is told of the first derivations of the goals.
@@ -98,7 +127,7 @@ fn goals_shown<L: Ledger>(
     one: &Goal,
     other: &Goal,
     blank: Blank,
-) -> Option<[u64; 2]>
+) -> [u64; 2]
     requires name { blank.name ≡ L.name }
     requires parts { blank.parts ≡ L.parts }
     requires some { 0 < blank.parts }
@@ -112,7 +141,7 @@ fn goals_shown<L: Ledger>(
     drop(given);
     let told = match (&first, &second) {
         (Ok(a), Ok(b)) => two_shown(alloc, rules, &a.proof, &b.proof),
-        _ => None,
+        _ => [u64::MAX; 2],
     };
     drop(second);
     drop(first);
@@ -120,23 +149,33 @@ fn goals_shown<L: Ledger>(
 }
 
 /// What is told of the term 0, and then of the pair of 0 and 1.
-fn pair_is_shown(alloc: Global) -> Option<[u64; 2]> {
-    let one = goal(alloc, "(0)")?;
-    let other = goal(alloc, "(3 (0) (1))")?;
-    let told = match rules(alloc, Z, W, PAIR) {
-        Some(rules) => {
-            let told = goals_shown::<Brand>(alloc, &rules, &one, &other, Blank::new(1));
-            drop(rules);
-            told
+fn pair_is_shown(alloc: Global, rules: &RuleSet) -> [u64; 2] {
+    let one = goal(alloc, "(0)");
+    let other = goal(alloc, "(3 (0) (1))");
+    let told = match (&one, &other) {
+        (Some(one), Some(other)) => {
+            goals_shown::<Brand>(alloc, rules, one, other, Blank::new(1))
         }
-        None => None,
+        _ => [u64::MAX; 2],
     };
     drop(other);
     drop(one);
     told
 }
 
+/// The same by the rules for two terms and pairs.
+fn pair_is_shown_by_rules(alloc: Global) -> [u64; 2] {
+    match rules(alloc, Z, W, PAIR) {
+        Some(rules) => {
+            let told = pair_is_shown(alloc, &rules);
+            drop(rules);
+            told
+        }
+        None => [u64::MAX; 2],
+    }
+}
+
 #[test]
 fn the_third_node_is_the_second_of_its_unit(rt: HostRuntime) {
-    assert_same(&rt, &pair_is_shown(rt.alloc()), &Some([0, 2]));
+    assert_same(&rt, &pair_is_shown_by_rules(rt.alloc()), &[0, 2]);
 }

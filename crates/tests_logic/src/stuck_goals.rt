@@ -1,7 +1,7 @@
 //! Which goal is stuck where nothing is derived, and why.
 
 use crate::asking::{Stuck, Told, Why, answer};
-use crate::asserts::assert_same;
+use crate::asserts::{assert_holds, assert_same};
 use crate::samples::{PAIR, W, Z, rules};
 use std::alloc::Global;
 
@@ -14,10 +14,14 @@ end
 
 /// What is answered by the rules for two terms and pairs.
 fn by_pairs(alloc: Global, subject: &str, budget: u64) -> Option<Told> {
-    let rules = rules(alloc, Z, W, PAIR)?;
-    let told = answer(alloc, &rules, subject, budget);
-    drop(rules);
-    told
+    match rules(alloc, Z, W, PAIR) {
+        Some(rules) => {
+            let told = answer(alloc, &rules, subject, budget);
+            drop(rules);
+            told
+        }
+        None => None,
+    }
 }
 
 /// What is told where no rule fits a goal for the term 2.
@@ -49,10 +53,14 @@ fn places_of_stuck_goals(rt: HostRuntime) {
 
 /// What is answered for the term 1, where x and x would have to be apart.
 fn never(alloc: Global) -> Option<Told> {
-    let rules = rules(alloc, PAIR, Z, NEVER)?;
-    let told = answer(alloc, &rules, "(1)", 9);
-    drop(rules);
-    told
+    match rules(alloc, PAIR, Z, NEVER) {
+        Some(rules) => {
+            let told = answer(alloc, &rules, "(1)", 9);
+            drop(rules);
+            told
+        }
+        None => None,
+    }
 }
 
 #[test]
@@ -63,5 +71,5 @@ fn equal_lexemes(rt: HostRuntime) {
         first: None,
         why: Why::Equal(2, 0),
     };
-    assert!(rt; never(rt.alloc()) == Some(Told::Stuck(equal)));
+    assert_holds(&rt, never(rt.alloc()) == Some(Told::Stuck(equal)));
 }

@@ -6,14 +6,14 @@ ghost use Rattle.sx_rules.specs.Views.{goal as goal_of};
 
 use crate::asking::no_hypotheses;
 use crate::asserts::assert_same;
-use crate::samples::{OTHER_Z, PAIR, W, Z, rules};
+use crate::samples::{OTHER_Z, PAIR, W, Z, joined, rules};
 use crate::terms::goal;
 use std::alloc::Global;
 use std::marker::Brand;
 use std::sync::ledger::{Blank, Ledger};
 use sx_derive::{Found, Search, SearchError};
 use sx_rules::{Goal, RuleSet};
-use sx_term::{NoMemory, Steps, Text};
+use sx_term::{Steps, Text};
 
 /// A pair of terms with types has the type 4.
 const LOOSE_PAIR: &[u8] = b"rule Pair Exp Exp Ty Ty
@@ -23,22 +23,18 @@ then typing (3 ?0 ?1) (4)
 end
 ";
 
-/// What a call of a search comes to.
-#[derive(Clone, Copy, PartialEq)]
-enum Call {
-    /// A derivation, after so many tries.
-    Found(u64),
-    /// The tries of the call are spent.
-    Paused,
-    /// No derivation is left, or another stop.
-    Over,
-}
+/// The tries of the call are spent.
+const PAUSED: u64 = u64::MAX - 1;
 
-fn call_of(found: &Result<Found, SearchError>) -> Call {
+/// No derivation is left, or another stop.
+const OVER: u64 = u64::MAX;
+
+/// The tries after which a derivation is found; one of the two where none is.
+fn call_of(found: &Result<Found, SearchError>) -> u64 {
     match found {
-        Ok(Found::Next(_, tries)) => Call::Found(*tries),
-        Ok(Found::Paused) => Call::Paused,
-        _ => Call::Over,
+        Ok(Found::Next(_, tries)) => *tries,
+        Ok(Found::Paused) => PAUSED,
+        _ => OVER,
     }
 }
 
@@ -49,7 +45,7 @@ fn three_calls<L: Ledger>(
     goal: Goal,
     budgets: (u64, u64, u64),
     blank: Blank,
-) -> Option<[Call; 3]>
+) -> Option<[u64; 3]>
     requires name { blank.name ≡ L.name }
     requires parts { blank.parts ≡ L.parts }
     requires some { 0 < blank.parts }
@@ -82,55 +78,71 @@ fn calls(
     rules: &RuleSet,
     subject: &str,
     budgets: (u64, u64, u64),
-) -> Option<[Call; 3]> {
+) -> Option<[u64; 3]> {
     let goal = goal(alloc, subject)?;
     three_calls::<Brand>(alloc, rules, goal, budgets, Blank::new(1))
 }
 
 /// What three calls for a pair of two terms come to.
-fn pair_calls(alloc: Global, budgets: (u64, u64, u64)) -> Option<[Call; 3]> {
-    let rules = rules(alloc, Z, W, PAIR)?;
-    let told = calls(alloc, &rules, "(3 (0) (1))", budgets);
-    drop(rules);
-    told
+fn pair_calls(alloc: Global, budgets: (u64, u64, u64)) -> Option<[u64; 3]> {
+    match rules(alloc, Z, W, PAIR) {
+        Some(rules) => {
+            let told = calls(alloc, &rules, "(3 (0) (1))", budgets);
+            drop(rules);
+            told
+        }
+        None => None,
+    }
 }
 
 #[test]
 fn goes_on_after_a_pause(rt: HostRuntime) {
     let alloc = rt.alloc();
-    let hold = [
-        pair_calls(alloc, (6, 9, 9)) == Some([Call::Found(6), Call::Over, Call::Over]),
-        pair_calls(alloc, (5, 1, 9)) == Some([Call::Paused, Call::Found(1), Call::Over]),
-    ];
-    assert_same(&rt, &hold, &[true; 2]);
+    let found = [pair_calls(alloc, (6, 9, 9)), pair_calls(alloc, (5, 1, 9))];
+    let wanted = &[Some([6, OVER, OVER]), Some([PAUSED, 1, OVER])];
+    assert_same(&rt, &found, wanted);
 }
 
-/// The text of a pair of this text with itself.
-fn doubled(alloc: Global, part: &[u8]) -> Result<Vec<u8>, NoMemory> {
-    let mut text = Vec::from_slice(alloc, b"(3 ")?;
-    text.extend_from_slice(part)?;
-    text.push(b' ')?;
-    text.extend_from_slice(part)?;
-    text.push(b')')?;
-    Ok(text)
+/// The text of a pair of this text with itself; less where memory is lacking.
+fn doubled(alloc: Global, part: &[u8]) -> Vec<u8> {
+    joined(alloc, &[b"(3 ", part, b" ", part, b")"])
 }
 
 /// The core text of a tree of pairs with so many levels, whose leaves are the term 0.
-fn tree_text(alloc: Global, levels: usize) -> Result<Vec<u8>, NoMemory> {
-    let mut text = Vec::from_slice(alloc, b"(0)")?;
+fn tree_text(alloc: Global, levels: usize) -> Vec<u8> {
+    let mut text = joined(alloc, &[b"(0)"]);
     for _level in 0..levels {
-        text = doubled(alloc, &text)?;
+        let next = doubled(alloc, &text);
+        drop(text);
+        text = next;
     }
-    Ok(text)
+    text
+}
+
+/// What three calls for the subject's type come to, by rules that give a leaf two types.
+fn loose_calls(alloc: Global, subject: &str, budgets: (u64, u64, u64)) -> Option<[u64; 3]> {
+    match rules(alloc, Z, OTHER_Z, LOOSE_PAIR) {
+        Some(rules) => {
+            let told = calls(alloc, &rules, subject, budgets);
+            drop(rules);
+            told
+        }
+        None => None,
+    }
 }
 
 /// What three calls for the type of a tree of six levels come to.
-fn tree_calls(alloc: Global, budgets: (u64, u64, u64)) -> Option<[Call; 3]> {
-    let bytes = tree_text(alloc, 6).ok()?;
-    let text = Text::make(alloc, &bytes).ok()?;
-    let rules = rules(alloc, Z, OTHER_Z, LOOSE_PAIR)?;
-    let told = calls(alloc, &rules, text.as_str(), budgets);
-    drop(rules);
+fn tree_calls(alloc: Global, budgets: (u64, u64, u64)) -> Option<[u64; 3]> {
+    let bytes = tree_text(alloc, 6);
+    let told = match Text::make(alloc, &bytes) {
+        Ok(text) => {
+            let told = loose_calls(alloc, text.as_str(), budgets);
+            drop(text);
+            told
+        }
+        Err(_) => None,
+    };
+    drop(bytes);
     told
 }
 
@@ -138,9 +150,9 @@ fn tree_calls(alloc: Global, budgets: (u64, u64, u64)) -> Option<[Call; 3]> {
 #[test]
 fn the_first_of_very_many(rt: HostRuntime) {
     let alloc = rt.alloc();
-    let hold = [
-        tree_calls(alloc, (253, 1, 3)) == Some([Call::Found(253), Call::Found(1), Call::Found(3)]),
-        tree_calls(alloc, (252, 1, 1)) == Some([Call::Paused, Call::Found(1), Call::Found(1)]),
+    let found = [
+        tree_calls(alloc, (253, 1, 3)),
+        tree_calls(alloc, (252, 1, 1)),
     ];
-    assert_same(&rt, &hold, &[true; 2]);
+    assert_same(&rt, &found, &[Some([253, 1, 3]), Some([PAUSED, 1, 1])]);
 }
