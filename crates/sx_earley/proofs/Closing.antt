@@ -15,10 +15,13 @@ use Rattle.sx_earley.specs.Growth.{GoesOnFrom, Only}
 use Rattle.sx_earley.specs.Chart.{Foresees, Follows, by_prediction, by_scanning, by_filling}
 use Rattle.sx_earley.specs.Chart.{by_waiting, AllFollow, Joins, ReadsNext, next_symbol}
 use Rattle.sx_earley.specs.Chart.{symbol_after, as_part, IsOfSort, HasDotAtEnd, IsPredicted, moved}
-use Rattle.sx_earley.specs.Chart.{beginning, Treated}
+use Rattle.sx_earley.specs.Chart.{beginning, Treated, IsAsked}
+use Rattle.sx_earley.specs.Counted.{AllAsked, IsBusy, IsCounted}
+use Rattle.sx_earley.specs.declared.ask.Ask.{Ask}
 use Rattle.sx_grammar.specs.ReadOne.{Holds}
 use Rattle.sx_earley.proofs.Growth.{still_there}
-use Rattle.sx_earley.proofs.Predicting.{there_is}
+use Rattle.sx_earley.proofs.Waiting.{there_is}
+use Rattle.sx_earley.proofs.Idling.{idle_waits, idle_open, idle_unread}
 
 -- the symbol whose part this is
 pub part_is : (o : Option Symbol) (sort least : ℕ) → as_part o ≡ Some (sort, least) → o ≡ Some (part sort least)
@@ -36,7 +39,7 @@ module _ (g : Grammar) where
   next_is : (head : Head) (dot : ℕ) (symbol : Symbol) → next_symbol g head dot ≡ Some symbol → NextIs g head dot symbol
   next_is head dot symbol e = symbol_there (production_of g head) dot symbol e
 
-  is_next : (head : Head) (dot : ℕ) (symbol : Symbol) → NextIs g head dot symbol → next_symbol g head dot ≡ Some symbol
+  pub is_next : (head : Head) (dot : ℕ) (symbol : Symbol) → NextIs g head dot symbol → next_symbol g head dot ≡ Some symbol
   is_next head dot symbol n = ap (λ o. symbol_after o dot) n.1 ∙ n.2
 
   makes_is : (head : Head) (sort least : ℕ) → IsOfSort (production_of g head) sort least → Makes g head sort least
@@ -57,10 +60,10 @@ module _ (g : Grammar) where
   reads_there tokens (Some symbol) place h = (symbol, refl, h)
 
 module _ (g : Grammar) (tokens : List Token) (start : ℕ) where
-  start_holds : (i : Item) → IsPredicted g start 0 0 i → Holds g tokens start i
+  pub start_holds : (i : Item) → IsPredicted g start 0 0 i → Holds g tokens start i
   start_holds i p = rw (p.1, p.2, p.3) (started (makes_is g i.head start 0 p.0))
 
-  prediction_holds : (item i : Item) → Holds g tokens start item → Foresees g item i → Holds g tokens start i
+  pub prediction_holds : (item i : Item) → Holds g tokens start item → Foresees g item i → Holds g tokens start i
   prediction_holds item i h f =
       let next = next_is g item.head item.dot (part f.sort f.least) (part_is (next_symbol g item.head item.dot) f.sort f.least f.waits) in
       rw (f.fits.1, f.fits.2, f.fits.3) (predicted h next (makes_is g i.head f.sort f.least f.fits.0))
@@ -79,7 +82,7 @@ module _ (g : Grammar) (tokens : List Token) (start : ℕ) where
   -- what follows from items that hold holds
   pub follows_hold : (IsBefore IsFilling : Item → Type 0) (item : Item) → Holds g tokens start item → ((x : Item) → IsBefore x → Holds g tokens start x) →
       ((x : Item) → IsFilling x → Holds g tokens start x) → (i : Item) → Follows g tokens IsBefore IsFilling item i → Holds g tokens start i
-  follows_hold IsBefore IsFilling item h all every i (by_prediction f) = prediction_holds item i h f
+  follows_hold IsBefore IsFilling item h all every i (by_prediction f busy) = prediction_holds item i h f
   follows_hold IsBefore IsFilling item h all every i (by_scanning r e) = subst (Holds g tokens start) (sym e) (scan_holds item h r)
   follows_hold IsBefore IsFilling item h all every i (by_filling j) =
       subst (Holds g tokens start) (sym j.5) (join_holds j.0 j.1 (all j.0 j.2) (subst (Holds g tokens start) (sym j.3) h) j.4)
@@ -87,20 +90,19 @@ module _ (g : Grammar) (tokens : List Token) (start : ℕ) where
       subst (Holds g tokens start) (sym j.5) (join_holds j.0 j.1 (subst (Holds g tokens start) (sym j.2) h) (every j.1 j.3) j.4)
 
   -- one more item has been treated
-  pub treated_more : (done : List Item) (item : Item) (keys more : List Item) (IsBefore IsFilling : Item → Type 0) → GoesOnFrom keys more → Treated g tokens done keys →
-      AllFollow g tokens IsBefore IsFilling item more → ((x : Item) → Contains (done ++ item ∷ []) x → Joins g x item → IsBefore x) →
-      ((x : Item) → Contains (done ++ item ∷ []) x → Joins g item x → IsFilling x) → Treated g tokens (done ++ item ∷ []) more
-  treated_more done item keys more IsBefore IsFilling grown t f has_before has_filling = record {
-    predictions = λ x there sort least head waits fits. by_prediction_of x (Contains-push_cases done item x there) sort least head waits fits;
+  pub treated_more : (done : List Item) (item : Item) (asked asks : List Ask) (keys more : List Item) (IsBefore IsFilling : Item → Type 0) → GoesOnFrom keys more →
+      ((i : Item) → IsAsked g asked i → IsAsked g asks i) → Treated g tokens done asked keys →
+      AllFollow g tokens IsBefore IsFilling item asks more → ((x : Item) → Contains (done ++ item ∷ []) x → Joins g x item → IsBefore x) →
+      ((x : Item) → Contains (done ++ item ∷ []) x → Joins g item x → IsFilling x) → Treated g tokens (done ++ item ∷ []) asks more
+  treated_more done item asked asks keys more IsBefore IsFilling grown still t f has_before has_filling = record {
+    predictions = λ x there i foresees. by_prediction_of x (Contains-push_cases done item x there) i foresees;
     scanned = λ x there reads. by_scan_of x (Contains-push_cases done item x there) reads;
     joined = λ before filling there there' joins. by_join_of before filling there there' (Contains-push_cases done item before there) (Contains-push_cases done item filling there') joins;
   }
     where
-      by_prediction_of : (x : Item) → Contains done x ⊎ (item ≡ x) → (sort least : ℕ) (head : Head) → as_part (next_symbol g x.head x.dot) ≡ Some (sort, least) →
-          IsOfSort (production_of g head) sort least → Contains more (beginning head x.end)
-      by_prediction_of x (inl old) sort least head waits fits = still_there keys more (beginning head x.end) grown (t.predictions x old sort least head waits fits)
-      by_prediction_of x (inr e) sort least head waits fits =
-          subst (λ y. Contains more (beginning head y.end)) e (f.predictions sort least head (subst (λ y. as_part (next_symbol g y.head y.dot) ≡ Some (sort, least)) (sym e) waits) fits)
+      by_prediction_of : (x : Item) → Contains done x ⊎ (item ≡ x) → (i : Item) → Foresees g x i → IsAsked g asks i
+      by_prediction_of x (inl old) i foresees = still i (t.predictions x old i foresees)
+      by_prediction_of x (inr e) i foresees = f.predictions i (subst (λ y. Foresees g y i) (sym e) foresees)
 
       by_scan_of : (x : Item) → Contains done x ⊎ (item ≡ x) → ReadsNext tokens (next_symbol g x.head x.dot) x.end → Contains more (moved x (x.end + 1))
       by_scan_of x (inl old) reads = still_there keys more (moved x (x.end + 1)) grown (t.scanned x old reads)
@@ -116,31 +118,55 @@ module _ (g : Grammar) (tokens : List Token) (start : ℕ) where
           let now = subst (λ y. Joins g before y) (sym e) joins in
           subst (λ y. Contains more (moved before y.end)) e (f.filled before (has_before before a now) now)
 
-  -- a set that begins with the start's productions and is closed has every item that holds
-  pub closed_has : (keys : List Item) → ((head : Head) → IsOfSort (production_of g head) start 0 → Contains keys (beginning head 0)) → Treated g tokens keys keys →
-      {head : Head} {dot origin end : ℕ} → items.Item g tokens start head dot origin end → Contains keys (record { head = head; dot = dot; origin = origin; end = end })
-  closed_has keys starts t (started {head = head} makes) = starts head (is_of_sort g head start 0 makes)
-  closed_has keys starts t (predicted {head = head} {other = other} {dot = dot} {origin = origin} {end = end} {sort = sort} {least = least} item next makes) =
-      t.predictions (record { head = head; dot = dot; origin = origin; end = end }) (closed_has keys starts t item) sort least other
-      (ap as_part (is_next g head dot (part sort least) next)) (is_of_sort g other sort least makes)
-  closed_has keys starts t (scanned {head = head} {dot = dot} {origin = origin} {end = end} {symbol = symbol} item next reads) =
-      simp add-one at (t.scanned (record { head = head; dot = dot; origin = origin; end = end }) (closed_has keys starts t item)
-      (subst (λ o. ReadsNext tokens o end) (sym (is_next g head dot symbol next)) reads))
-  closed_has keys starts t (completed {head = head} {other = other} {dot = dot} {full = full} {origin = origin} {middle = middle} {end = end} {sort = sort} {least = least} item next inner makes full_is) =
-      simp add-one at (t.joined (record { head = head; dot = dot; origin = origin; end = middle }) (record { head = other; dot = full; origin = middle; end = end })
-      (closed_has keys starts t item) (closed_has keys starts t inner)
-      (record {
-        sort = sort;
-        least = least;
-        waits = ap as_part (is_next g head dot (part sort least) next);
-        fits = is_of_sort g other sort least makes;
-        complete = ends_is g other full full_is;
-        meets = refl;
-      }))
+  -- what follows from what is asked for and closed has every item that holds, but for idle ones, which were asked for
+  module _ (asked : List Ask) (keys : List Item) (starts : (i : Item) → IsPredicted g start 0 0 i → IsAsked g asked i) (all : AllAsked g tokens asked keys)
+      (t : Treated g tokens keys asked keys) where
+    abbrev Met : Item → Type 0
+    Met i = Contains keys i ⊎ IsCounted g tokens asked i
+
+    met : (i : Item) → IsAsked g asked i → Met i
+    met i a = ⊎_elim (λ there. inl there) (λ idle. inr (idle, a)) (all i a)
+
+    -- an item that something follows from is not idle
+    kept_waiting : (i : Item) (sort least : ℕ) → as_part (next_symbol g i.head i.dot) ≡ Some (sort, least) → Met i → Contains keys i
+    kept_waiting i sort least e h = ⊎_elim (λ there. there) (λ c. absurd (idle_waits g tokens i c.0 sort least e)) h
+
+    kept_reading : (i : Item) → ReadsNext tokens (next_symbol g i.head i.dot) i.end → Met i → Contains keys i
+    kept_reading i r h = ⊎_elim (λ there. there) (λ c. absurd (idle_unread g tokens i c.0 r)) h
+
+    kept_complete : (i : Item) → HasDotAtEnd (production_of g i.head) i.dot → Met i → Contains keys i
+    kept_complete i ends h = ⊎_elim (λ there. there) (λ c. absurd (idle_open g tokens i c.0 ends)) h
+
+    pub closed_has : {head : Head} {dot origin end : ℕ} → items.Item g tokens start head dot origin end →
+        Contains keys (record { head = head; dot = dot; origin = origin; end = end }) ⊎ IsCounted g tokens asked (record { head = head; dot = dot; origin = origin; end = end })
+    closed_has (started {head = head} makes) = met (beginning head 0) (starts (beginning head 0) (is_of_sort g head start 0 makes, refl, refl, refl))
+    closed_has (predicted {head = head} {other = other} {dot = dot} {origin = origin} {end = end} {sort = sort} {least = least} item next makes) =
+        let at : Item = record { head = head; dot = dot; origin = origin; end = end } in
+        let waits : as_part (next_symbol g head dot) ≡ Some (sort, least) = ap as_part (is_next g head dot (part sort least) next) in
+        met (beginning other end) (t.predictions at (kept_waiting at sort least waits (closed_has item)) (beginning other end)
+        (record { sort = sort; least = least; waits = waits; fits = (is_of_sort g other sort least makes, refl, refl, refl) }))
+    closed_has (scanned {head = head} {dot = dot} {origin = origin} {end = end} {symbol = symbol} item next reads) =
+        let at : Item = record { head = head; dot = dot; origin = origin; end = end } in
+        let read : ReadsNext tokens (next_symbol g head dot) end = subst (λ o. ReadsNext tokens o end) (sym (is_next g head dot symbol next)) reads in
+        inl (simp add-one at (t.scanned at (kept_reading at read (closed_has item)) read))
+    closed_has (completed {head = head} {other = other} {dot = dot} {full = full} {origin = origin} {middle = middle} {end = end} {sort = sort} {least = least} item next inner makes full_is) =
+        let before : Item = record { head = head; dot = dot; origin = origin; end = middle } in
+        let filling : Item = record { head = other; dot = full; origin = middle; end = end } in
+        let waits : as_part (next_symbol g head dot) ≡ Some (sort, least) = ap as_part (is_next g head dot (part sort least) next) in
+        let complete : HasDotAtEnd (production_of g other) full = ends_is g other full full_is in
+        inl (simp add-one at (t.joined before filling (kept_waiting before sort least waits (closed_has item)) (kept_complete filling complete (closed_has inner))
+        (record {
+          sort = sort;
+          least = least;
+          waits = waits;
+          fits = is_of_sort g other sort least makes;
+          complete = complete;
+          meets = refl;
+        })))
 
   -- nothing has been treated yet
-  pub treated_none : (done keys : List Item) → done ≡ [] → Treated g tokens done keys
-  treated_none done keys none = record {
+  pub treated_none : (done : List Item) (asked : List Ask) (keys : List Item) → done ≡ [] → Treated g tokens done asked keys
+  treated_none done asked keys none = record {
     predictions = λ x there. absurd (empty x there);
     scanned = λ x there. absurd (empty x there);
     joined = λ x y there. absurd (empty x there);
@@ -149,8 +175,8 @@ module _ (g : Grammar) (tokens : List Token) (start : ℕ) where
       empty : (x : Item) → Contains done x → ⊥
       empty x there = let h : Contains [] x = subst (λ l. Contains l x) none there in let low = h.1 in omega arith
 
-  pub starts_hold : (old keys : List Item) → old ≡ [] → Only old keys (IsPredicted g start 0 0) → (i : Item) → Contains keys i → Holds g tokens start i
-  starts_hold old keys none only i there = ⊎_elim (λ was. absurd (empty was)) (λ p. start_holds i p) (only i there)
+  pub starts_hold : (old keys : List Item) → old ≡ [] → Only old keys (IsBusy g tokens (IsPredicted g start 0 0)) → (i : Item) → Contains keys i → Holds g tokens start i
+  starts_hold old keys none only i there = ⊎_elim (λ was. absurd (empty was)) (λ p. start_holds i p.0) (only i there)
     where
       empty : Contains old i → ⊥
       empty was = let h : Contains [] i = subst (λ l. Contains l i) none was in let low = h.1 in omega arith
@@ -182,6 +208,6 @@ ended xs n e = ⊎_elim (λ low. absurd (none-some (get_or xs n no_item) (e ∙ 
 pub nothing_in : {X : Type 0} (l : List X) (x : X) → l ≡ [] → Contains l x → ⊥
 nothing_in l x none there = let h : Contains [] x = subst (λ m. Contains m x) none there in let low = h.1 in omega arith
 
-pub empty_front : (keys : List Item) → take 0 keys ≡ []
+pub empty_front : {X : Type 0} (keys : List X) → take 0 keys ≡ []
 empty_front [] = refl
 empty_front (x ∷ xs) = refl

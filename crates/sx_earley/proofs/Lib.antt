@@ -4,8 +4,12 @@ pub mod Same
 pub mod Hashed
 pub mod ItemSets
 pub mod Growth
+pub mod Counts
+pub mod Idling
 pub mod Asking
+pub mod Leasts
 pub mod Predicting
+pub mod Foreseeing
 pub mod Scanning
 pub mod Waiting
 pub mod Numbering
@@ -16,7 +20,8 @@ pub mod Passing
 pub mod Walking
 pub mod Treating
 pub mod Counting
-pub mod Opening
+pub mod Opened
+pub mod Whole
 pub mod Turning
 pub mod Spanning
 pub mod Literals

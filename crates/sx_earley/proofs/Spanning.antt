@@ -4,7 +4,7 @@ use Rattle.std.specs.List.{slice_get}
 use Rattle.std.proofs.lemmas.Option.{same_Some, none-some}
 use Rattle.std.proofs.lemmas.List.Elements.{Contains-push, Contains-push_cases, Contains-append_left}
 use Rattle.std.proofs.lemmas.Bool.{cases_lt}
-use Rattle.sx_grammar.specs.Grammar.{Production, Grammar, Token, production_of}
+use Rattle.sx_grammar.specs.Grammar.{Production, Grammar, Token, part, production_of}
 use Rattle.sx_grammar.specs.Tally.{Among, EachOnce}
 use Rattle.sx_grammar.specs.declared.head.Head.{Head}
 use Rattle.sx_grammar.specs.declared.head.Head.TheVariants.{Labelled, Bracketed}
@@ -14,11 +14,13 @@ use Rattle.sx_grammar.specs.ReadOne.{Holds, IsGreatestEnd}
 use Rattle.sx_earley.specs.declared.span.Span.{Span}
 use Rattle.sx_earley.specs.declared.span.SpanOf.{SpanOf}
 use Rattle.sx_earley.specs.declared.span.SpanOf.TheVariants.{Node, Bracket}
-use Rattle.sx_earley.specs.Chart.{HasDotAtEnd}
+use Rattle.sx_earley.specs.Chart.{HasDotAtEnd, IsIdle, as_part}
+use Rattle.sx_earley.specs.Counted.{AreItems}
 use Rattle.sx_earley.specs.Completed.{head_of, of_head, span_of, IsChart, AreSpans, AddsSpan}
 use Rattle.sx_earley.specs.Completed.{IsReach}
 use Rattle.sx_earley.proofs.Growth.{extends_self}
-use Rattle.sx_earley.proofs.Closing.{front_more, there_at, ends_there, ends_is, nothing_in}
+use Rattle.sx_earley.proofs.Closing.{front_more, there_at, ends_there, ends_is, is_next, nothing_in}
+use Rattle.sx_earley.proofs.Idling.{idle_open, idle_waits}
 
 -- what holds of a front, and of the next element, holds of the front with that element
 pub one_on : (xs : List Item) (n : ℕ) (y : Item) (P : Item → Type 0) → slice_get xs n ≡ Some y → ((x : Item) → Contains (take n xs) x → P x) → P y →
@@ -46,17 +48,17 @@ same_item g i j h k e =
     let dots : i.dot ≡ j.dot = same_ends (production_of g j.head) i.dot j.dot (subst (λ x. HasDotAtEnd (production_of g x) i.dot) heads h) k in
     λ t. record { head = heads t; dot = dots t; origin = (e t).from; end = (e t).to }
 
-among_at : (xs : List Item) (n : ℕ) (y : Item) → slice_get xs n ≡ Some y → Among y xs
+among_at : {X : Type 0} (xs : List X) (n : ℕ) (y : X) → slice_get xs n ≡ Some y → Among y xs
 among_at [] n y e = absurd (none-some y e)
 among_at (x ∷ xs) zero y e = inl (sym (same_Some x y e))
 among_at (x ∷ xs) (suc n) y e = inr (among_at xs n y e)
 
-first_or_later : (x : Item) (xs : List Item) (y : Item) → Contains (x ∷ xs) y → (x ≡ y) ⊎ Contains xs y
+pub first_or_later : {X : Type 0} (x : X) (xs : List X) (y : X) → Contains (x ∷ xs) y → (x ≡ y) ⊎ Contains xs y
 first_or_later x xs y (zero, low, e) = inl e
 first_or_later x xs y (suc k, low, e) = inr (k, omega (arith, low), e)
 
 -- an item of distinct ones does not stand before itself
-fresh : (xs : List Item) (n : ℕ) (y : Item) → EachOnce xs → slice_get xs n ≡ Some y → Contains (take n xs) y → ⊥
+fresh : {X : Type 0} (xs : List X) (n : ℕ) (y : X) → EachOnce xs → slice_get xs n ≡ Some y → Contains (take n xs) y → ⊥
 fresh [] n y once at there = absurd (none-some y at)
 fresh (x ∷ xs) zero y once at there = nothing_in [] y refl there
 fresh (x ∷ xs) (suc n) y once at there = ⊎_elim
@@ -138,30 +140,55 @@ max_end keys item most there some = ⊎_elim (λ less. inl (item, there, omega a
     greater less (inl s) = inl (s.0, s.1, omega (arith, s.2))
     greater less (inr s) = inr (omega arith)
 
--- the spans of the complete items are those that the items complete
-pub chart_is : (g : Grammar) (tokens : List Token) (start : ℕ) (keys : List Item) (spans : List Span) →
-    ((i : Item) → Contains keys i ↔ Holds g tokens start i) → AreSpans g keys spans → IsChart g tokens start spans
-chart_is g tokens start keys spans all are = λ s. (
-  (λ there.
-      let o = are.only s there in
-      let held : items.Span g tokens start o.0.head o.0.origin o.0.end = (o.0.dot, ends_there g (production_of g o.0.head) o.0.dot o.2, (all o.0).0 o.1) in
-      subst (λ x. items.Span g tokens start (head_of x.of) x.from x.to) (sym o.3) (subst (λ h. items.Span g tokens start h o.0.origin o.0.end) (sym (head_again o.0.head)) held)),
-  (λ span.
-      let i : Item = record { head = head_of s.of; dot = span.0; origin = s.from; end = s.to } in
-      let there = are.every i ((all i).1 span.2) (ends_is g (head_of s.of) span.0 span.1) in
-      subst (Contains spans) (λ t. record { of = of_again s.of t; from = s.from; to = s.to }) there),
-)
+module _ (g : Grammar) (tokens : List Token) (start : ℕ) (keys : List Item) (all : AreItems g tokens start keys) where
+  -- an item that is not idle is kept, if it holds
+  kept_busy : (i : Item) → (IsIdle g tokens i → ⊥) → Holds g tokens start i → Contains keys i
+  kept_busy i busy holds = ⊎_elim (λ kept. kept) (λ other. absurd (busy (all.idle i other))) ((all.all i).1 holds)
 
--- the reach of the items is their greatest end
-pub reach_is : (g : Grammar) (tokens : List Token) (start : ℕ) (keys : List Item) (end : ℕ) →
-    ((i : Item) → Contains keys i ↔ Holds g tokens start i) → IsReach keys end → IsGreatestEnd g tokens start end
-reach_is g tokens start keys end all h = record {
-  some = ⊎_elim (λ s. inl (s.0, (all s.0).0 s.1, s.2)) (λ at_0. by_items keys all h.0 at_0) h.1;
-  bound = λ i holds. h.0 i ((all i).1 holds);
-}
-  where
-    by_items : (keys : List Item) → ((i : Item) → Contains keys i ↔ Holds g tokens start i) → ((i : Item) → Contains keys i → i.end ≤ end) → end ≡ 0 →
-        ((i : Item) × Holds g tokens start i × (i.end ≡ end)) ⊎ (((i : Item) → Holds g tokens start i → ⊥) × (end ≡ 0))
-    by_items [] all bound at_0 = inr ((λ i holds. let there : Contains [] i = (all i).1 holds in let low = there.1 in omega arith), at_0)
-    by_items (x ∷ xs) all bound at_0 =
-        let there = there_at (x ∷ xs) 0 x refl in let low = bound x there in inl (x, (all x).0 there, omega arith)
+  -- the spans of the complete items are those that the items complete
+  pub chart_is : (spans : List Span) → AreSpans g keys spans → IsChart g tokens start spans
+  chart_is spans are = λ s. (
+    (λ there.
+        let o = are.only s there in
+        let held : items.Span g tokens start o.0.head o.0.origin o.0.end = (o.0.dot, ends_there g (production_of g o.0.head) o.0.dot o.2, (all.all o.0).0 (inl o.1)) in
+        subst (λ x. items.Span g tokens start (head_of x.of) x.from x.to) (sym o.3) (subst (λ h. items.Span g tokens start h o.0.origin o.0.end) (sym (head_again o.0.head)) held)),
+    (λ span.
+        let i : Item = record { head = head_of s.of; dot = span.0; origin = s.from; end = s.to } in
+        let ends = ends_is g (head_of s.of) span.0 span.1 in
+        let there = are.every i (kept_busy i (λ idle. idle_open g tokens i idle ends) span.2) ends in
+        subst (Contains spans) (λ t. record { of = of_again s.of t; from = s.from; to = s.to }) there),
+  )
+
+  -- an item that holds ends at 0, or where a kept one ends
+  end_of : {head : Head} {dot origin end : ℕ} → items.Item g tokens start head dot origin end → ((i : Item) × Contains keys i × (i.end ≡ end)) ⊎ (end ≡ 0)
+  end_of (items.started makes) = inr refl
+  end_of (items.predicted {head = head} {dot = dot} {origin = origin} {end = end} {sort = sort} {least = least} item next makes) =
+      let i : Item = record { head = head; dot = dot; origin = origin; end = end } in
+      inl (i, kept_busy i (λ idle. idle_waits g tokens i idle sort least (ap as_part (is_next g head dot (part sort least) next))) item, refl)
+  end_of (items.scanned {head = head} {dot = dot} {origin = origin} {end = end} item next reads) =
+      let i : Item = record { head = head; dot = suc dot; origin = origin; end = suc end } in
+      inl (i, kept_busy i (λ idle. let none : suc dot ≡ 0 = idle.0 in omega arith) (items.scanned item next reads), refl)
+  end_of (items.completed {head = head} {dot = dot} {origin = origin} {end = end} item next inner makes full) =
+      let i : Item = record { head = head; dot = suc dot; origin = origin; end = end } in
+      inl (i, kept_busy i (λ idle. let none : suc dot ≡ 0 = idle.0 in omega arith) (items.completed item next inner makes full), refl)
+
+  -- the reach of the items is their greatest end
+  pub reach_is : (end : ℕ) → IsReach keys end → IsGreatestEnd g tokens start end
+  reach_is end h = record {
+    some = ⊎_elim (λ s. inl (s.0, (all.all s.0).0 (inl s.1), s.2)) (λ at_0. by keys all.others (λ i. all.all i) bound at_0) h.1;
+    bound = bound;
+  }
+    where
+      bound : (i : Item) → Holds g tokens start i → i.end ≤ end
+      bound i holds = ⊎_elim
+          (λ kept. let low = h.0 kept.0 kept.1 in let same = kept.2 in omega arith)
+          (λ at_0. omega arith)
+          (end_of holds)
+
+      by : (kept others : List Item) → ((i : Item) → (Contains kept i ⊎ Contains others i) ↔ Holds g tokens start i) → ((i : Item) → Holds g tokens start i → i.end ≤ end) → end ≡ 0 →
+          ((i : Item) × Holds g tokens start i × (i.end ≡ end)) ⊎ (((i : Item) → Holds g tokens start i → ⊥) × (end ≡ 0))
+      by [] [] which low at_0 = inr ((λ i holds. ⊎_elim (λ there. nothing_in [] i refl there) (λ there. nothing_in [] i refl there) ((which i).1 holds)), at_0)
+      by [] (x ∷ xs) which low at_0 =
+          let holds = (which x).0 (inr (there_at (x ∷ xs) 0 x refl)) in let less = low x holds in inl (x, holds, omega arith)
+      by (x ∷ xs) others which low at_0 =
+          let holds = (which x).0 (inl (there_at (x ∷ xs) 0 x refl)) in let less = low x holds in inl (x, holds, omega arith)

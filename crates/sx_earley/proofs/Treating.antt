@@ -5,6 +5,7 @@ use Rattle.sx_grammar.specs.declared.item.Item.{Item}
 use Rattle.sx_earley.specs.Growth.{GoesOnFrom, Only}
 use Rattle.sx_earley.specs.Chart.{Foresees, Follows, by_prediction, by_scanning, by_filling}
 use Rattle.sx_earley.specs.Chart.{by_waiting, IsJoined, ReadsNext, next_symbol, moved}
+use Rattle.sx_earley.specs.Counted.{IsBusy}
 use Rattle.sx_earley.proofs.Growth.{only_on, only_more}
 use Rattle.sx_earley.specs.Keys.{AreWithin, IsKeyed}
 use Rattle.sx_earley.specs.declared.filed.Filed.{Filed}
@@ -14,8 +15,8 @@ module _ (g : Grammar) (tokens : List Token) (filed : Filed) (befores fillings :
   abbrev Next : Item → Type 0
   Next = Follows g tokens (IsKeyed old filed befores) (IsKeyed old filed fillings) item
 
-  pub after_prediction : Only old new (Foresees g item) → Only old new Next
-  after_prediction h = only_more old new (Foresees g item) Next (λ i p. by_prediction p) h
+  pub after_prediction : Only old new (IsBusy g tokens (Foresees g item)) → Only old new Next
+  after_prediction h = only_more old new (IsBusy g tokens (Foresees g item)) Next (λ i p. by_prediction p.0 p.1) h
 
   pub after_scan : Only old mid Next → Only mid new (λ i. ReadsNext tokens (next_symbol g item.head item.dot) item.end × (i ≡ moved item (item.end + 1))) → Only old new Next
   after_scan h k = only_on old mid new Next h

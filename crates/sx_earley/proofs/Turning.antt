@@ -1,13 +1,15 @@
 -- One turn of the search for items.
-use Rattle.std.proofs.Common.{◌≡◌, subst, ℕ, ◌+◌, List, [], ◌∷◌, ◌++◌, Option, Some, length, take, Contains}
+use Rattle.std.proofs.Common.{◌≡◌, subst, ⊎_elim, ℕ, ◌+◌, List, [], ◌∷◌, ◌++◌, Option, Some, length, take, Contains}
 use Rattle.std.specs.List.{slice_get}
 use Rattle.sx_grammar.specs.Grammar.{Grammar, Token}
 use Rattle.sx_grammar.specs.declared.item.Item.{Item}
 use Rattle.sx_earley.specs.Growth.{GoesOnFrom, Only}
-use Rattle.sx_earley.specs.Chart.{Follows, AllFollow, Treated, AllHold, Joins}
+use Rattle.sx_earley.specs.Chart.{Follows, AllFollow, Treated, AllHold, Joins, IsAsked, IsIdle}
+use Rattle.sx_earley.specs.declared.ask.Ask.{Ask}
 use Rattle.sx_earley.specs.Keys.{IsKey, IsAddedTo, IsFiled, IsKeyed}
 use Rattle.sx_earley.specs.declared.filed.Filed.{Filed}
 use Rattle.sx_earley.proofs.Closing.{there_at, front_more, more_hold, treated_more}
+use Rattle.sx_earley.proofs.Idling.{follows_busy}
 use Rattle.sx_earley.proofs.Keying.{filed_on, filed_later, keyed_there}
 
 -- what is known of an item that is filed, before what follows from it is added
@@ -36,14 +38,20 @@ module _ (g : Grammar) (tokens : List Token) (start : ℕ) (items : List Item) (
     turn_holds only = more_hold g tokens start items new (IsKeyed items more before) (IsKeyed items more filling) item t.sound (t.sound item here)
         (λ x is. t.sound x (keyed_there items more before x is)) (λ x is. t.sound x (keyed_there items more filling x is)) only
 
+    -- and is not idle
+    pub turn_busy : ((i : Item) → Contains items i → IsIdle g tokens i → ⊥) → Only items new (Follows g tokens (IsKeyed items more before) (IsKeyed items more filling) item) →
+        (i : Item) → Contains new i → IsIdle g tokens i → ⊥
+    turn_busy busy only i there = ⊎_elim (λ was. busy i was)
+        (λ f. follows_busy g tokens (IsKeyed items more before) (IsKeyed items more filling) item i f) (only i there)
+
     module _ (grown : GoesOnFrom items new) where
       step : take next items ++ item ∷ [] ≡ take (next + 1) new
       step = front_more items new next item grown t.at
 
-      pub turn_closed : Treated g tokens (take next items) items → AllFollow g tokens (IsKeyed items more before) (IsKeyed items more filling) item new →
-          Treated g tokens (take (next + 1) new) new
-      turn_closed closed follow = subst (λ l. Treated g tokens l new) step
-          (treated_more g tokens start (take next items) item items new (IsKeyed items more before) (IsKeyed items more filling) grown closed follow
+      pub turn_closed : (asked asks : List Ask) → ((i : Item) → IsAsked g asked i → IsAsked g asks i) → Treated g tokens (take next items) asked items →
+          AllFollow g tokens (IsKeyed items more before) (IsKeyed items more filling) item asks new → Treated g tokens (take (next + 1) new) asks new
+      turn_closed asked asks still closed follow = subst (λ l. Treated g tokens l asks new) step
+          (treated_more g tokens start (take next items) item asked asks items new (IsKeyed items more before) (IsKeyed items more filling) grown still closed follow
           (λ x there j. t.befores_all x j (front x there)) (λ x there j. t.fillings_all x j (front x there)))
 
       pub turn_filed : (x : Item) → Contains (take (next + 1) new) x → IsFiled g new more x

@@ -1,16 +1,44 @@
 -- What is asked for, found by its hash.
-use Rattle.std.specs.Prelude.{◌≡◌, ◌≤◌, ℕ, List, Contains}
+use Rattle.std.specs.Prelude.{◌≡◌, ◌≤◌, ◌⊎◌, ℕ, List, Option, Some, None, IfSome, Contains, min}
+use Rattle.sx_grammar.specs.Grammar.{Production}
 use Rattle.sx_slots.specs.Mixed.{mixed_with, folded}
 use Rattle.sx_earley.specs.declared.ask.Ask.{Ask}
+use Rattle.sx_earley.specs.Chart.{IsOfSort}
 
 -- the hash of what is asked for at any level
 abbrev pub ask_hash : Ask → ℕ
 ask_hash ask = folded (mixed_with ask.sort ask.place)
 
--- what begins for the second begins for the first
-abbrev pub Covers : Ask → Ask → Type 0
-Covers x y = (x.place ≡ y.place) × (x.sort ≡ y.sort) × (x.least ≤ y.least)
+-- they ask for the same sort at the same place
+abbrev pub IsBeside : Ask → Ask → Type 0
+IsBeside x y = (x.place ≡ y.place) × (x.sort ≡ y.sort)
 
--- so it does for one of these
-abbrev pub IsCovered : List Ask → Ask → Type 0
-IsCovered asks ask = (other : Ask) × Contains asks other × Covers other ask
+-- the lower one of the levels
+abbrev pub lower : Option ℕ → ℕ → ℕ
+lower None level = level
+lower (Some least) level = min least level
+
+-- the level is no lower than the other, if there is one
+abbrev pub IsReached : Option ℕ → ℕ → Type 0
+IsReached None level = ⊥
+IsReached (Some least) level = least ≤ level
+
+-- the level of the other is taken into account, if it is asked for there
+abbrev pub IsNextLeast : Ask → Option ℕ → Ask → Option ℕ → Type 0
+IsNextLeast ask least other next = (IsBeside other ask × (next ≡ Some (lower least other.least))) ⊎
+    ((IsBeside other ask → ⊥) × (next ≡ least))
+
+-- the least level asked for there, if there is one
+pub record IsLeast (asks : List Ask) (ask : Ask) (least : Option ℕ) : Type 0 where
+  pub bound : (other : Ask) → Contains asks other → IsBeside other ask → IsReached least other.least
+  pub some : IfSome least (λ m.
+      (other : Ask) × Contains asks other × IsBeside other ask × (other.least ≡ m))
+
+-- the level is asked for, and was not before
+abbrev pub IsNewLevel : Ask → Option ℕ → ℕ → Type 0
+IsNewLevel ask before level = (ask.least ≤ level) × (IsReached before level → ⊥)
+
+-- the production is of the sort and at least of the level, if there is one
+abbrev pub IsOfSortFrom : Option Production → ℕ → Option ℕ → Type 0
+IsOfSortFrom p sort None = ⊥
+IsOfSortFrom p sort (Some least) = IsOfSort p sort least

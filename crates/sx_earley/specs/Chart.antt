@@ -8,8 +8,6 @@ use Rattle.sx_grammar.specs.Grammar.{production_of}
 use Rattle.sx_grammar.specs.Items.{ReadsToken}
 use Rattle.sx_grammar.specs.ReadOne.{Holds}
 use Rattle.sx_earley.specs.declared.ask.Ask.{Ask}
-use Rattle.sx_earley.specs.declared.table.Table.{Table}
-use Rattle.sx_earley.specs.Table.{row_at}
 
 -- the symbol at a place of a production
 abbrev pub symbol_after : Option Production → ℕ → Option Symbol
@@ -47,15 +45,40 @@ abbrev pub sort_made : Option Production → Option ℕ
 sort_made None = None
 sort_made (Some p) = Some p.sort
 
+-- the sort and the level of the production
+abbrev pub sort_and_level : Option Production → Option (ℕ × ℕ)
+sort_and_level None = None
+sort_and_level (Some p) = Some (p.sort, p.level)
+
 -- the item begins a production of the sort from the level on at the place
 abbrev pub IsPredicted : Grammar → ℕ → ℕ → ℕ → Item → Type 0
 IsPredicted g sort least place i =
     IsOfSort (production_of g i.head) sort least × (i.dot ≡ 0) × (i.origin ≡ place) ×
     (i.end ≡ place)
 
+-- the item begins where it was asked for
+abbrev pub IsAsked : Grammar → List Ask → Item → Type 0
+IsAsked g asked i =
+    (ask : Ask) × Contains asked ask × IsPredicted g ask.sort ask.least ask.place i
+
 -- the item that begins a head's production at the place
 abbrev pub beginning : Head → ℕ → Item
 beginning head place = record { head = head; dot = 0; origin = place; end = place }
+
+-- the symbol is that of one token
+abbrev pub IsToken : Symbol → Type 0
+IsToken (literal text) = Unit {0}
+IsToken (lexical kind) = Unit {0}
+IsToken (part sort least) = ⊥
+
+-- the symbol, if there is one, is that of one token, and does not read the token at the place
+abbrev pub IsMissed : List Token → Option Symbol → ℕ → Type 0
+IsMissed tokens None place = ⊥
+IsMissed tokens (Some symbol) place = IsToken symbol × (ReadsToken tokens symbol place → ⊥)
+
+-- the item begins with the symbol of a token that does not stand at its place: nothing follows
+abbrev pub IsIdle : Grammar → List Token → Item → Type 0
+IsIdle g tokens i = (i.dot ≡ 0) × IsMissed tokens (next_symbol g i.head i.dot) i.end
 
 -- the first item waits for a part that the second has read
 pub record Joins (g : Grammar) (before filling : Item) : Type 0 where
@@ -89,10 +112,11 @@ pub record Foresees (g : Grammar) (item other : Item) : Type 0 where
   pub fits : IsPredicted g sort least item.end other
 
 -- the item follows from this one, from those that may wait for it, and from those for which it may
--- wait
+-- wait, and is not idle
 pub data Follows (g : Grammar) (tokens : List Token) (IsBefore IsFilling : Item → Type 0)
     (item : Item) : Item → Type 0 where
-  by_prediction : {i : Item} → Foresees g item i → Follows g tokens IsBefore IsFilling item i
+  by_prediction : {i : Item} → Foresees g item i → (IsIdle g tokens i → ⊥) →
+      Follows g tokens IsBefore IsFilling item i
   by_scanning : {i : Item} → ReadsNext tokens (next_symbol g item.head item.dot) item.end →
       i ≡ moved item (item.end + 1) → Follows g tokens IsBefore IsFilling item i
   by_filling : {i : Item} → IsJoined g IsBefore (λ x. x ≡ item) i →
@@ -100,12 +124,10 @@ pub data Follows (g : Grammar) (tokens : List Token) (IsBefore IsFilling : Item 
   by_waiting : {i : Item} → IsJoined g (λ x. x ≡ item) IsFilling i →
       Follows g tokens IsBefore IsFilling item i
 
--- all that follows so is there
+-- all that follows so is there, or was asked for
 pub record AllFollow (g : Grammar) (tokens : List Token) (IsBefore IsFilling : Item → Type 0)
-    (item : Item) (keys : List Item) : Type 0 where
-  pub predictions : (sort least : ℕ) (head : Head) →
-      as_part (next_symbol g item.head item.dot) ≡ Some (sort, least) →
-      IsOfSort (production_of g head) sort least → Contains keys (beginning head item.end)
+    (item : Item) (asked : List Ask) (keys : List Item) : Type 0 where
+  pub predictions : (i : Item) → Foresees g item i → IsAsked g asked i
   pub scanned : ReadsNext tokens (next_symbol g item.head item.dot) item.end →
       Contains keys (moved item (item.end + 1))
   pub filled : (before : Item) → IsBefore before → Joins g before item →
@@ -113,11 +135,11 @@ pub record AllFollow (g : Grammar) (tokens : List Token) (IsBefore IsFilling : I
   pub filling : (other : Item) → IsFilling other → Joins g item other →
       Contains keys (moved item other.end)
 
--- what follows from these items is there
-pub record Treated (g : Grammar) (tokens : List Token) (done keys : List Item) : Type 0 where
-  pub predictions : (item : Item) → Contains done item → (sort least : ℕ) (head : Head) →
-      as_part (next_symbol g item.head item.dot) ≡ Some (sort, least) →
-      IsOfSort (production_of g head) sort least → Contains keys (beginning head item.end)
+-- what follows from these items is there, or was asked for
+pub record Treated (g : Grammar) (tokens : List Token) (done : List Item) (asked : List Ask)
+    (keys : List Item) : Type 0 where
+  pub predictions : (item : Item) → Contains done item → (i : Item) → Foresees g item i →
+      IsAsked g asked i
   pub scanned : (item : Item) → Contains done item →
       ReadsNext tokens (next_symbol g item.head item.dot) item.end →
       Contains keys (moved item (item.end + 1))
@@ -127,17 +149,3 @@ pub record Treated (g : Grammar) (tokens : List Token) (done keys : List Item) :
 -- each item of the list holds
 abbrev pub AllHold : Grammar → List Token → ℕ → List Item → Type 0
 AllHold g tokens start keys = (i : Item) → Contains keys i → Holds g tokens start i
-
--- the items begin each production of the sort
-abbrev pub HasOpenings : Grammar → ℕ → List Item → Type 0
-HasOpenings g sort row = (head : Head) (least : ℕ) → IsOfSort (production_of g head) sort least →
-    Contains row (beginning head 0)
-
--- the rows of place 0 have the items that begin each production
-abbrev pub HasAllOpenings : Grammar → Table Item → Type 0
-HasAllOpenings g t = (sort : ℕ) → HasOpenings g sort (row_at t (record { place = 0; sort = sort }))
-
--- what has been asked for begins where it was asked for
-abbrev pub AllAsked : Grammar → List Ask → List Item → Type 0
-AllAsked g asked keys = (ask : Ask) → Contains asked ask → (head : Head) →
-    IsOfSort (production_of g head) ask.sort ask.least → Contains keys (beginning head ask.place)

@@ -1,10 +1,12 @@
 pub mod Table
 pub mod ItemSet
-pub mod AskSet
 pub mod Shown
 pub mod Growth
 pub mod Chart
+pub mod AskSet
 pub mod Dotted
+pub mod Openings
+pub mod Counted
 pub mod Keys
 pub mod Tokens
 pub mod Unknown

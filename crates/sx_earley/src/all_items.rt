@@ -1,11 +1,11 @@
 //! All items that hold.
 
-ghost use Rattle.std.specs.Prelude.{◌≡◌, ◌≤◌, ◌↔◌, [], OnOk, IfOk, Contains, Err, length};
-ghost use Rattle.std.specs.Prelude.{slice_get};
-ghost use Rattle.sx_grammar.specs.ReadOne.{Holds, MoreHold};
-ghost use Rattle.sx_grammar.specs.declared.item.Item.{Item};
+ghost use Rattle.std.specs.Prelude.{◌≡◌, ◌≤◌, ◌<◌, ◌+◌, ◌↔◌, [], OnOk, IfOk, IsTrue, Err, length};
+ghost use Rattle.sx_grammar.specs.ReadOne.{MoreHold};
+ghost use Rattle.sx_grammar.specs.Tally.{EachOnce};
 ghost use Rattle.sx_earley.specs.Shown.{plain, literal_texts, tokens_of, ShownBelow};
-ghost use Rattle.sx_earley.specs.Chart.{HasAllOpenings};
+ghost use Rattle.sx_earley.specs.Counted.{AreItems};
+ghost use Rattle.sx_earley.specs.Openings.{HasAllOpenings};
 ghost use Rattle.sx_grammar.specs.ReadOne.{most_items};
 ghost use Rattle.sx_term.specs.Limits.{most_tokens};
 
@@ -19,91 +19,89 @@ use crate::item_set::ItemSet;
 use crate::neighbours::Neighbours;
 use crate::notes::Notes;
 use crate::prediction::predict_once;
-use crate::shown::Shown;
 use crate::symbols::{part_of, sort_made, symbol_of};
-use crate::table::Table;
 use std::alloc::Global;
-use sx_grammar::{Grammar, Item};
 
-/// Adds all items that hold to none, or finds that they are too many.
+/// How many items may hold.
+const MOST_ITEMS: usize = 2_000_000;
+
+/// Whether the items and so many more are too many.
+fn are_too_many(found: &ItemSet, idle: usize) -> bool
+    ensures many { IsTrue result ↔ (most_items < length found.now + idle) }
+    ensures once { EachOnce found.now }
+{
+    let kept = found.len();
+    idle > MOST_ITEMS || kept > MOST_ITEMS - idle
+}
+
+/// Adds all items that hold, but for idle ones, to none, or finds that they are too many with
+/// those.
 fn collect(
-    grammar: &Grammar,
+    given: Given,
     start: u32,
-    shown: &[Shown],
     notes: &mut Notes,
     found: &mut ItemSet,
 ) -> Result<(), ChartError>
-    requires short { length shown.now ≤ most_tokens }
-    requires below { ShownBelow (length (literal_texts grammar.now)) shown.now }
-    requires openings { HasAllOpenings (plain grammar.now) notes.old.openings.now }
+    requires short { length given.shown.now ≤ most_tokens }
+    requires below { ShownBelow (length (literal_texts given.grammar.now)) given.shown.now }
+    requires openings { HasAllOpenings given.grammar.now given.openings.now }
     requires asked { notes.old.asked ≡ [] }
     requires keys { notes.old.filed.keys ≡ [] }
     requires numbers { notes.old.filed.numbers.items ≡ [] }
     requires none { found.old ≡ [] }
-    ensures all { OnOk result ((i : Item) → Contains found.new i
-        ↔ Holds (plain grammar.now) (tokens_of grammar.now shown.now) start i) }
-    ensures few { OnOk result (MoreHold (plain grammar.now)
-        (tokens_of grammar.now shown.now) start most_items → ⊥) }
-    ensures hard { result ≡ Err ChartError.TooHard →
-        MoreHold (plain grammar.now) (tokens_of grammar.now shown.now) start most_items }
+    ensures all { OnOk result (AreItems (plain given.entry.grammar.now)
+        (tokens_of given.entry.grammar.now given.entry.shown.now) start found.new) }
+    ensures few { OnOk result (MoreHold (plain given.entry.grammar.now)
+        (tokens_of given.entry.grammar.now given.entry.shown.now) start most_items → ⊥) }
+    ensures hard { result ≡ Err ChartError.TooHard → MoreHold (plain given.entry.grammar.now)
+        (tokens_of given.entry.grammar.now given.entry.shown.now) start most_items }
 {
     let first = Ask {
         sort: start,
         least: 0,
         place: 0,
     };
-    if let Err(error) = predict_once(grammar, notes.openings, found, &mut notes.asked, first) {
-        let _count = found.len();
-        return Err(error);
+    let mut idle = predict_once(given, found, &mut notes.asked, first)?;
+    if are_too_many(found, idle) {
+        return Err(ChartError::TooHard);
     }
     let mut next = 0;
     while let Some(item) = found.get(next) {
-        let symbol = symbol_of(grammar, item.head, item.dot);
+        let symbol = symbol_of(given.grammar, item.head, item.dot);
         let part = part_of(symbol);
-        let made = sort_made(grammar, item, symbol);
+        let made = sort_made(given.grammar, item, symbol);
         let own = own_key(item, part, made);
         notes.filed.file(own, next as u32)?;
-        let given = Given {
-            grammar,
-            openings: notes.openings,
-            shown,
-        };
         let near = Neighbours {
             filed: &notes.filed,
             before: before_key(item, made),
             filling: filling_key(item, part),
         };
         let here = Dotted { item, symbol };
-        if let Err(error) = treat(given, found, &mut notes.hints, &mut notes.asked, near, here) {
-            let _count = found.len();
-            return Err(error);
+        idle += treat(given, found, &mut notes.hints, &mut notes.asked, near, here)?;
+        if are_too_many(found, idle) {
+            return Err(ChartError::TooHard);
         }
         next += 1;
     }
     Ok(())
 }
 
-/// All items that hold, or that they are too many.
-pub(crate) fn all_items(
-    alloc: Global,
-    grammar: &Grammar,
-    openings: &Table<Item>,
-    start: u32,
-    shown: &[Shown],
-) -> Result<ItemSet, ChartError>
-    requires short { length shown.now ≤ most_tokens }
-    requires below { ShownBelow (length (literal_texts grammar.now)) shown.now }
-    requires openings { HasAllOpenings (plain grammar.now) openings.now }
-    ensures all { IfOk result (λ s. (i : Item) →
-        Contains s i ↔ Holds (plain grammar.now) (tokens_of grammar.now shown.now) start i) }
-    ensures few { IfOk result (λ s. MoreHold (plain grammar.now)
-        (tokens_of grammar.now shown.now) start most_items → ⊥) }
-    ensures hard { result ≡ Err ChartError.TooHard →
-        MoreHold (plain grammar.now) (tokens_of grammar.now shown.now) start most_items }
+/// All items that hold, but for idle ones, or that they are too many with those.
+pub(crate) fn all_items(alloc: Global, given: Given, start: u32) -> Result<ItemSet, ChartError>
+    requires short { length given.shown.now ≤ most_tokens }
+    requires below { ShownBelow (length (literal_texts given.grammar.now)) given.shown.now }
+    requires openings { HasAllOpenings given.grammar.now given.openings.now }
+    ensures all { IfOk result (AreItems (plain given.entry.grammar.now)
+        (tokens_of given.entry.grammar.now given.entry.shown.now) start) }
+    ensures few { IfOk result (λ _. MoreHold (plain given.entry.grammar.now)
+        (tokens_of given.entry.grammar.now given.entry.shown.now) start most_items → ⊥) }
+    ensures hard { result ≡ Err ChartError.TooHard → MoreHold (plain given.entry.grammar.now)
+        (tokens_of given.entry.grammar.now given.entry.shown.now) start most_items }
 {
-    let mut notes = Notes::new(alloc, openings, shown.len() + 1)?;
+    let mut notes = Notes::new(alloc, given.shown.len() + 1)?;
     let mut found = ItemSet::new(alloc);
-    let collected = collect(grammar, start, shown, &mut notes, &mut found);
+    let collected = collect(given, start, &mut notes, &mut found);
     drop(notes);
     match collected {
         Ok(()) => Ok(found),

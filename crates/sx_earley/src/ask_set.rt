@@ -1,7 +1,7 @@
 //! What was asked for, found by its hash.
 
-ghost use Rattle.std.specs.Prelude.{◌≡◌, [], ◌∷◌, ◌++◌, OnOk, OnErr, IsTrue, IsFalse};
-ghost use Rattle.sx_earley.specs.AskSet.{ask_hash, Covers, IsCovered};
+ghost use Rattle.std.specs.Prelude.{◌≡◌, [], ◌∷◌, ◌++◌, ◌↔◌, OnOk, OnErr, IsTrue};
+ghost use Rattle.sx_earley.specs.AskSet.{ask_hash, IsBeside, IsLeast, IsNextLeast, lower};
 
 use crate::ask::Ask;
 use std::alloc::{AllocError, Global};
@@ -35,13 +35,35 @@ pub(crate) fn hash_of(ask: Ask) -> u32
     folded(mix(ask.sort as u64, ask.place as u64))
 }
 
-/// Whether all that begins for the second begins for the first.
+/// Whether they ask for the same sort at the same place.
 #[inline(always)]
-fn covers(one: Ask, other: Ask) -> bool
-    ensures yes { IsTrue result → Covers one other }
-    ensures no { IsFalse result → Covers one other → ⊥ }
+fn is_beside(one: Ask, other: Ask) -> bool
+    ensures { IsTrue result ↔ IsBeside one other }
 {
-    one.place == other.place && one.sort == other.sort && one.least <= other.least
+    one.place == other.place && one.sort == other.sort
+}
+
+/// The lower one of the levels.
+#[inline(always)]
+fn lower(least: Option<u8>, level: u8) -> u8
+    ensures { result ≡ lower least level }
+{
+    match least {
+        None => level,
+        Some(other) => { if other < level { other } else { level } }
+    }
+}
+
+/// The least level from which this was asked for, where the other was asked for too.
+#[inline(always)]
+fn next_least(ask: Ask, least: Option<u8>, other: Ask) -> Option<u8>
+    ensures { IsNextLeast ask least other result }
+{
+    if is_beside(other, ask) {
+        Some(lower(least, other.least))
+    } else {
+        least
+    }
 }
 
 impl AskSet {
@@ -55,21 +77,20 @@ impl AskSet {
         }
     }
 
-    /// Whether all that begins for this, of which this is the hash, was asked for.
+    /// The least level from which this, of which this is the hash, was asked for, or None where it
+    /// was not.
     #[inline(always)]
-    pub(crate) fn covers(&self, ask: Ask, hash: u32) -> bool
+    pub(crate) fn least(&self, ask: Ask, hash: u32) -> Option<u8>
         requires { hash ≡ ask_hash ask }
-        ensures yes { IsTrue result → IsCovered self.now ask }
-        ensures no { IsFalse result → IsCovered self.now ask → ⊥ }
+        ensures { IsLeast self.now ask result }
     {
+        let mut least = None;
         let mut here = self.slots.last(hash);
         while let Some(number) = here {
-            if covers(self.asks[number], ask) {
-                return true;
-            }
+            least = next_least(ask, least, self.asks[number]);
             here = self.slots.before(number);
         }
-        false
+        least
     }
 
     /// This, of which this is the hash, is asked for. Where memory is lacking, all is as before.

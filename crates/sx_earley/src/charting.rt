@@ -6,7 +6,7 @@ ghost use Rattle.sx_grammar.specs.ReadOne.{MoreHold, IsGreatestEnd};
 ghost use Rattle.sx_earley.specs.Shown.{plain, literal_texts, tokens_of, ShownBelow};
 ghost use Rattle.sx_earley.specs.Tokens.{plain_tokens};
 ghost use Rattle.sx_earley.specs.Unknown.{HaveStems};
-ghost use Rattle.sx_earley.specs.Chart.{HasAllOpenings};
+ghost use Rattle.sx_earley.specs.Openings.{HasAllOpenings};
 ghost use Rattle.sx_earley.specs.Completed.{IsSort, sort_number, IsChart};
 ghost use Rattle.sx_grammar.specs.ReadOne.{most_items};
 ghost use Rattle.sx_term.specs.Limits.{most_tokens};
@@ -14,7 +14,9 @@ ghost use Rattle.sx_term.specs.Limits.{most_tokens};
 use crate::all_items::all_items;
 use crate::chart_error::ChartError;
 use crate::completed::Chart;
+use crate::given::Given;
 use crate::metas::Metas;
+use crate::opening::Opening;
 use crate::openings::openings;
 use crate::ready_grammar::ReadyGrammar;
 use crate::shown::Shown;
@@ -22,7 +24,7 @@ use crate::spanned::{complete_spans, reach};
 use crate::stems::show_all;
 use crate::table::Table;
 use std::alloc::Global;
-use sx_grammar::{Grammar, Item};
+use sx_grammar::Grammar;
 use sx_term::Sort;
 use sx_token::Token;
 
@@ -42,13 +44,13 @@ pub fn number_of(sort: Sort) -> u32
 fn chart_by(
     alloc: Global,
     grammar: &Grammar,
-    openings: &Table<Item>,
+    openings: &Table<Opening>,
     start: u32,
     shown: &[Shown],
 ) -> Result<Chart, ChartError>
     requires short { length shown.now ≤ most_tokens }
     requires below { ShownBelow (length (literal_texts grammar.now)) shown.now }
-    requires openings { HasAllOpenings (plain grammar.now) openings.now }
+    requires openings { HasAllOpenings grammar.now openings.now }
     ensures spans { IfOk result (λ c. IsChart (plain grammar.now)
         (tokens_of grammar.now shown.now) start c.spans) }
     ensures once { IfOk result (λ c. EachOnce c.spans) }
@@ -59,7 +61,12 @@ fn chart_by(
     ensures hard { result ≡ Err ChartError.TooHard →
         MoreHold (plain grammar.now) (tokens_of grammar.now shown.now) start most_items }
 {
-    let found = all_items(alloc, grammar, openings, start, shown)?;
+    let given = Given {
+        grammar,
+        openings,
+        shown,
+    };
+    let found = all_items(alloc, given, start)?;
     let reach = reach(&found);
     let spans = complete_spans(alloc, grammar, &found)?;
     Ok(Chart { spans, reach })

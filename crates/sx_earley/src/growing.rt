@@ -1,19 +1,19 @@
 //! What follows from one item.
 
-ghost use Rattle.std.specs.Prelude.{◌≡◌, ◌+◌, ◌≤◌, ◌<◌, ℕ, OnOk, Contains, Some, Err};
+ghost use Rattle.std.specs.Prelude.{◌≡◌, ◌+◌, ◌≤◌, OnOk, IfOk, Contains};
 ghost use Rattle.std.specs.Prelude.{length, IsTrue};
 ghost use Rattle.sx_earley.specs.Growth.{GoesOnFrom, Only};
 ghost use Rattle.sx_earley.specs.Shown.{plain, literal_texts, tokens_of, ShownBelow};
-ghost use Rattle.sx_earley.specs.Chart.{HasAllOpenings, AllAsked, Follows};
+ghost use Rattle.sx_earley.specs.Chart.{Follows, Foresees};
 ghost use Rattle.sx_earley.specs.Chart.{AllFollow, Joins, IsJoined, moved};
 ghost use Rattle.sx_earley.specs.Chart.{next_symbol, ReadsNext};
+ghost use Rattle.sx_earley.specs.Counted.{AllAsked, AsksMore};
 ghost use Rattle.sx_earley.specs.Dotted.{IsNextSymbol, WaitsFor};
 ghost use Rattle.sx_earley.specs.Keys.{AreWithin, IsKeyed};
-ghost use Rattle.sx_grammar.specs.ReadOne.{most_items};
+ghost use Rattle.sx_earley.specs.Openings.{HasAllOpenings};
 ghost use Rattle.sx_term.specs.Limits.{most_tokens};
 
 use crate::ask_set::AskSet;
-use crate::chart_error::ChartError;
 use crate::dotted::Dotted;
 use crate::given::Given;
 use crate::hints::Hints;
@@ -23,29 +23,17 @@ use crate::prediction::predict_next;
 use crate::shown::{Shown, reads};
 use crate::spanned::item_within;
 use crate::symbols::{ends_at, makes, next_part, part_of};
+use std::alloc::AllocError;
 use sx_grammar::{Grammar, Item};
 
-/// How many items may hold.
-const MOST_ITEMS: usize = 2_000_000;
-
 /// Adds the item, if it is not there.
-pub(crate) fn add(found: &mut ItemSet, item: Item) -> Result<(), ChartError>
+#[inline(always)]
+pub(crate) fn add(found: &mut ItemSet, item: Item) -> Result<(), AllocError>
     ensures added { OnOk result (Contains found.new item) }
     ensures extends { GoesOnFrom found.old found.new }
     ensures only { Only found.old found.new (λ i. i ≡ item) }
-    ensures few { OnOk result (length found.new ≤ most_items) }
-    ensures hard { result ≡ Err ChartError.TooHard → most_items < length found.new }
 {
-    match found.add(item) {
-        Ok(_) => {
-            if found.len() > MOST_ITEMS {
-                Err(ChartError::TooHard)
-            } else {
-                Ok(())
-            }
-        }
-        Err(_) => Err(ChartError::Memory),
-    }
+    found.add(item)
 }
 
 /// Whether hints tell that the dot of the first item was moved over the second.
@@ -66,13 +54,10 @@ fn is_known(found: &ItemSet, hints: &Hints, before: Item, filling: Item) -> bool
 }
 
 /// Adds the item, if it is not there, and notes its place.
-fn add_noted(found: &mut ItemSet, hints: &mut Hints, item: Item) -> Result<(), ChartError>
-    requires { length found.old ≤ most_items }
+fn add_noted(found: &mut ItemSet, hints: &mut Hints, item: Item) -> Result<(), AllocError>
     ensures added { OnOk result (Contains found.new item) }
     ensures extends { GoesOnFrom found.old found.new }
     ensures only { Only found.old found.new (λ i. i ≡ item) }
-    ensures few { OnOk result (length found.new ≤ most_items) }
-    ensures hard { result ≡ Err ChartError.TooHard → most_items < length found.new }
 {
     let place = found.len();
     add(found, item)?;
@@ -90,16 +75,13 @@ fn join(
     before: Item,
     part: Option<(u32, u8)>,
     filling: Item,
-) -> Result<(), ChartError>
-    requires few { length found.old ≤ most_items }
+) -> Result<(), AllocError>
     requires waits { WaitsFor (plain grammar.now) before part }
     ensures extends { GoesOnFrom found.old found.new }
     ensures only { Only found.old found.new
         (λ i. Joins (plain grammar.now) before filling × (i ≡ moved before filling.end)) }
     ensures every { OnOk result (Joins (plain grammar.now) before filling →
         Contains found.new (moved before filling.end)) }
-    ensures few { OnOk result (length found.new ≤ most_items) }
-    ensures hard { result ≡ Err ChartError.TooHard → most_items < length found.new }
 {
     match part {
         None => Ok(()),
@@ -132,8 +114,7 @@ fn join_each(
     hints: &mut Hints,
     near: Neighbours,
     filling: Item,
-) -> Result<(), ChartError>
-    requires few { length found.old ≤ most_items }
+) -> Result<(), AllocError>
     requires within { AreWithin near.filed.now (length found.old) }
     ensures extends { GoesOnFrom found.old found.new }
     ensures only { Only found.old found.new (IsJoined (plain grammar.now)
@@ -142,8 +123,6 @@ fn join_each(
         IsKeyed found.old near.entry.filed.now near.entry.before before →
         Joins (plain grammar.now) before filling →
         Contains found.new (moved before filling.end)) }
-    ensures few { OnOk result (length found.new ≤ most_items) }
-    ensures hard { result ≡ Err ChartError.TooHard → most_items < length found.new }
 {
     let Some(key) = near.before else {
         return Ok(());
@@ -170,8 +149,7 @@ fn join_over(
     near: Neighbours,
     before: Item,
     part: Option<(u32, u8)>,
-) -> Result<(), ChartError>
-    requires few { length found.old ≤ most_items }
+) -> Result<(), AllocError>
     requires within { AreWithin near.filed.now (length found.old) }
     requires waits { WaitsFor (plain grammar.now) before part }
     ensures extends { GoesOnFrom found.old found.new }
@@ -181,8 +159,6 @@ fn join_over(
         IsKeyed found.old near.entry.filed.now near.entry.filling filling →
         Joins (plain grammar.now) before filling →
         Contains found.new (moved before filling.end)) }
-    ensures few { OnOk result (length found.new ≤ most_items) }
-    ensures hard { result ≡ Err ChartError.TooHard → most_items < length found.new }
 {
     let Some(key) = near.filling else {
         return Ok(());
@@ -205,8 +181,7 @@ fn scan(
     shown: &[Shown],
     found: &mut ItemSet,
     dotted: Dotted,
-) -> Result<(), ChartError>
-    requires few { length found.old ≤ most_items }
+) -> Result<(), AllocError>
     requires next { IsNextSymbol grammar.now dotted.item dotted.symbol }
     requires short { length shown.now ≤ most_tokens }
     requires below { ShownBelow (length (literal_texts grammar.now)) shown.now }
@@ -218,8 +193,6 @@ fn scan(
     ensures every { OnOk result (ReadsNext (tokens_of grammar.now shown.now)
         (next_symbol (plain grammar.now) dotted.item.head dotted.item.dot) dotted.item.end →
         Contains found.new (moved dotted.item (dotted.item.end + 1))) }
-    ensures few { OnOk result (length found.new ≤ most_items) }
-    ensures hard { result ≡ Err ChartError.TooHard → most_items < length found.new }
 {
     let item = dotted.item;
     let Some(expected) = dotted.symbol else {
@@ -240,7 +213,8 @@ fn scan(
     }
 }
 
-/// Adds all that follows from the item, where these are the items that it may meet.
+/// Adds all that follows from the item, where these are the items that it may meet, and tells how
+/// many more items are idle.
 pub(crate) fn treat(
     given: Given,
     found: &mut ItemSet,
@@ -248,32 +222,36 @@ pub(crate) fn treat(
     asked: &mut AskSet,
     near: Neighbours,
     dotted: Dotted,
-) -> Result<(), ChartError>
-    requires few { length found.old ≤ most_items }
+) -> Result<usize, AllocError>
     requires next { IsNextSymbol given.grammar.now dotted.item dotted.symbol }
     requires short { length given.shown.now ≤ most_tokens }
     requires below { ShownBelow (length (literal_texts given.grammar.now)) given.shown.now }
-    requires openings { HasAllOpenings (plain given.grammar.now) given.openings.now }
-    requires asked { AllAsked (plain given.grammar.now) asked.old found.old }
+    requires openings { HasAllOpenings given.grammar.now given.openings.now }
+    requires asked { AllAsked (plain given.grammar.now)
+        (tokens_of given.grammar.now given.shown.now) asked.old found.old }
     requires within { AreWithin near.filed.now (length found.old) }
-    ensures extends { GoesOnFrom found.old found.new }
-    ensures only { Only found.old found.new
+    ensures extends { IfOk result (λ _. GoesOnFrom found.old found.new) }
+    ensures only { IfOk result (λ _. Only found.old found.new
         (Follows (plain given.entry.grammar.now)
         (tokens_of given.entry.grammar.now given.entry.shown.now)
         (IsKeyed found.old near.entry.filed.now near.entry.before)
-        (IsKeyed found.old near.entry.filed.now near.entry.filling) dotted.item) }
-    ensures every { OnOk result (AllFollow (plain given.entry.grammar.now)
+        (IsKeyed found.old near.entry.filed.now near.entry.filling) dotted.item)) }
+    ensures every { IfOk result (λ _. AllFollow (plain given.entry.grammar.now)
         (tokens_of given.entry.grammar.now given.entry.shown.now)
         (IsKeyed found.old near.entry.filed.now near.entry.before)
-        (IsKeyed found.old near.entry.filed.now near.entry.filling) dotted.item found.new) }
-    ensures few { OnOk result (length found.new ≤ most_items) }
-    ensures hard { result ≡ Err ChartError.TooHard → most_items < length found.new }
-    ensures asked { OnOk result (AllAsked (plain given.entry.grammar.now) asked.new found.new) }
+        (IsKeyed found.old near.entry.filed.now near.entry.filling) dotted.item asked.new
+        found.new) }
+    ensures asked { IfOk result (λ _. AllAsked (plain given.entry.grammar.now)
+        (tokens_of given.entry.grammar.now given.entry.shown.now) asked.new found.new) }
+    ensures asks { IfOk result (AsksMore (plain given.entry.grammar.now)
+        (tokens_of given.entry.grammar.now given.entry.shown.now)
+        (Foresees (plain given.entry.grammar.now) dotted.item) asked.old asked.new) }
 {
     let item = dotted.item;
     let part = part_of(dotted.symbol);
-    predict_next(given.grammar, given.openings, found, asked, item, part)?;
+    let idle = predict_next(given, found, asked, item, part)?;
     scan(given.grammar, given.shown, found, dotted)?;
     join_each(given.grammar, found, hints, near, item)?;
-    join_over(given.grammar, found, hints, near, item, part)
+    join_over(given.grammar, found, hints, near, item, part)?;
+    Ok(idle)
 }

@@ -1,11 +1,13 @@
 //! Where items were found.
 
 ghost use Rattle.std.specs.Prelude.{◌≡◌, ◌≤◌, ◌<◌, ◌^◌, IsTrue, Contains};
-ghost use Rattle.sx_grammar.specs.ReadOne.{most_items};
 
 use crate::item_set::{ItemSet, is_same};
 use std::alloc::{AllocError, Global};
 use sx_grammar::{Head, Item};
+
+/// The greatest place that is kept.
+const MOST_PLACE: usize = 0x7fff_ffff;
 
 /// The places of some items among those that are found. A right one spares a search, and a wrong
 /// one costs nothing but the look.
@@ -61,10 +63,11 @@ impl Hints {
         }
     }
 
-    /// Keeps the place of the item.
-    pub(crate) fn note(&mut self, item: Item, place: usize)
-        requires { place ≤ most_items }
-    {
+    /// Keeps the place of the item, unless it is too great.
+    pub(crate) fn note(&mut self, item: Item, place: usize) {
+        if place > MOST_PLACE {
+            return;
+        }
         if let Some(hint) = self.places.get_mut(slot_of(item)) {
             *hint = place as u32;
         }

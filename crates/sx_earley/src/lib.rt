@@ -16,6 +16,7 @@ mod item_set;
 mod metas;
 mod neighbours;
 mod notes;
+mod opening;
 mod openings;
 mod prediction;
 mod ready_grammar;

@@ -1,53 +1,44 @@
-//! The items that begin productions.
+//! The openings of a grammar.
 
-ghost use Rattle.std.specs.Prelude.{◌≡◌, ℕ, OnOk, IfOk, Contains, length};
-ghost use Rattle.sx_grammar.specs.Grammar.{production_of};
-ghost use Rattle.sx_grammar.specs.declared.head.Head.TheVariants.{Labelled, Bracketed};
-ghost use Rattle.sx_grammar.specs.declared.item.Item.{Item};
-ghost use Rattle.sx_earley.specs.declared.slot.Slot.{Slot};
+ghost use Rattle.std.specs.Prelude.{◌≡◌, ℕ, [], OnOk, IfOk, length};
 ghost use Rattle.sx_earley.specs.Shown.{plain};
-ghost use Rattle.sx_earley.specs.Table.{row_at};
-ghost use Rattle.sx_earley.specs.Chart.{HasAllOpenings, IsOfSort, beginning};
+ghost use Rattle.sx_earley.specs.Openings.{HasAllOpenings, MayAddOpening, AreFiled, IsBelow, row_of};
 
+use crate::opening::Opening;
 use crate::slot::Slot;
-use crate::symbols::sort_of;
+use crate::symbols::{made_by, symbol_of};
 use crate::table::Table;
 use std::alloc::Global;
-use sx_grammar::{Grammar, Head, Item};
+use sx_grammar::{Grammar, Head};
 use sx_term::NoMemory;
 
-/// Files the item that begins the head's production at place 0 under its sort, if the head makes
-/// one.
+/// Files the opening of the head's production at place 0 under its sort, if the head makes one.
 fn file_opening(
     alloc: Global,
     grammar: &Grammar,
-    table: &mut Table<Item>,
+    table: &mut Table<Opening>,
     head: Head,
 ) -> Result<(), NoMemory>
-    ensures there { OnOk result ((sort least : ℕ) →
-        IsOfSort (production_of (plain grammar.now) head) sort least →
-        Contains (row_at table.new (record { place = 0; sort = sort })) (beginning head 0)) }
-    ensures kept { OnOk result ((s : Slot) (x : Item) → Contains (row_at table.old s) x →
-        Contains (row_at table.new s) x) }
+    ensures { OnOk result (MayAddOpening grammar.now head table.old table.new) }
 {
-    let Some(sort) = sort_of(grammar, head) else {
+    let Some((sort, level)) = made_by(grammar, head) else {
         return Ok(());
     };
-    let item = Item {
-        head,
-        dot: 0,
-        origin: 0,
-        end: 0,
-    };
-    table.file(alloc, Slot { place: 0, sort }, item)
+    let first = symbol_of(grammar, head, 0);
+    let opening = Opening { head, level, first };
+    table.file(alloc, Slot { place: 0, sort }, opening)?;
+    Ok(())
 }
 
 /// Files the openings of the labelled productions.
-fn file_labelled(alloc: Global, grammar: &Grammar, table: &mut Table<Item>) -> Result<(), NoMemory>
-    ensures { OnOk result ((label sort least : ℕ) →
-        IsOfSort (production_of (plain grammar.now) (Labelled label)) sort least →
-        Contains (row_at table.new (record { place = 0; sort = sort }))
-        (beginning (Labelled label) 0)) }
+fn file_labelled(
+    alloc: Global,
+    grammar: &Grammar,
+    table: &mut Table<Opening>,
+) -> Result<(), NoMemory>
+    requires { (sort : ℕ) → row_of table.old sort ≡ [] }
+    ensures { OnOk result (AreFiled grammar.now
+        (IsBelow (length (plain grammar.now).productions) 0) table.new) }
 {
     grammar.facts();
     let productions = grammar.productions();
@@ -58,13 +49,16 @@ fn file_labelled(alloc: Global, grammar: &Grammar, table: &mut Table<Item>) -> R
 }
 
 /// Files the openings of the bracket pairs.
-fn file_bracketed(alloc: Global, grammar: &Grammar, table: &mut Table<Item>) -> Result<(), NoMemory>
-    ensures there { OnOk result ((own sort least : ℕ) →
-        IsOfSort (production_of (plain grammar.now) (Bracketed own)) sort least →
-        Contains (row_at table.new (record { place = 0; sort = sort }))
-        (beginning (Bracketed own) 0)) }
-    ensures kept { OnOk result ((s : Slot) (x : Item) → Contains (row_at table.old s) x →
-        Contains (row_at table.new s) x) }
+fn file_bracketed(
+    alloc: Global,
+    grammar: &Grammar,
+    table: &mut Table<Opening>,
+) -> Result<(), NoMemory>
+    requires { AreFiled grammar.now
+        (IsBelow (length (plain grammar.now).productions) 0) table.old }
+    ensures { OnOk result (AreFiled grammar.now
+        (IsBelow (length (plain grammar.now).productions) (length (plain grammar.now).sorts))
+        table.new) }
 {
     grammar.facts();
     for sort in 0..grammar.parts().sorts.len() {
@@ -73,9 +67,9 @@ fn file_bracketed(alloc: Global, grammar: &Grammar, table: &mut Table<Item>) -> 
     Ok(())
 }
 
-/// The items that begin each production at place 0, by their sort.
-pub(crate) fn openings(alloc: Global, grammar: &Grammar) -> Result<Table<Item>, NoMemory>
-    ensures { IfOk result (λ t. HasAllOpenings (plain grammar.now) t) }
+/// What begins each production, by the sort that this makes.
+pub(crate) fn openings(alloc: Global, grammar: &Grammar) -> Result<Table<Opening>, NoMemory>
+    ensures { IfOk result (HasAllOpenings grammar.now) }
 {
     let mut table = Table::new(alloc);
     file_labelled(alloc, grammar, &mut table)?;

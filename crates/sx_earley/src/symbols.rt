@@ -7,7 +7,7 @@ ghost use Rattle.sx_grammar.specs.Grammar.{Text, production_of};
 ghost use Rattle.sx_earley.specs.Shown.{plain, literal_texts, pair_symbol, IsLiteralBelow};
 ghost use Rattle.sx_earley.specs.Shown.{LiteralsBelow};
 ghost use Rattle.sx_earley.specs.Chart.{symbol_after, next_symbol, as_part, HasDotAtEnd};
-ghost use Rattle.sx_earley.specs.Chart.{IsOfSort, sort_made};
+ghost use Rattle.sx_earley.specs.Chart.{IsOfSort, sort_made, sort_and_level, IsToken};
 ghost use Rattle.sx_earley.specs.Dotted.{IsNextSymbol, HasMade};
 
 use sx_grammar::{Grammar, Head, Item, NumberedProduction, NumberedSymbol};
@@ -71,6 +71,18 @@ pub(crate) fn part_of(next: Option<NumberedSymbol>) -> Option<(u32, u8)>
     }
 }
 
+/// Whether the symbol is that of one token.
+#[inline(always)]
+pub(crate) fn is_token(next: NumberedSymbol) -> bool
+    ensures { (literals : List Text) → IsTrue result ↔ IsToken (symbol literals next) }
+{
+    match next {
+        NumberedSymbol::Lit(_) => true,
+        NumberedSymbol::Lex(_) => true,
+        NumberedSymbol::Part { sort: _, least: _ } => false,
+    }
+}
+
 /// The sort and the least level of the part after the dot, or None where no part stands there.
 pub(crate) fn next_part(grammar: &Grammar, head: Head, dot: usize) -> Option<(u32, u8)>
     ensures is { result ≡ as_part (next_symbol (plain grammar.now) head dot) }
@@ -114,6 +126,22 @@ pub fn sort_of(grammar: &Grammar, head: Head) -> Option<u32>
         Head::Bracketed(sort) => match grammar.brackets(sort) {
             None => None,
             Some(_) => Some(sort),
+        },
+    }
+}
+
+/// The sort that the head makes and the level, or None where it makes nothing.
+pub(crate) fn made_by(grammar: &Grammar, head: Head) -> Option<(u32, u8)>
+    ensures { result ≡ sort_and_level (production_of (plain grammar.now) head) }
+{
+    match head {
+        Head::Labelled(label) => match production_at(grammar, label) {
+            None => None,
+            Some(production) => Some((production.sort, production.level)),
+        },
+        Head::Bracketed(sort) => match grammar.brackets(sort) {
+            None => None,
+            Some(_) => Some((sort, 100)),
         },
     }
 }

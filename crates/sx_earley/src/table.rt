@@ -1,6 +1,6 @@
 //! Rows by place and sort.
 
-ghost use Rattle.std.specs.Prelude.{◌≡◌, ◌⊎◌, OnOk, Contains, []};
+ghost use Rattle.std.specs.Prelude.{◌≡◌, ◌⊎◌, ◌++◌, ◌∷◌, OnOk, []};
 ghost use Rattle.sx_earley.specs.Table.{row_at};
 ghost use Rattle.sx_earley.specs.declared.slot.Slot.{Slot};
 
@@ -27,11 +27,9 @@ impl<T: Copy> Table<T> {
 
     /// Adds the element to the row of the slot.
     pub(crate) fn file(&mut self, alloc: Global, slot: Slot, element: T) -> Result<(), NoMemory>
-        ensures there { OnOk result (Contains (row_at self.new slot) element) }
-        ensures kept { OnOk result ((s : Slot) (x : T) → Contains (row_at self.old s) x →
-            Contains (row_at self.new s) x) }
-        ensures only { OnOk result ((s : Slot) (x : T) → Contains (row_at self.new s) x →
-            Contains (row_at self.old s) x ⊎ (x ≡ element)) }
+        ensures row { OnOk result (row_at self.new slot ≡ row_at self.old slot ++ element ∷ []) }
+        ensures rows { OnOk result ((s : Slot) →
+            (row_at self.new s ≡ row_at self.old s) ⊎ (s ≡ slot)) }
     {
         if let Some(row) = self.rows.get_mut(&slot) {
             row.push(element)?;

@@ -11,7 +11,6 @@ use Rattle.sx_earley.proofs.growing.join_each.Goals as goal
 
 pub loop-here-init : goal.loop-here-init
 loop-here-init c = record {
-  few = c.requires.few;
   extends = extends_self c.args.found.now;
   only = λ i there. inl there;
   every = passed_first c.args.near.filed.now.keys _ c.in-Some.key c.last-here.result c.last-here.ensures;
@@ -27,7 +26,6 @@ loop-here-preserved c =
     let at = walk_at items filed near key c.in-Some.is (Told mid) n here passed mid c.number.result c.loop-here.invariant.extends c.requires.within c.number.ensures c.item_within-before.ensures in
     let new = c.join.new.found in
     record {
-      few = c.in_ok-join.ensures.few;
       extends = extends_on items mid new c.loop-here.invariant.extends c.join.ensures.extends;
       only = each_only g (IsKeyed items filed c.args.near.before) c.args.filling here items mid new
           (walk_keyed items filed near key c.in-Some.is (Told mid) n here passed at) c.loop-here.invariant.only c.join.ensures.only;
@@ -45,7 +43,6 @@ loop-here-preserved-then-is_known c =
     let passed = subst (λ (o : Option ℕ). ArePassed filed.keys (IsDone items filed (Told mid)) key o) c.in-Some-here.is c.loop-here.invariant.every in
     let at = walk_at items filed near key c.in-Some.is (Told mid) n here passed mid c.number.result c.loop-here.invariant.extends c.requires.within c.number.ensures c.item_within-before.ensures in
     record {
-      few = c.loop-here.invariant.few;
       extends = c.loop-here.invariant.extends;
       only = c.loop-here.invariant.only;
       every = walk_next items filed near key c.in-Some.is (Told mid) n here passed (Told mid) c.before-here.result

@@ -1,33 +1,29 @@
-use Rattle.std.proofs.Common.{◌<◌, length, Contains, arith}
-use Rattle.sx_grammar.specs.Grammar.{production_of}
-use Rattle.sx_earley.specs.Shown.{plain}
-use Rattle.sx_earley.specs.Chart.{IsPredicted, IsOfSort, beginning}
-use Rattle.sx_earley.proofs.Growth.{extends_on, only_on, still_there}
-use Rattle.sx_earley.proofs.Joining.{no_item, one_more_done, all_done}
+use Rattle.std.proofs.Common.{◌<◌, length, take, arith}
+use Rattle.sx_earley.specs.Shown.{tokens_of}
+use Rattle.sx_earley.proofs.Closing.{empty_front}
+use Rattle.sx_earley.proofs.Predicting.{progress_none, progress_at, progress_all, row_below}
 use Rattle.sx_earley.proofs.prediction.predict.Goals as goal
+
+pub loop-opening-init : goal.loop-opening-init
+loop-opening-init c =
+    progress_none c.args.given.grammar.now (tokens_of c.args.given.grammar.now c.args.given.shown.now) c.args.ask c.args.before (take 0 c.args.openings.now) c.args.found.now
+    (empty_front c.args.openings.now)
 
 pub loop-opening-preserved : goal.loop-opening-preserved
 loop-opening-preserved c =
-    let g = plain c.args.grammar.now in
-    let ask = c.args.ask in
-    let old = c.args.found.now in let mid = c.loop-opening.found in let new = c.predict_head.new.found in
+    let d = c.args.given.grammar.now in
+    let row = c.args.openings.now in let k = c.loop-opening.opening-index in
+    let low : k < length row = omega arith in
+    progress_at d (tokens_of d c.args.given.shown.now) c.args.ask c.args.before row k c.args.found.now c.loop-opening.found c.predict_opening.new.found c.loop-opening.idle
+    c.in_ok-idle.field-0 c.requires.openings low c.loop-opening.invariant c.in_ok-idle.ensures
+
+pub returns : goal.returns
+returns c =
+    let d = c.args.given.grammar.now in
+    progress_all d (tokens_of d c.args.given.shown.now) c.args.ask c.args.before c.args.openings.now c.loop-opening.opening-index c.args.found.now c.loop-opening.found c.loop-opening.idle
+    c.requires.openings (omega arith) (omega arith) c.loop-opening.invariant
+
+pub predict_opening-requires-clause-first : goal.predict_opening-requires-clause-first
+predict_opening-requires-clause-first c =
     let low : c.loop-opening.opening-index < length c.args.openings.now = omega arith in
-    record {
-      few = c.in_ok-predict_head.ensures.few;
-      extends = extends_on old mid new c.loop-opening.invariant.extends c.predict_head.ensures.extends;
-      only = only_on old mid new (IsPredicted g ask.sort ask.least ask.place) c.loop-opening.invariant.only c.predict_head.ensures.only;
-      every = one_more_done no_item c.args.openings.now c.loop-opening.opening-index (λ o. IsOfSort (production_of g o.head) ask.sort ask.least → Contains new (beginning o.head ask.place)) low
-          (λ o there is. still_there mid new (beginning o.head ask.place) c.predict_head.ensures.extends (c.loop-opening.invariant.every o there is)) c.in_ok-predict_head.ensures.every;
-    }
-
-pub returns-clause-every : goal.returns-clause-every
-returns-clause-every c =
-    let g = plain c.args.grammar.now in
-    let ask = c.args.ask in
-    let every = all_done c.args.openings.now c.loop-opening.opening-index (λ o. IsOfSort (production_of g o.head) ask.sort ask.least → Contains c.loop-opening.found (beginning o.head ask.place)) (omega arith) c.loop-opening.invariant.every in
-    λ head is. every (beginning head 0) (c.requires.openings head ask.least is) is
-
-pub returns-in_err-predict_head-clause-only : goal.returns-in_err-predict_head-clause-only
-returns-in_err-predict_head-clause-only c =
-    only_on c.args.found.now c.loop-opening.found c.predict_head.new.found (IsPredicted (plain c.args.grammar.now) c.args.ask.sort c.args.ask.least c.args.ask.place)
-    c.loop-opening.invariant.only c.predict_head.ensures.only
+    row_below c.args.given.grammar.now (tokens_of c.args.given.grammar.now c.args.given.shown.now) c.args.ask c.args.before c.args.openings.now c.loop-opening.opening-index c.requires.openings low

@@ -1,0 +1,7 @@
+use Rattle.std.proofs.Common.{refl, sym, ◌∙◌, true≢false}
+use Rattle.sx_earley.specs.Counted.{added}
+use Rattle.sx_earley.proofs.prediction.predict_opening.Goals as goal
+
+pub returns : goal.returns
+returns c = added (c.is_new.ensures.0 c.if-not-is_new.false) (λ miss. true≢false (sym (c.is_missed.ensures.1 miss) ∙ c.if-is_missed.false))
+    c.add.ensures.extends c.add.ensures.only c.in_ok-add.ensures.added refl
