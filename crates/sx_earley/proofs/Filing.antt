@@ -1,8 +1,7 @@
 -- A row to which an element is added.
-use Rattle.std.proofs.Common.{◌≡◌, ◌∙◌, sym, ap, subst, refl, cond, Bool, true, false, [], ◌∷◌, ◌++◌, ◌⊎◌, inl, inr, ⊎_elim, Option, Some, Contains, arith}
+use Rattle.std.proofs.Common.{◌≡◌, ◌∙◌, sym, ap, refl, cond, Bool, true, false, [], ◌∷◌, ◌++◌, ◌⊎◌, inl, inr, Option, Some, arith}
 use Rattle.std.proofs.lemmas.Bool.Decides.{nat_tests}
 use Rattle.std.specs.Global.{Vec}
-use Rattle.std.proofs.lemmas.List.Elements.{Contains-append_left, Contains-push_cases}
 use Rattle.sx_earley.specs.declared.slot.Slot.{Slot}
 use Rattle.sx_earley.specs.Table.{same_slot, row_in}
 

@@ -1,9 +1,9 @@
 -- What begins for the part after the dot.
-use Rattle.std.proofs.Common.{◌≡◌, ◌∙◌, sym, subst, ℕ, Option, Some, None}
+use Rattle.std.proofs.Common.{◌≡◌, ◌∙◌, sym, subst, ℕ, Some, None}
 use Rattle.std.proofs.lemmas.Option.{none-some, some_pair_parts}
-use Rattle.sx_grammar.specs.Grammar.{Grammar, production_of}
+use Rattle.sx_grammar.specs.Grammar.{Grammar}
 use Rattle.sx_grammar.specs.declared.item.Item.{Item}
-use Rattle.sx_earley.specs.Chart.{Foresees, IsPredicted, IsOfSort, next_symbol, as_part}
+use Rattle.sx_earley.specs.Chart.{Foresees, IsPredicted, next_symbol, as_part}
 
 module _ (g : Grammar) (item : Item) where
   module _ (sort least : ℕ) (waits : Some (sort, least) ≡ as_part (next_symbol g item.head item.dot)) where

@@ -1,6 +1,6 @@
 //! Where items were found.
 
-ghost use Rattle.std.specs.Prelude.{◌≡◌, ◌≤◌, ◌<◌, ◌^◌, IsTrue, Contains};
+ghost use Rattle.std.specs.Prelude.{◌≤◌, ◌<◌, IsTrue, Contains};
 
 use crate::item_set::{ItemSet, is_same};
 use std::alloc::{AllocError, Global};

@@ -49,7 +49,7 @@ fn is_reached(least: Option<u8>, level: u8) -> bool
     }
 }
 
-/// Whether the level is asked for, and was not before, from this level on.
+/// Whether the level is asked for, and is none of those from this one on, which were before.
 #[inline(always)]
 fn is_new(level: u8, ask: Ask, before: Option<u8>) -> bool
     ensures { IsTrue result ↔ IsNewLevel ask before level }

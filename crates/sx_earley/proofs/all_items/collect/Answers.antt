@@ -1,4 +1,4 @@
-use Rattle.std.proofs.Common.{◌≡◌, ◌∙◌, ◌≤◌, ◌<◌, ◌+◌, ℕ, sym, subst, length, take, Option, Some, slice_get, inl, arith}
+use Rattle.std.proofs.Common.{◌≡◌, ◌∙◌, ◌+◌, ℕ, sym, subst, length, take, Option, Some, slice_get, inl, arith}
 use Rattle.std.proofs.lemmas.Option.{slice_get_within}
 use Rattle.std.proofs.lemmas.List.{take_all}
 use Rattle.sx_earley.specs.Shown.{plain, tokens_of}
@@ -10,7 +10,7 @@ use Rattle.sx_earley.proofs.Asking.{asked_none}
 use Rattle.sx_earley.proofs.Turning.{Turn, turn_holds, turn_busy, turn_closed, turn_filed}
 use Rattle.sx_earley.proofs.Keying.{before_there, filling_there, own_is, within_on, within_longer, within_none}
 use Rattle.sx_earley.proofs.Waiting.{waits_for}
-use Rattle.sx_earley.proofs.Whole.{SoFar, so_far_first, so_far_on, too_many, few_enough, items_are, not_too_many}
+use Rattle.sx_earley.proofs.Whole.{so_far_first, so_far_on, too_many, few_enough, items_are, not_too_many}
 use Rattle.sx_earley.proofs.Closing.{treated_none, ended, empty_front, nothing_in, there_at}
 use Rattle.sx_earley.proofs.all_items.collect.Goals as goal
 

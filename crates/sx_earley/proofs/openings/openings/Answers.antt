@@ -1,4 +1,3 @@
-use Rattle.std.proofs.Common.{subst}
 use Rattle.sx_earley.proofs.Opened.{all_open}
 use Rattle.sx_earley.proofs.openings.openings.Goals as goal
 

@@ -1,9 +1,9 @@
-use Rattle.std.proofs.Common.{sym, subst, inl}
+use Rattle.std.proofs.Common.{sym, subst}
 use Rattle.sx_earley.specs.Shown.{plain, tokens_of}
 use Rattle.sx_earley.specs.Chart.{IsPredicted}
 use Rattle.sx_earley.specs.Counted.{IsBusy, IsNew}
 use Rattle.sx_earley.specs.Openings.{HasOpenings}
-use Rattle.sx_earley.proofs.Growth.{extends_self, only_more}
+use Rattle.sx_earley.proofs.Growth.{only_more}
 use Rattle.sx_earley.proofs.Asking.{asks_none, asks_one, asked_more}
 use Rattle.sx_earley.proofs.prediction.predict_once.Goals as goal
 
