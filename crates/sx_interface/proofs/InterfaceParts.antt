@@ -1,4 +1,4 @@
--- The lines of an interface are read part by part.
+-- An interface's parts are read by the steps that lead to them.
 use Rattle.std.proofs.Common.{◌≡◌, ℕ, List, [], ◌++◌, codes, Some, Result, Ok, Err, refl}
 use Rattle.sx_lines.specs.Lines.{Lines}
 use Rattle.sx_lines.specs.Reading.{◌>>=◌, the_line, next_line, no_line}
@@ -6,7 +6,7 @@ use Rattle.sx_lines.specs.Rows.{distinct_rows}
 use Rattle.sx_interface.specs.declared.version.Version.{Version}
 use Rattle.sx_interface.specs.Interfaces.{Mark, InterfaceParts, Front, mark_after, digest_after, version_of, use_after}
 use Rattle.sx_interface.specs.Interfaces.{stated_signature, front_of, signatures_of, interface_of}
-use Rattle.sx_interface.proofs.InterfaceSteps.{made, from_stated, from_signature, from_signed, from_imports, from_base, from_uses, from_language, from_module, from_version}
+use Rattle.sx_interface.proofs.InterfaceSteps.{made, from_stated, from_signature, from_signed, from_imports, from_base, from_uses, from_language, from_module, from_version, all_steps}
 
 -- steps that are taken one by one come to what their parts come to
 one_by_one : {A B C : Type 0} (read : Result A ℕ) (next : A → Result B ℕ) (last : B → Result C ℕ) (whole : A → Result C ℕ) → ((x : A) → whole x ≡ (next x >>= last)) → (read >>= whole) ≡ ((read >>= next) >>= last)
@@ -50,10 +50,10 @@ with_signed version signed = next_line Some signed >>= with_signature version
 abbrev with_signatures : List ℕ → Front → List Mark → List ℕ × List ℕ → Result InterfaceParts ℕ
 with_signatures name front imports signatures = Ok (made name front.language front.uses front.base imports signatures.0 signatures.1)
 
-abbrev pub with_imports : List ℕ → Front → List Mark × Lines → Result InterfaceParts ℕ
+abbrev with_imports : List ℕ → Front → List Mark × Lines → Result InterfaceParts ℕ
 with_imports name front imports = signatures_of front.version imports.1 >>= with_signatures name front imports.0
 
-abbrev pub with_front : List ℕ → Front → Result InterfaceParts ℕ
+abbrev with_front : List ℕ → Front → Result InterfaceParts ℕ
 with_front name front = distinct_rows (λ (m : Mark). m.name) (mark_after (codes "import ")) [] front.rest >>= with_imports name front
 
 imports_by_parts : (name : List ℕ) (front : Front) (imports : List Mark × Lines) → from_imports front.version (made name front.language front.uses front.base imports.0) imports.1 ≡ with_imports name front imports
@@ -71,12 +71,16 @@ front_by_parts name front =
     same_next (distinct_rows (λ (m : Mark). m.name) (mark_after (codes "import ")) [] front.rest) (λ imports. from_imports front.version (made name front.language front.uses front.base imports.0) imports.1) (with_imports name front)
     (imports_by_parts name front)
 
-pub by_parts : (name : List ℕ) (lines : Lines) → interface_of name lines ≡ (front_of name lines >>= with_front name)
+pub by_steps : (name : List ℕ) (lines : Lines) → all_steps name lines ≡ interface_of name lines
 unfolding interface_of front_of
-by_parts name lines =
+by_steps name lines =
     one_by_one (next_line version_of lines) (with_version name) (with_front name) (λ version. from_version name version.0 version.1) (λ version.
     one_by_one (the_line (codes "module " ++ name) version.1) (with_module version.0) (with_front name) (from_module version.0 (made name)) (λ rest.
     one_by_one (next_line (mark_after (codes "language ")) rest) (with_language version.0) (with_front name) (λ language. from_language version.0 (made name language.0) language.1) (λ language.
     one_by_one (distinct_rows (λ (m : Mark). m.name) (use_after version.0) [] language.1) (with_uses version.0 language.0) (with_front name) (λ uses. from_uses version.0 (made name language.0 uses.0) uses.1) (λ uses.
     one_by_one (next_line (digest_after (codes "base ")) uses.1) (with_base version.0 language.0 uses.0) (with_front name) (λ base. from_base version.0 (made name language.0 uses.0 base.0) base.1) (λ base.
     front_by_parts name (record { version = version.0; language = language.0; uses = uses.0; base = base.0; rest = base.1 }))))))
+
+-- as functions of the lines
+pub all_by_steps : (name : List ℕ) → all_steps name ≡ interface_of name
+all_by_steps name = λ i lines. by_steps name lines i

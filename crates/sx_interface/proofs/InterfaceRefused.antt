@@ -1,5 +1,5 @@
 -- The line at which an interface is refused.
-use Rattle.std.proofs.Common.{◌≡◌, ℕ, ◌<◌, zero, suc, List, [], ◌∷◌, ◌++◌, codes, get_or, Option, Some, None, Result, Ok, Err, true, false, refl, rules, arith}
+use Rattle.std.proofs.Common.{◌≡◌, ℕ, ◌<◌, ◌∙◌, zero, suc, List, [], ◌∷◌, ◌++◌, codes, get_or, Option, Some, None, Result, Ok, Err, true, false, refl, subst, rules, arith}
 use Rattle.std.specs.Prelude.{IfErr, IfSome}
 use Rattle.hex.specs.Hex.{encode_lower}
 use Rattle.sx_interface.specs.declared.error.HeaderError.{HeaderError}
@@ -20,7 +20,8 @@ use Rattle.sx_interface.specs.Interfaces.{version_of, use_after, interface_of, o
 use Rattle.sx_interface.specs.Stated.{IsDigest, IsMark, StatesInterface}
 use Rattle.sx_interface.proofs.MarkTexts.{mark_after-again, digest_after-again}
 use Rattle.sx_interface.proofs.VersionLaws.{first_text, version_again}
-use Rattle.sx_interface.proofs.InterfaceSteps.{made, from_stated, from_signature, from_signed, from_imports, from_base, from_uses, from_language, from_module, from_version}
+use Rattle.sx_interface.proofs.InterfaceSteps.{made, from_stated, from_signature, from_signed, from_imports, from_base, from_uses, from_language, from_module, from_version, all_steps}
+use Rattle.sx_interface.proofs.InterfaceParts.{by_steps, all_by_steps}
 use Rattle.sx_interface.proofs.InterfaceLaws.{interface_again, interface_found}
 
 -- ---- lines that are read after each step
@@ -133,11 +134,14 @@ version_first name version l k e =
     (λ x h. step_next (mark_after (codes "language ")) (λ m y. from_language version (made name m) y) x k (codes "language " ++ mark_text some_mark) some_mark (mark_after-again (codes "language ") some_mark some_mark-is) (λ m. spoken version (made name m))
     (λ m y i. language_first version (made name m) y k i) h) e
 
-interface_first : (name : List ℕ) (lines : Lines) (k : ℕ) → interface_of name lines ≡ Err k → FirstRefused (interface_of name) lines k
-unfolding interface_of
-interface_first name lines k e =
+steps_first : (name : List ℕ) (lines : Lines) (k : ℕ) → all_steps name lines ≡ Err k → FirstRefused (all_steps name) lines k
+steps_first name lines k e =
     step_next version_of (λ v l. from_version name v l) lines k (first_text Two) Two (version_again Two) (headed name)
     (λ v l h. version_first name v l k h) e
+
+interface_first : (name : List ℕ) (lines : Lines) (k : ℕ) → interface_of name lines ≡ Err k → FirstRefused (interface_of name) lines k
+interface_first name lines k e =
+    subst (λ (read : Lines → Result InterfaceParts ℕ). FirstRefused read lines k) (all_by_steps name) (steps_first name lines k (by_steps name lines ∙ e))
 
 -- the line that is refused is the first bad one
 pub interface_bad : (name : List ℕ) (lines : Lines) (k : ℕ) → interface_of name lines ≡ Err k → IsFirstBad (λ l. StatesInterface name (line_texts l)) lines k

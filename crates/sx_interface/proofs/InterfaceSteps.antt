@@ -5,7 +5,7 @@ use Rattle.sx_lines.specs.Reading.{◌>>=◌, the_line, next_line, no_line}
 use Rattle.sx_lines.specs.Rows.{distinct_rows}
 use Rattle.sx_interface.specs.declared.version.Version.{Version}
 use Rattle.sx_interface.specs.Interfaces.{Mark, InterfaceParts, mark_after, digest_after, use_after}
-use Rattle.sx_interface.specs.Interfaces.{stated_signature}
+use Rattle.sx_interface.specs.Interfaces.{stated_signature, version_of}
 
 abbrev pub made : (name : List ℕ) → Mark → (uses : List Mark) → (base : List ℕ) → (imports : List Mark) → (signature stated : List ℕ) → InterfaceParts
 made name language uses base imports signature stated =
@@ -39,3 +39,7 @@ from_module version make lines = next_line (mark_after (codes "language ")) line
 
 abbrev pub from_version : List ℕ → Version → Lines → Result InterfaceParts ℕ
 from_version name version lines = the_line (codes "module " ++ name) lines >>= λ rest. from_module version (made name) rest
+
+-- all steps, one by one
+abbrev pub all_steps : List ℕ → Lines → Result InterfaceParts ℕ
+all_steps name lines = next_line version_of lines >>= λ version. from_version name version.0 version.1

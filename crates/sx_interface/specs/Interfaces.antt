@@ -89,7 +89,7 @@ abbrev pub stated_signature : Version → List ℕ × Lines → Result (List ℕ
 stated_signature One signature = Ok signature
 stated_signature Two signature = next_line Some signature.1
 
--- what stands before the imports, and the lines from there on
+-- what is stated before the imports, and the lines from there on
 pub record Front : Type 0 where
   pub version : Version
   pub language : Mark
@@ -97,6 +97,7 @@ pub record Front : Type 0 where
   pub base : List ℕ
   pub rest : Lines
 
+-- what stands before the imports, in a file of the module with this name
 unfoldable pub front_of : List ℕ → Lines → Result Front ℕ
 front_of name lines = do
   version ← next_line version_of lines
@@ -125,24 +126,17 @@ signatures_of version lines = do
 -- defined.
 unfoldable pub interface_of : List ℕ → Lines → Result InterfaceParts ℕ
 interface_of name lines = do
-  version ← next_line version_of lines
-  rest ← the_line (codes "module " ++ name) version.1
-  language ← next_line (mark_after (codes "language ")) rest
-  uses ← distinct_rows (λ m. m.name) (use_after version.0) [] language.1
-  base ← next_line (digest_after (codes "base ")) uses.1
-  imports ← distinct_rows (λ m. m.name) (mark_after (codes "import ")) [] base.1
-  signed ← the_line (codes "---") imports.1
-  signature ← next_line Some signed
-  stated ← stated_signature version.0 signature
-  end ← no_line stated.1
+  front ← front_of name lines
+  imports ← distinct_rows (λ m. m.name) (mark_after (codes "import ")) [] front.rest
+  signatures ← signatures_of front.version imports.1
   Ok (record {
     name = name;
-    language = language.0;
-    uses = uses.0;
-    base = base.0;
+    language = front.language;
+    uses = front.uses;
+    base = front.base;
     imports = imports.0;
-    signature = signature.0;
-    stated = stated.0;
+    signature = signatures.0;
+    stated = signatures.1;
   })
 
 -- the number, unless it is that of a version
