@@ -4,8 +4,8 @@ use Rattle.std.specs.Prelude.{Ok, Err, Some}
 use Rattle.sx_extcheck.specs.declared.budgets.Budgets.{Budgets}
 use Rattle.sx_typing.specs.Refused.{HasWalked}
 use Rattle.sx_unit.specs.declared.compiled.Compiled.{Compiled}
-use Rattle.sx_unit.specs.declared.module_error.ModuleError.{ModuleError}
-use Rattle.sx_unit.specs.declared.module_error.ModuleError.TheVariants as errors
+use Rattle.sx_typing.specs.declared.module_error.ModuleError.{ModuleError}
+use Rattle.sx_typing.specs.declared.module_error.ModuleError.TheVariants as errors
 use Rattle.sx_unit.specs.Modules.{ModuleData}
 use Rattle.sx_unit.specs.Refused.{IsBadModule, IsCounted}
 use Rattle.sx_steps.specs.declared.stop.Stop.{Stop}

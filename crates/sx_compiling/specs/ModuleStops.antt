@@ -1,7 +1,7 @@
 -- The stops of modules that are not compiled.
 use Rattle.std.specs.Prelude.{ℕ, List, Option, Some, None}
-use Rattle.sx_unit.specs.declared.module_error.ModuleError.{ModuleError}
-use Rattle.sx_unit.specs.declared.module_error.ModuleError.TheVariants as module_error
+use Rattle.sx_typing.specs.declared.module_error.ModuleError.{ModuleError}
+use Rattle.sx_typing.specs.declared.module_error.ModuleError.TheVariants as module_error
 use Rattle.sx_words.specs.declared.position.Position.TheVariants.{Spot}
 use Rattle.sx_words.specs.declared.budget_defect.BudgetDefect.TheVariants as budget_defect
 use Rattle.sx_words.specs.declared.goal_defect.GoalDefect.{GoalDefect}

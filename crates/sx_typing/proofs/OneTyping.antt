@@ -20,12 +20,14 @@ use Rattle.sx_notation.specs.OneReason.{ShowTwo}
 use Rattle.sx_notation.specs.WhyUnread.{IsUnreadAs, place_in}
 use Rattle.sx_notation.proofs.OneReasons.{unread_or_read}
 use Rattle.sx_words.specs.declared.goal_defect.GoalDefect.{GoalDefect}
-use Rattle.sx_typing.specs.declared.typing_error.TypingError.{TypingError}
-use Rattle.sx_typing.specs.declared.typing_error.TypingError.TheVariants.{Memory}
-use Rattle.sx_typing.specs.declared.typing_error.TypingError.TheVariants.{Token as BadTokens, Read}
-use Rattle.sx_typing.specs.declared.typing_error.TypingError.TheVariants.{TypeError, BudgetSpent}
-use Rattle.sx_typing.specs.declared.typing_error.TypingError.TheVariants.{DepthSpent, TooDeep}
-use Rattle.sx_typing.specs.declared.typing_error.TypingError.TheVariants.{TooBig}
+use Rattle.sx_typing.specs.declared.module_error.ModuleError.{ModuleError}
+use Rattle.sx_typing.specs.declared.module_error.ModuleError.TheVariants.{Memory}
+use Rattle.sx_typing.specs.declared.module_error.ModuleError.TheVariants.{Token as BadTokens, Read}
+use Rattle.sx_typing.specs.declared.module_error.ModuleError.TheVariants.{TypeError, BudgetSpent}
+use Rattle.sx_typing.specs.declared.module_error.ModuleError.TheVariants.{DepthSpent, TooDeep}
+use Rattle.sx_typing.specs.declared.module_error.ModuleError.TheVariants.{TooBig, RewriteSpent}
+use Rattle.sx_typing.specs.declared.module_error.ModuleError.TheVariants.{RewriteDeep, Print}
+use Rattle.sx_typing.specs.declared.module_error.ModuleError.TheVariants.{Captured}
 use Rattle.sx_typing.specs.Alike.{HasThree, AreAlike, SameBody, SameTyping, OneTyping}
 use Rattle.sx_typing.specs.Body.{IsCut, HasDefect}
 use Rattle.sx_typing.specs.Goals.{dialect_rules, goal_with, goal_events, IsTyped}
@@ -49,7 +51,7 @@ module _ (s : BodySource) where
   -- ---- the body
 
   -- the body has no tokens, or these have not one reading
-  record IsUncut (e : TypingError) : Type 0 where
+  record IsUncut (e : ModuleError) : Type 0 where
     line : ℕ
     column : ℕ
     defect : TokenError
@@ -57,7 +59,7 @@ module _ (s : BodySource) where
     has : HasDefect s.dialect.parts s.header.body defect
     at : IsSpot s (defect_place defect) line column
 
-  record IsUnread (e : TypingError) : Type 0 where
+  record IsUnread (e : ModuleError) : Type 0 where
     line : ℕ
     column : ℕ
     why : Unread
@@ -68,17 +70,17 @@ module _ (s : BodySource) where
         (length s.header.body) why
     at : IsSpot s (unread_place why) line column
 
-  uncut_one : (e d : TypingError) → IsUncut e → IsUncut d → AreAlike s e d
+  uncut_one : (e d : ModuleError) → IsUncut e → IsUncut d → AreAlike s e d
   uncut_one e d h k =
       let same = defect_one s.dialect.parts s.header.body h.defect k.defect h.has k.has in
       let there = subst (λ (x : TokenError). IsSpot s (defect_place x) h.line h.column) same h.at in
       inl (h.is ∙ (λ i. BadTokens ((there.0 ∙ sym k.at.0) i) ((there.1 ∙ sym k.at.1) i) (same i))
       ∙ sym k.is)
 
-  uncut_unread : (e d : TypingError) → IsUncut e → IsUnread d → ⊥
+  uncut_unread : (e d : ModuleError) → IsUncut e → IsUnread d → ⊥
   uncut_unread e d h k = defect_or_cut s.dialect.parts s.header.body h.defect k.tokens h.has k.cut
 
-  reads_alike : (u v : Unread) (e d : TypingError) (line column row place : ℕ) →
+  reads_alike : (u v : Unread) (e d : ModuleError) (line column row place : ℕ) →
       e ≡ Read line column u → d ≡ Read row place v →
       IsSpot s (unread_place u) line column → IsSpot s (unread_place v) row place →
       (u ≡ v) ⊎ (ShowTwo u v × HasThree s.dialect.parts (main_sort s.dialect.language Sub)
@@ -102,7 +104,7 @@ module _ (s : BodySource) where
         three = three;
       })
 
-  unreads_one : (e d : TypingError) → IsUnread e → IsUnread d → AreAlike s e d
+  unreads_one : (e d : ModuleError) → IsUnread e → IsUnread d → AreAlike s e d
   unreads_one e d h k =
       reads_alike h.why k.why e d h.line h.column k.line k.column h.is k.is h.at k.at
       (unread_one s.dialect.parts (main_sort s.dialect.language Sub) s.header.body
@@ -115,16 +117,16 @@ module _ (s : BodySource) where
       b.reading c.reading b.subject c.subject b.read c.read in
       record { tokens = same.tokens_same; reading = same.reading_same; subject = same.term_same }
 
-  abbrev IsUnbodied : TypingError → Type 0
+  abbrev IsUnbodied : ModuleError → Type 0
   IsUnbodied e = IsUncut e ⊎ IsUnread e
 
-  unbodied_one : (e d : TypingError) → IsUnbodied e → IsUnbodied d → AreAlike s e d
+  unbodied_one : (e d : ModuleError) → IsUnbodied e → IsUnbodied d → AreAlike s e d
   unbodied_one e d (inl h) (inl k) = uncut_one e d h k
   unbodied_one e d (inl h) (inr k) = absurd (uncut_unread e d h k)
   unbodied_one e d (inr h) (inl k) = absurd (uncut_unread d e k h)
   unbodied_one e d (inr h) (inr k) = unreads_one e d h k
 
-  unbodied_none : (e : TypingError) → IsUnbodied e → HasBody s → ⊥
+  unbodied_none : (e : ModuleError) → IsUnbodied e → HasBody s → ⊥
   unbodied_none e (inl h) b = defect_or_cut s.dialect.parts s.header.body h.defect b.tokens h.has
       b.read.cut
   unbodied_none e (inr h) b =
@@ -137,7 +139,7 @@ module _ (s : BodySource) where
   -- ---- the walk
 
   -- the stuck goal, and its text
-  record IsMistyped (ts : List Token) (r : Reading) (subject : Tree) (e : TypingError) : Type 0
+  record IsMistyped (ts : List Token) (r : Reading) (subject : Tree) (e : ModuleError) : Type 0
     where
       line : ℕ
       column : ℕ
@@ -150,7 +152,7 @@ module _ (s : BodySource) where
 
   module _ (tries : ℕ) where
     -- the refusal where the walk ends so
-    abbrev Tells : List Token → Reading → Tree → Ending → TypingError → Type 0
+    abbrev Tells : List Token → Reading → Tree → Ending → ModuleError → Type 0
     Tells ts r subject (found answer) e = ⊥
     Tells ts r subject (stopped depth_spent) e = e ≡ DepthSpent
     Tells ts r subject (stopped (too_deep depth)) e = e ≡ TooDeep (min depth (2 ^ 64 - 1))
@@ -159,7 +161,7 @@ module _ (s : BodySource) where
     Tells ts r subject exhausted e = IsMistyped ts r subject e
 
     module _ (moded : AllModed (modes_of s.dialect.language.forms) (dialect_rules s.dialect)) where
-      mistyped_one : (ts : List Token) (r : Reading) (subject : Tree) (e d : TypingError) →
+      mistyped_one : (ts : List Token) (r : Reading) (subject : Tree) (e d : ModuleError) →
           IsMistyped ts r subject e → IsMistyped ts r subject d → e ≡ d
       mistyped_one ts r subject e d h k =
           let forms = s.dialect.language.forms in
@@ -176,7 +178,7 @@ module _ (s : BodySource) where
           ∙ sym k.is
 
       tells_one : (ts : List Token) (r : Reading) (subject : Tree) (x : Ending)
-          (e d : TypingError) → Tells ts r subject x e → Tells ts r subject x d → e ≡ d
+          (e d : ModuleError) → Tells ts r subject x e → Tells ts r subject x d → e ≡ d
       tells_one ts r subject (found answer) e d h k = absurd h
       tells_one ts r subject (stopped depth_spent) e d h k = h ∙ sym k
       tells_one ts r subject (stopped (too_deep depth)) e d h k = h ∙ sym k
@@ -187,12 +189,12 @@ module _ (s : BodySource) where
     -- ---- all of it
 
     -- the body is read, and the walk of its goal tells the refusal
-    record IsRefused (e : TypingError) : Type 0 where
+    record IsRefused (e : ModuleError) : Type 0 where
       body : HasBody s
       tells : Tells body.tokens body.reading body.subject
           (walk None tries (goal_events s body.subject)) e
 
-    told_by : (e : TypingError) (b : HasBody s) (x : Ending) →
+    told_by : (e : ModuleError) (b : HasBody s) (x : Ending) →
         walk None tries (goal_events s b.subject) ≡ x → Tells b.tokens b.reading b.subject x e →
         (e ≡ Memory) ⊎ IsUnbodied e ⊎ IsRefused e
     told_by e b x ends h =
@@ -202,7 +204,7 @@ module _ (s : BodySource) where
               subst (λ (y : Ending). Tells b.tokens b.reading b.subject y e) (sym ends) h;
         }))
 
-    refusals : (e : TypingError) → IsBadSource s tries e → (e ≡ Memory) ⊎ IsUnbodied e ⊎ IsRefused e
+    refusals : (e : ModuleError) → IsBadSource s tries e → (e ≡ Memory) ⊎ IsUnbodied e ⊎ IsRefused e
     refusals Memory h = inl refl
     refusals (BadTokens line column defect) h =
         inr (inl (inl (record {
@@ -246,11 +248,15 @@ module _ (s : BodySource) where
         told_by (TooDeep n) b (stopped (too_deep depth)) ends (ap TooDeep is)
     refusals (TooBig n) (b, size, ends, is) =
         told_by (TooBig n) b (stopped (too_big size)) ends (ap TooBig is)
+    refusals (RewriteSpent n) h = absurd h
+    refusals RewriteDeep h = absurd h
+    refusals (Print part defect) h = absurd h
+    refusals (Captured word) h = absurd h
 
-    abbrev TellsOf : List Token → Reading → Tree → TypingError → Type 0
+    abbrev TellsOf : List Token → Reading → Tree → ModuleError → Type 0
     TellsOf ts r subject e = Tells ts r subject (walk None tries (goal_events s subject)) e
 
-    tells_there : (e : TypingError) (b c : HasBody s) → TellsOf b.tokens b.reading b.subject e →
+    tells_there : (e : ModuleError) (b c : HasBody s) → TellsOf b.tokens b.reading b.subject e →
         TellsOf c.tokens c.reading c.subject e
     tells_there e b c h =
         let same = same_body b c in
@@ -259,7 +265,7 @@ module _ (s : BodySource) where
         (subst (λ (ts : List Token). TellsOf ts b.reading b.subject e) same.tokens h))
 
     refused_one : AllModed (modes_of s.dialect.language.forms) (dialect_rules s.dialect) →
-        (e d : TypingError) → (e ≡ Memory) ⊎ IsUnbodied e ⊎ IsRefused e →
+        (e d : ModuleError) → (e ≡ Memory) ⊎ IsUnbodied e ⊎ IsRefused e →
         (d ≡ Memory) ⊎ IsUnbodied d ⊎ IsRefused d →
         e ≢ Memory → d ≢ Memory → AreAlike s e d
     refused_one moded e d (inl h) k n m = absurd (n h)
@@ -272,7 +278,7 @@ module _ (s : BodySource) where
         (walk None tries (goal_events s k.body.subject)) e d
         (tells_there e h.body k.body h.tells) k.tells)
 
-    either_one : (t : HasTyping s tries) (e : TypingError) →
+    either_one : (t : HasTyping s tries) (e : ModuleError) →
         (e ≡ Memory) ⊎ IsUnbodied e ⊎ IsRefused e → e ≡ Memory
     either_one t e (inl h) = h
     either_one t e (inr (inl h)) = absurd (unbodied_none e h t.body)

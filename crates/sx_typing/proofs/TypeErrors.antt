@@ -18,7 +18,7 @@ use Rattle.sx_notation.specs.WhyUnread.{place_in}
 use Rattle.sx_stuck.specs.StuckText.{CanTell}
 use Rattle.sx_stuck.specs.ToldGoals.{IsReadBy}
 use Rattle.sx_stuck.proofs.CanTell.{sorted_blames_can_be_told}
-use Rattle.sx_typing.specs.declared.typing_error.TypingError.{TypingError}
+use Rattle.sx_typing.specs.declared.module_error.ModuleError.{ModuleError}
 use Rattle.sx_typing.specs.Body.{IsCut}
 use Rattle.sx_typing.specs.Dialects.{DialectData, IsDialect}
 use Rattle.sx_typing.specs.Outcomes.{IsBlameIn}
@@ -68,7 +68,7 @@ can_tell d top blame is grammar b shallow =
 
 -- so the refusal is one of the source
 pub is_type_error : (s : BodySource) (tries before size : ℕ) (b : HasBody s) (blame : Blame)
-    (e : TypingError) →
+    (e : ModuleError) →
     before ≡ bytes_before s → size ≡ length s.header.body →
     walk None tries (goal_events s b.subject) ≡ exhausted → IsStuckGoal s b.subject blame →
     IsTypeError s.dialect s.bytes before size b.tokens b.reading blame e → IsBadSource s tries e

@@ -5,8 +5,8 @@ use Rattle.sx_rules.specs.Views.{modes_of}
 use Rattle.sx_derive.proofs.Walked.{exhausted_means_none, found_is_first}
 use Rattle.sx_typing.specs.Goals.{dialect_rules, goal_with, TypingsAreFirst}
 use Rattle.sx_rules.specs.Rules.{no_hypotheses}
-use Rattle.sx_typing.specs.declared.typing_error.TypingError.{TypingError}
-use Rattle.sx_typing.specs.declared.typing_error.TypingError.TheVariants as typing_error
+use Rattle.sx_typing.specs.declared.module_error.ModuleError.{ModuleError}
+use Rattle.sx_typing.specs.declared.module_error.ModuleError.TheVariants as module_error
 use Rattle.sx_typing.specs.Refused.{IsBadSource, IsTypingFinal, SourceTypeErrorsAreFinal}
 use Rattle.sx_typing.specs.BodySource.{BodySource}
 
@@ -23,15 +23,19 @@ source_type_errors_are_final s tries line column text moded (b, ends, why) = (
 )
 
 -- so it is of each refusal
-pub final_if : (s : BodySource) (tries : ℕ) (e : TypingError) →
+pub final_if : (s : BodySource) (tries : ℕ) (e : ModuleError) →
     AllModed (modes_of s.dialect.language.forms) (dialect_rules s.dialect) → IsBadSource s tries e →
     IsTypingFinal s e
-final_if s tries typing_error.Memory moded h = tt
-final_if s tries (typing_error.Token line column e) moded h = tt
-final_if s tries (typing_error.Read line column e) moded h = tt
-final_if s tries (typing_error.TypeError line column text) moded h =
+final_if s tries module_error.Memory moded h = tt
+final_if s tries (module_error.Token line column e) moded h = tt
+final_if s tries (module_error.Read line column e) moded h = tt
+final_if s tries (module_error.TypeError line column text) moded h =
     source_type_errors_are_final s tries line column text moded h
-final_if s tries (typing_error.BudgetSpent n) moded h = tt
-final_if s tries typing_error.DepthSpent moded h = tt
-final_if s tries (typing_error.TooDeep n) moded h = tt
-final_if s tries (typing_error.TooBig n) moded h = tt
+final_if s tries (module_error.BudgetSpent n) moded h = tt
+final_if s tries module_error.DepthSpent moded h = tt
+final_if s tries (module_error.TooDeep n) moded h = tt
+final_if s tries (module_error.TooBig n) moded h = tt
+final_if s tries (module_error.RewriteSpent n) moded h = tt
+final_if s tries module_error.RewriteDeep moded h = tt
+final_if s tries (module_error.Print part defect) moded h = tt
+final_if s tries (module_error.Captured word) moded h = tt

@@ -10,8 +10,8 @@ use Rattle.sx_rules.specs.Modes.{AllModed}
 use Rattle.sx_rules.specs.Views.{modes_of}
 use Rattle.sx_notation.specs.declared.unread.Unread.TheVariants.{Ambiguous}
 use Rattle.sx_notation.specs.OneReason.{HaveThree}
-use Rattle.sx_typing.specs.declared.typing_error.TypingError.{TypingError}
-use Rattle.sx_typing.specs.declared.typing_error.TypingError.TheVariants.{Memory, Read}
+use Rattle.sx_typing.specs.declared.module_error.ModuleError.{ModuleError}
+use Rattle.sx_typing.specs.declared.module_error.ModuleError.TheVariants.{Memory, Read}
 use Rattle.sx_typing.specs.Body.{IsCut}
 use Rattle.sx_typing.specs.Goals.{dialect_rules}
 use Rattle.sx_typing.specs.Refused.{HasBody, HasTyping, HasWalked, IsBadSource}
@@ -26,7 +26,7 @@ abbrev pub BodyHasThree : BodySource → Type 0
 BodyHasThree s = HasThree s.dialect.parts (main_sort s.dialect.language Sub) s.header.body
 
 -- both say that the body has more than one reading, and show two of them; it has more than two
-pub record ReadOthers (s : BodySource) (e d : TypingError) : Type 0 where
+pub record ReadOthers (s : BodySource) (e d : ModuleError) : Type 0 where
   pub line : ℕ
   pub column : ℕ
   pub one : Text
@@ -38,7 +38,7 @@ pub record ReadOthers (s : BodySource) (e d : TypingError) : Type 0 where
   pub three : BodyHasThree s
 
 -- the same refusal, but for the two readings that it shows of a text with more than two
-abbrev pub AreAlike : BodySource → TypingError → TypingError → Type 0
+abbrev pub AreAlike : BodySource → ModuleError → ModuleError → Type 0
 AreAlike s e d = (e ≡ d) ⊎ ReadOthers s e d
 
 -- the same tokens, the same reading and the same term
@@ -59,9 +59,9 @@ pub record SameTyping (s : BodySource) (tries : ℕ) (t u : HasTyping s tries) :
 pub record OneTyping : Type 0 where
   pub read : (s : BodySource) (b c : HasBody s) → SameBody s b c
   pub found : (s : BodySource) (tries : ℕ) (t u : HasTyping s tries) → SameTyping s tries t u
-  pub either : (s : BodySource) (tries : ℕ) (t : HasTyping s tries) (e : TypingError) →
+  pub either : (s : BodySource) (tries : ℕ) (t : HasTyping s tries) (e : ModuleError) →
       IsBadSource s tries e → e ≡ Memory
-  pub refused : (s : BodySource) (tries : ℕ) (e d : TypingError) →
+  pub refused : (s : BodySource) (tries : ℕ) (e d : ModuleError) →
       AllModed (modes_of s.dialect.language.forms) (dialect_rules s.dialect) →
       IsBadSource s tries e → IsBadSource s tries d → e ≢ Memory → d ≢ Memory → AreAlike s e d
   pub counted : (s : BodySource) (tries made other : ℕ) → HasWalked s tries made →

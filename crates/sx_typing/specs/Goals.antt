@@ -19,8 +19,8 @@ use Rattle.sx_derive.specs.Walk.{Event, events}
 use Rattle.sx_rewrite.specs.Accepted.{extended_rules as accepted_rules}
 use Rattle.sx_rewrite.specs.Rewrites.{CanRewrite}
 use Rattle.sx_typing.specs.declared.typed.Typed.{Typed}
-use Rattle.sx_typing.specs.declared.typing_error.TypingError.{TypingError}
-use Rattle.sx_typing.specs.declared.typing_error.TypingError.TheVariants.{Memory}
+use Rattle.sx_typing.specs.declared.module_error.ModuleError.{ModuleError}
+use Rattle.sx_typing.specs.declared.module_error.ModuleError.TheVariants.{Memory}
 use Rattle.sx_typing.specs.Body.{ReadsAs}
 use Rattle.sx_typing.specs.Dialects.{DialectData}
 use Rattle.sx_typing.specs.MainGoals.{main_goal}
@@ -72,7 +72,7 @@ IsFoundBy s tries subject answer =
     (dialect_rules s.dialect) no_hypotheses (goal_with s subject) None tries answer
 
 -- each of so many tries was counted; without memory some of them were
-abbrev pub AreTriesCounted : {X : Type 0} → ℕ → ℕ → ℕ → Result X TypingError → Type 0
+abbrev pub AreTriesCounted : {X : Type 0} → ℕ → ℕ → ℕ → Result X ModuleError → Type 0
 AreTriesCounted made first last (Err Memory) = (first ≤ last) × (last ≤ first + made)
 AreTriesCounted made first last _ = last ≡ first + made
 

@@ -18,12 +18,14 @@ use Rattle.sx_notation.specs.declared.unread.Unread.TheVariants as unread
 use Rattle.sx_notation.specs.WhyUnread.{IsUnreadAs, place_in}
 use Rattle.sx_stuck.specs.StuckText.{Telling, stuck_text as told_text}
 use Rattle.sx_words.specs.declared.goal_defect.GoalDefect.{GoalDefect}
-use Rattle.sx_typing.specs.declared.typing_error.TypingError.{TypingError}
-use Rattle.sx_typing.specs.declared.typing_error.TypingError.TheVariants.{Memory}
-use Rattle.sx_typing.specs.declared.typing_error.TypingError.TheVariants.{Token as BadTokens, Read}
-use Rattle.sx_typing.specs.declared.typing_error.TypingError.TheVariants.{TypeError, BudgetSpent}
-use Rattle.sx_typing.specs.declared.typing_error.TypingError.TheVariants.{DepthSpent, TooDeep}
-use Rattle.sx_typing.specs.declared.typing_error.TypingError.TheVariants.{TooBig}
+use Rattle.sx_typing.specs.declared.module_error.ModuleError.{ModuleError}
+use Rattle.sx_typing.specs.declared.module_error.ModuleError.TheVariants.{Memory}
+use Rattle.sx_typing.specs.declared.module_error.ModuleError.TheVariants.{Token as BadTokens, Read}
+use Rattle.sx_typing.specs.declared.module_error.ModuleError.TheVariants.{TypeError, BudgetSpent}
+use Rattle.sx_typing.specs.declared.module_error.ModuleError.TheVariants.{DepthSpent, TooDeep}
+use Rattle.sx_typing.specs.declared.module_error.ModuleError.TheVariants.{TooBig, RewriteSpent}
+use Rattle.sx_typing.specs.declared.module_error.ModuleError.TheVariants.{RewriteDeep, Print}
+use Rattle.sx_typing.specs.declared.module_error.ModuleError.TheVariants.{Captured}
 use Rattle.sx_typing.specs.Body.{IsCut, HasDefect}
 use Rattle.sx_typing.specs.Dialects.{DialectData}
 use Rattle.sx_typing.specs.Goals.{dialect_rules, goal_with, goal_events, IsBody, IsTyped}
@@ -88,8 +90,8 @@ pub record HasTyping (s : BodySource) (tries : ℕ) : Type 0 where
   pub answer : Answer
   pub typed : IsTyped s tries body.subject output answer
 
--- each refusal, with the conditions of those before it; out of memory is free
-abbrev pub IsBadSource : BodySource → (tries : ℕ) → TypingError → Type 0
+-- each refusal of a body, with the conditions of those before it; out of memory is free
+abbrev pub IsBadSource : BodySource → (tries : ℕ) → ModuleError → Type 0
 IsBadSource s tries Memory = Unit {0}
 IsBadSource s tries (BadTokens line column e) = HasDefect s.dialect.parts s.header.body e ×
     IsSpot s (defect_place e) line column
@@ -112,6 +114,10 @@ IsBadSource s tries (TooDeep n) = (b : HasBody s) × (depth : ℕ) ×
 IsBadSource s tries (TooBig n) = (b : HasBody s) × (size : ℕ) ×
     (walk None tries (goal_events s b.subject) ≡ stopped (passes_size size)) ×
     (n ≡ min size (2 ^ 64 - 1))
+IsBadSource s tries (RewriteSpent n) = ⊥
+IsBadSource s tries RewriteDeep = ⊥
+IsBadSource s tries (Print part defect) = ⊥
+IsBadSource s tries (Captured word) = ⊥
 
 -- ---- type errors
 
@@ -123,7 +129,7 @@ IsUntyped s = (b : HasBody s) ×
     (goal_with s b.subject) None
 
 -- where the refusal is a type error the source is untyped
-abbrev pub IsTypingFinal : BodySource → TypingError → Type 0
+abbrev pub IsTypingFinal : BodySource → ModuleError → Type 0
 IsTypingFinal s (TypeError line column text) = IsUntyped s
 IsTypingFinal s _ = Unit {0}
 

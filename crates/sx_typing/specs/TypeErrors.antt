@@ -6,8 +6,8 @@ use Rattle.sx_forest.specs.Places.{place_at}
 use Rattle.sx_derive.specs.Stuck.{Blame}
 use Rattle.sx_notation.specs.WhyUnread.{place_in}
 use Rattle.sx_words.specs.declared.goal_defect.GoalDefect.{GoalDefect}
-use Rattle.sx_typing.specs.declared.typing_error.TypingError.{TypingError}
-use Rattle.sx_typing.specs.declared.typing_error.TypingError.TheVariants.{TypeError}
+use Rattle.sx_typing.specs.declared.module_error.ModuleError.{ModuleError}
+use Rattle.sx_typing.specs.declared.module_error.ModuleError.TheVariants.{TypeError}
 use Rattle.sx_typing.specs.Dialects.{DialectData}
 use Rattle.sx_typing.specs.Refused.{told_goal}
 use Rattle.sx_typing.specs.Spots.{line_at, column_at}
@@ -20,7 +20,7 @@ IsPartPlace ts r path size place = (number : ℕ) × (place_at r path ≡ Some n
 -- the refusal of a file that ends with a body of so many bytes: where the part begins that the
 -- stuck goal speaks of, and the text
 pub record IsTypeError (d : DialectData) (file : List ℕ) (before size : ℕ) (ts : List Token)
-    (r : Reading) (blame : Blame) (e : TypingError) : Type 0 where
+    (r : Reading) (blame : Blame) (e : ModuleError) : Type 0 where
   pub line : ℕ
   pub column : ℕ
   pub text : GoalDefect

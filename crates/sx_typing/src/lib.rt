@@ -16,6 +16,7 @@ mod body_source;
 mod dialect;
 mod goal_laws;
 mod laws;
+mod module_error;
 mod places;
 mod reading;
 mod searching;
@@ -24,7 +25,6 @@ mod text_reading;
 mod type_error;
 mod typed;
 mod typing;
-mod typing_error;
 mod unread_text;
 
 pub use body::Body;
@@ -34,11 +34,11 @@ pub use goal_laws::{main_goals_fit, outputs_fit, searches_fit, stuck_goals_fit};
 pub use laws::{
     dialects_grow, one_typing, source_type_errors_are_final, typings_are_first, typings_are_good,
 };
+pub use module_error::ModuleError;
 pub use places::{defect_place, unread_place};
 pub use reading::{main_sort, read_source};
 pub use searching::main_goal;
 pub use text_reading::read_body_text;
 pub use typed::Typed;
 pub use typing::type_source;
-pub use typing_error::TypingError;
 pub use unread_text::UnreadText;

@@ -6,7 +6,7 @@ ghost use Rattle.sx_term.specs.declared.role.Role.TheVariants.{Sub};
 ghost use Rattle.sx_rules.specs.Sets.{forms_in};
 ghost use Rattle.sx_forest.specs.Readings.{plain_reading};
 ghost use Rattle.sx_notation.specs.Language.{language_data, sorts_with};
-ghost use Rattle.sx_typing.specs.declared.typing_error.TypingError.TheVariants.{Memory};
+ghost use Rattle.sx_typing.specs.declared.module_error.ModuleError.TheVariants.{Memory};
 ghost use Rattle.sx_typing.specs.Goals.{IsBody};
 ghost use Rattle.sx_typing.specs.Refused.{HasBody, IsBadSource};
 ghost use Rattle.sx_typing.specs.BodySource.{source_of, CanType, IsTermFor, main_sort, only_sort};
@@ -16,7 +16,7 @@ use crate::body::Body;
 use crate::body_source::BodySource;
 use crate::places::{body_of, body_spot, defect_place, unread_place};
 use crate::text_reading::read_body_text;
-use crate::typing_error::TypingError;
+use crate::module_error::ModuleError;
 use crate::unread_text::UnreadText;
 use std::alloc::Global;
 use sx_notation::Language;
@@ -49,7 +49,7 @@ pub fn main_sort(language: &Language, role: Role) -> Sort
 }
 
 /// The refusal of the body, with its place.
-fn refusal(source: &BodySource, error: UnreadText) -> TypingError
+fn refusal(source: &BodySource, error: UnreadText) -> ModuleError
     requires { IsUnreadText (source_of source.now).dialect.parts
         (main_sort (source_of source.now).dialect.language Sub) (source_of source.now).header.body
         error }
@@ -57,10 +57,10 @@ fn refusal(source: &BodySource, error: UnreadText) -> TypingError
     ensures none { (result ≡ Memory) ⊎ (HasBody (source_of source.now) → ⊥) }
 {
     match error {
-        UnreadText::Memory => TypingError::Memory,
+        UnreadText::Memory => ModuleError::Memory,
         UnreadText::Token(error) => {
             let spot = body_spot(source, defect_place(&error));
-            TypingError::Token {
+            ModuleError::Token {
                 line: spot.line,
                 column: spot.column,
                 error,
@@ -68,7 +68,7 @@ fn refusal(source: &BodySource, error: UnreadText) -> TypingError
         }
         UnreadText::Read(error) => {
             let spot = body_spot(source, unread_place(&error));
-            TypingError::Read {
+            ModuleError::Read {
                 line: spot.line,
                 column: spot.column,
                 error,
@@ -81,7 +81,7 @@ fn refusal(source: &BodySource, error: UnreadText) -> TypingError
 /// subject. It is refused where it has no tokens, and where these have not one reading.
 ///
 /// The header is that of the bytes, and the environment is a term of the dialect.
-pub fn read_source(alloc: Global, source: &BodySource) -> Result<Body, TypingError>
+pub fn read_source(alloc: Global, source: &BodySource) -> Result<Body, ModuleError>
     requires { CanType source.now }
 
     // The body has only this reading, and its term can be typed.

@@ -20,7 +20,7 @@ ghost use Rattle.sx_typing.specs.TypeErrors.{IsPartPlace, IsTypeError};
 use crate::body::Body;
 use crate::dialect::Dialect;
 use crate::spots::spot_of;
-use crate::typing_error::TypingError;
+use crate::module_error::ModuleError;
 use std::alloc::Global;
 use sx_derive::Blame;
 use sx_forest::{Reading, place_of};
@@ -70,7 +70,7 @@ pub(crate) fn type_error(
     before: usize,
     body: &Body,
     blame: &Blame,
-) -> Result<TypingError, NoMemory>
+) -> Result<ModuleError, NoMemory>
     requires dialect { IsDialectOf dialect.now }
     requires before { before ≤ length file.now }
     requires cut { (text : List ℕ) × IsCut dialect.now.grammar.now.parts text
@@ -89,7 +89,7 @@ pub(crate) fn type_error(
     let size = file.len() - before;
     let place = part_place(&body.tokens, size, &body.reading, &blame.path);
     let spot = spot_of(file, before + place);
-    Ok(TypingError::TypeError {
+    Ok(ModuleError::TypeError {
         line: spot.line,
         column: spot.column,
         stuck,

@@ -10,7 +10,7 @@ ghost use Rattle.sx_derive.specs.declared.derive_error.DeriveError.TheVariants.{
 ghost use Rattle.sx_derive.specs.Deriving.{AreCounted};
 ghost use Rattle.sx_derive.specs.Search.{tries_of};
 ghost use Rattle.sx_forest.specs.Readings.{plain_reading};
-ghost use Rattle.sx_typing.specs.declared.typing_error.TypingError.TheVariants.{Memory};
+ghost use Rattle.sx_typing.specs.declared.module_error.ModuleError.TheVariants.{Memory};
 ghost use Rattle.sx_typing.specs.Goals as known;
 ghost use Rattle.sx_typing.specs.Goals.{goal_events, IsBody, IsFoundBy, AreTriesCounted, IsTypedBy};
 ghost use Rattle.sx_typing.specs.Refused.{IsBadSource, IsTypingFinal};
@@ -22,7 +22,7 @@ use crate::places::body_of;
 use crate::searching::{find_derivation, main_goal};
 use crate::type_error::type_error;
 use crate::typed::Typed;
-use crate::typing_error::TypingError;
+use crate::module_error::ModuleError;
 use std::alloc::Global;
 use std::sync::ledger::Ledger;
 use sx_derive::{Blame, DeriveError, Listed};
@@ -35,7 +35,7 @@ fn stuck(
     source: &BodySource,
     body: &Body,
     blame: &Blame,
-) -> Result<TypingError, NoMemory>
+) -> Result<ModuleError, NoMemory>
     requires can { CanType source.now }
     requires body { IsBody (source_of source.now) body.now.tokens.items
         (plain_reading body.now.reading) (tree body.now.term) }
@@ -51,7 +51,7 @@ fn stuck(
 }
 
 /// Why the body's goal has no derivation.
-fn no_derivation(alloc: Global, source: &BodySource, body: &Body, error: DeriveError) -> TypingError
+fn no_derivation(alloc: Global, source: &BodySource, body: &Body, error: DeriveError) -> ModuleError
     requires can { CanType source.now }
     requires body { IsBody (source_of source.now) body.now.tokens.items
         (plain_reading body.now.reading) (tree body.now.term) }
@@ -64,15 +64,15 @@ fn no_derivation(alloc: Global, source: &BodySource, body: &Body, error: DeriveE
     ensures memory { error ≡ NoRoom → result ≡ Memory }
 {
     match error {
-        DeriveError::Memory => TypingError::Memory,
+        DeriveError::Memory => ModuleError::Memory,
         DeriveError::Underivable(blame) => match stuck(alloc, source, body, &blame) {
             Ok(error) => error,
-            Err(_) => TypingError::Memory,
+            Err(_) => ModuleError::Memory,
         },
-        DeriveError::BudgetSpent(tries) => TypingError::BudgetSpent(tries),
-        DeriveError::DepthSpent(_) => TypingError::DepthSpent,
-        DeriveError::TooDeep(depth) => TypingError::TooDeep(depth),
-        DeriveError::TooBig(size) => TypingError::TooBig(size),
+        DeriveError::BudgetSpent(tries) => ModuleError::BudgetSpent(tries),
+        DeriveError::DepthSpent(_) => ModuleError::DepthSpent,
+        DeriveError::TooDeep(depth) => ModuleError::TooDeep(depth),
+        DeriveError::TooBig(size) => ModuleError::TooBig(size),
     }
 }
 
@@ -127,7 +127,7 @@ pub fn type_source<L: Ledger>(
     body: &Body,
     tries: u64,
     steps: &mut Steps<L>,
-) -> Result<Typed, TypingError>
+) -> Result<Typed, ModuleError>
     requires can { CanType source.now }
     requires body { IsBody (source_of source.now) body.now.tokens.items
         (plain_reading body.now.reading) (tree body.now.term) }

@@ -20,21 +20,19 @@ use Rattle.sx_rewrite.specs.declared.rewrite_error.RewriteError.{RewriteError}
 use Rattle.sx_rewrite.specs.declared.rewrite_error.RewriteError.TheVariants as rewrite
 use Rattle.sx_extcheck.specs.declared.budgets.Budgets.{Budgets}
 use Rattle.sx_typing.specs.declared.typed.Typed.{Typed}
-use Rattle.sx_typing.specs.declared.typing_error.TypingError.{TypingError}
-use Rattle.sx_typing.specs.declared.typing_error.TypingError.TheVariants as typing
 use Rattle.sx_typing.specs.Dialects.{IsDialect}
 use Rattle.sx_typing.specs.BodySource.{BodySource, IsTermFor}
 use Rattle.sx_typing.specs.Goals.{dialect_rules, goal_events, IsBody, AreTriesCounted, IsTypedBy}
 use Rattle.sx_typing.specs.Refused.{HasBody, HasTyping, HasWalked, IsBadSource}
 use Rattle.sx_unit.specs.declared.compiled.Compiled.{Compiled}
 use Rattle.sx_unit.specs.declared.lowering.Lowering.{Lowering}
-use Rattle.sx_unit.specs.declared.module_error.ModuleError.{ModuleError}
-use Rattle.sx_unit.specs.declared.module_error.ModuleError.TheVariants.{Memory, Token, Read}
-use Rattle.sx_unit.specs.declared.module_error.ModuleError.TheVariants.{TypeError, BudgetSpent}
-use Rattle.sx_unit.specs.declared.module_error.ModuleError.TheVariants.{DepthSpent, TooDeep, TooBig}
-use Rattle.sx_unit.specs.declared.module_error.ModuleError.TheVariants.{RewriteSpent, RewriteDeep}
-use Rattle.sx_unit.specs.declared.module_error.ModuleError.TheVariants.{Print, Captured}
-use Rattle.sx_unit.specs.Errors.{of_typing, of_rewrite}
+use Rattle.sx_typing.specs.declared.module_error.ModuleError.{ModuleError}
+use Rattle.sx_typing.specs.declared.module_error.ModuleError.TheVariants.{Memory, Token, Read}
+use Rattle.sx_typing.specs.declared.module_error.ModuleError.TheVariants.{TypeError, BudgetSpent}
+use Rattle.sx_typing.specs.declared.module_error.ModuleError.TheVariants.{DepthSpent, TooDeep, TooBig}
+use Rattle.sx_typing.specs.declared.module_error.ModuleError.TheVariants.{RewriteSpent, RewriteDeep}
+use Rattle.sx_typing.specs.declared.module_error.ModuleError.TheVariants.{Print, Captured}
+use Rattle.sx_unit.specs.Errors.{of_rewrite}
 use Rattle.sx_unit.specs.Lowered.{IsLowering}
 use Rattle.sx_unit.specs.Modules.{ModuleData}
 use Rattle.sx_unit.specs.PrintedParts.{PrintedData}
@@ -86,16 +84,19 @@ module _ (s : BodySource) (is : IsDialect s.dialect) (he : IsTermFor s.dialect I
 module _ (m : ModuleData) (b : Budgets) where
   -- ---- refusals of the steps
 
-  pub unread_bad : (e : TypingError) → IsBadSource m.source b.tries e →
-      IsBadModule m b (of_typing e)
-  unread_bad typing.Memory h = tt
-  unread_bad (typing.Token line column x) h = h
-  unread_bad (typing.Read line column u) h = h
-  unread_bad (typing.TypeError line column text) h = h
-  unread_bad (typing.BudgetSpent n) h = h
-  unread_bad typing.DepthSpent h = h
-  unread_bad (typing.TooDeep n) h = inl h
-  unread_bad (typing.TooBig n) h = inl h
+  pub unread_bad : (e : ModuleError) → IsBadSource m.source b.tries e → IsBadModule m b e
+  unread_bad Memory h = tt
+  unread_bad (Token line column x) h = h
+  unread_bad (Read line column u) h = h
+  unread_bad (TypeError line column text) h = h
+  unread_bad (BudgetSpent n) h = h
+  unread_bad DepthSpent h = h
+  unread_bad (TooDeep n) h = inl h
+  unread_bad (TooBig n) h = inl h
+  unread_bad (RewriteSpent n) h = absurd h
+  unread_bad RewriteDeep h = absurd h
+  unread_bad (Print part defect) h = absurd h
+  unread_bad (Captured word) h = absurd h
 
   pub unlowered_bad : (e : RewriteError) → IsUnlowered m b e → IsBadModule m b (of_rewrite e)
   unlowered_bad rewrite.Memory h = tt
@@ -189,13 +190,12 @@ module _ (m : ModuleData) (b : Budgets) where
   all_counted made first last walked h (Err (Captured word)) = (made, walked, h)
 
   -- where the body is refused there are none
-  pub unread_counted : (e : TypingError) (at : ℕ) → (e ≡ typing.Memory) ⊎ (HasBody m.source → ⊥) →
-      IsCounted m b (Err (of_typing e)) at at
+  pub unread_counted : (e : ModuleError) (at : ℕ) → (e ≡ Memory) ⊎ (HasBody m.source → ⊥) →
+      IsCounted m b (Err e) at at
   unread_counted e at (inl memory) =
-      subst (λ (x : TypingError). IsCounted m b (Err (of_typing x)) at at) (sym memory)
+      subst (λ (x : ModuleError). IsCounted m b (Err x) at at) (sym memory)
       (omega arith, inl refl)
-  unread_counted e at (inr none) = all_counted 0 at at (inr (none, refl)) (omega arith)
-      (Err (of_typing e))
+  unread_counted e at (inr none) = all_counted 0 at at (inr (none, refl)) (omega arith) (Err e)
 
   module _ (body : HasBody m.source) where
     abbrev made : ℕ
@@ -210,16 +210,20 @@ module _ (m : ModuleData) (b : Budgets) where
     typed_counted first last t h r = all_counted made first last walked h r
 
     -- and so they are where it has none
-    pub untyped_counted : (first last : ℕ) (e : TypingError) → AreTriesCounted {X = Typed} made first last
-        (Err e) → IsCounted m b (Err (of_typing e)) first last
-    untyped_counted first last typing.Memory h = (h.0, inr (made, walked, h.1))
-    untyped_counted first last (typing.Token line column e) h = (made, walked, h)
-    untyped_counted first last (typing.Read line column e) h = (made, walked, h)
-    untyped_counted first last (typing.TypeError line column e) h = (made, walked, h)
-    untyped_counted first last (typing.BudgetSpent n) h = (made, walked, h)
-    untyped_counted first last typing.DepthSpent h = (made, walked, h)
-    untyped_counted first last (typing.TooDeep n) h = (made, walked, h)
-    untyped_counted first last (typing.TooBig n) h = (made, walked, h)
+    pub untyped_counted : (first last : ℕ) (e : ModuleError) → AreTriesCounted {X = Typed} made first last
+        (Err e) → IsCounted m b (Err e) first last
+    untyped_counted first last Memory h = (h.0, inr (made, walked, h.1))
+    untyped_counted first last (Token line column e) h = (made, walked, h)
+    untyped_counted first last (Read line column e) h = (made, walked, h)
+    untyped_counted first last (TypeError line column e) h = (made, walked, h)
+    untyped_counted first last (BudgetSpent n) h = (made, walked, h)
+    untyped_counted first last DepthSpent h = (made, walked, h)
+    untyped_counted first last (TooDeep n) h = (made, walked, h)
+    untyped_counted first last (TooBig n) h = (made, walked, h)
+    untyped_counted first last (RewriteSpent n) h = (made, walked, h)
+    untyped_counted first last RewriteDeep h = (made, walked, h)
+    untyped_counted first last (Print part defect) h = (made, walked, h)
+    untyped_counted first last (Captured word) h = (made, walked, h)
 
   -- ---- units and type errors
 

@@ -16,22 +16,20 @@ use Rattle.sx_rewrite.specs.Rewriting.{too_big}
 use Rattle.sx_rewrite.specs.Stored.{signature_of}
 use Rattle.sx_rewrite.proofs.Rewriting.{rewriting_is_unique}
 use Rattle.sx_extcheck.specs.declared.budgets.Budgets.{Budgets}
-use Rattle.sx_typing.specs.declared.typing_error.TypingError.{TypingError}
-use Rattle.sx_typing.specs.declared.typing_error.TypingError.TheVariants as typing
 use Rattle.sx_typing.specs.Alike as typed
 use Rattle.sx_typing.specs.Dialects.{IsDialect}
 use Rattle.sx_typing.specs.Goals.{dialect_rules}
 use Rattle.sx_rules.specs.Rules.{no_hypotheses}
 use Rattle.sx_typing.specs.Refused.{HasTyping, IsBadSource}
 use Rattle.sx_typing.proofs.OneTyping.{one_typing}
-use Rattle.sx_unit.specs.declared.module_error.ModuleError.{ModuleError}
-use Rattle.sx_unit.specs.declared.module_error.ModuleError.TheVariants.{Memory, Token, Read}
-use Rattle.sx_unit.specs.declared.module_error.ModuleError.TheVariants.{TypeError, BudgetSpent}
-use Rattle.sx_unit.specs.declared.module_error.ModuleError.TheVariants.{DepthSpent, TooDeep, TooBig}
-use Rattle.sx_unit.specs.declared.module_error.ModuleError.TheVariants.{RewriteSpent, RewriteDeep}
-use Rattle.sx_unit.specs.declared.module_error.ModuleError.TheVariants.{Print, Captured}
+use Rattle.sx_typing.specs.declared.module_error.ModuleError.{ModuleError}
+use Rattle.sx_typing.specs.declared.module_error.ModuleError.TheVariants.{Memory, Token, Read}
+use Rattle.sx_typing.specs.declared.module_error.ModuleError.TheVariants.{TypeError, BudgetSpent}
+use Rattle.sx_typing.specs.declared.module_error.ModuleError.TheVariants.{DepthSpent, TooDeep, TooBig}
+use Rattle.sx_typing.specs.declared.module_error.ModuleError.TheVariants.{RewriteSpent, RewriteDeep}
+use Rattle.sx_typing.specs.declared.module_error.ModuleError.TheVariants.{Print, Captured}
 use Rattle.sx_unit.specs.Alike.{ShowOthers, AreAlike, OneUnit}
-use Rattle.sx_unit.specs.Errors.{of_typing, of_rewrite}
+use Rattle.sx_unit.specs.Errors.{of_rewrite}
 use Rattle.sx_unit.specs.Modules.{ModuleData}
 use Rattle.sx_unit.specs.PrintedParts.{PrintedData}
 use Rattle.sx_unit.specs.Refused.{IsBadModule}
@@ -79,10 +77,8 @@ module _ (m : ModuleData) (b : Budgets) (dialect : IsDialect m.source.dialect) w
   -- ---- the three steps
 
   record IsUnread (e : ModuleError) : Type 0 where
-    error : TypingError
-    is : e ≡ of_typing error
-    not : error ≢ typing.Memory
-    bad : IsBadSource m.source b.tries error
+    not : e ≢ Memory
+    bad : IsBadSource m.source b.tries e
 
   record IsUnrewritten (e : ModuleError) : Type 0 where
     typing : HasTyping m.source b.tries
@@ -98,9 +94,8 @@ module _ (m : ModuleData) (b : Budgets) (dialect : IsDialect m.source.dialect) w
   abbrev Cases : ModuleError → Type 0
   Cases e = (e ≡ Memory) ⊎ IsUnread e ⊎ IsUnrewritten e ⊎ IsUnput e
 
-  read_case : (error : TypingError) → error ≢ typing.Memory → IsBadSource m.source b.tries error →
-      Cases (of_typing error)
-  read_case error not h = inr (inl (record { error = error; is = refl; not = not; bad = h }))
+  read_case : (e : ModuleError) → e ≢ Memory → IsBadSource m.source b.tries e → Cases e
+  read_case e not h = inr (inl (record { not = not; bad = h }))
 
   rewrite_case : (refusal : Refusal) (t : HasTyping m.source b.tries) →
       Rewrites t.answer.0 (Err refusal) → Cases (of_rewrite (told b.nodes refusal))
@@ -109,14 +104,14 @@ module _ (m : ModuleData) (b : Budgets) (dialect : IsDialect m.source.dialect) w
 
   cases : (e : ModuleError) → IsBadModule m b e → Cases e
   cases Memory h = inl refl
-  cases (Token line column x) h = read_case (typing.Token line column x) (λ e. cc) h
-  cases (Read line column u) h = read_case (typing.Read line column u) (λ e. cc) h
-  cases (TypeError line column text) h = read_case (typing.TypeError line column text) (λ e. cc) h
-  cases (BudgetSpent n) h = read_case (typing.BudgetSpent n) (λ e. cc) h
-  cases DepthSpent h = read_case typing.DepthSpent (λ e. cc) h
-  cases (TooDeep n) (inl h) = read_case (typing.TooDeep n) (λ e. cc) h
+  cases (Token line column x) h = read_case (Token line column x) (λ e. cc) h
+  cases (Read line column u) h = read_case (Read line column u) (λ e. cc) h
+  cases (TypeError line column text) h = read_case (TypeError line column text) (λ e. cc) h
+  cases (BudgetSpent n) h = read_case (BudgetSpent n) (λ e. cc) h
+  cases DepthSpent h = read_case DepthSpent (λ e. cc) h
+  cases (TooDeep n) (inl h) = read_case (TooDeep n) (λ e. cc) h
   cases (TooDeep n) (inr h) = rewrite_case (too_deep n) h.0 h.1
-  cases (TooBig n) (inl h) = read_case (typing.TooBig n) (λ e. cc) h
+  cases (TooBig n) (inl h) = read_case (TooBig n) (λ e. cc) h
   cases (TooBig n) (inr h) = rewrite_case (too_big n) h.0 h.1
   cases (RewriteSpent n) h = subst (λ (k : ℕ). Cases (RewriteSpent k)) (sym h.1.0)
       (rewrite_case spent h.0 h.1.1)
@@ -161,20 +156,9 @@ module _ (m : ModuleData) (b : Budgets) (dialect : IsDialect m.source.dialect) w
 
   -- ---- refusals
 
-  reads_alike : (e d : ModuleError) (x y : TypingError) → e ≡ of_typing x → d ≡ of_typing y →
-      typed.AreAlike m.source x y → AreAlike m b e d
-  reads_alike e d x y h k (inl same) = inl (h ∙ ap of_typing same ∙ sym k)
-  reads_alike e d x y h k (inr o) = inr (inl (record {
-    line = o.line;
-    column = o.column;
-    one = o.one;
-    other = o.other;
-    some = o.some;
-    more = o.more;
-    first = h ∙ ap of_typing o.first;
-    second = k ∙ ap of_typing o.second;
-    three = o.three;
-  }))
+  reads_alike : (e d : ModuleError) → typed.AreAlike m.source e d → AreAlike m b e d
+  reads_alike e d (inl same) = inl same
+  reads_alike e d (inr others) = inr (inl others)
 
   puts_alike : (l : HasLowering m b) (e d : ModuleError) → (e ≡ d) ⊎ ShowOthers m l.terms e d →
       AreAlike m b e d
@@ -183,7 +167,7 @@ module _ (m : ModuleData) (b : Budgets) (dialect : IsDialect m.source.dialect) w
 
   -- a body that is typed is not refused
   typed_none : (e : ModuleError) → HasTyping m.source b.tries → IsUnread e → ⊥
-  typed_none e t h = h.not (one_typing.either m.source b.tries t h.error h.bad)
+  typed_none e t h = h.not (one_typing.either m.source b.tries t e h.bad)
 
   -- what is lowered is not refused
   lowered_none : (e : ModuleError) → HasLowering m b → IsUnrewritten e → ⊥
@@ -195,8 +179,8 @@ module _ (m : ModuleData) (b : Budgets) (dialect : IsDialect m.source.dialect) w
       m.source.dialect.rules dialect.rule_set.1
 
   reads_one : (e d : ModuleError) → IsUnread e → IsUnread d → AreAlike m b e d
-  reads_one e d h k = reads_alike e d h.error k.error h.is k.is
-      (one_typing.refused m.source b.tries h.error k.error moded h.bad k.bad h.not k.not)
+  reads_one e d h k =
+      reads_alike e d (one_typing.refused m.source b.tries e d moded h.bad k.bad h.not k.not)
 
   rewrites_alike : (e d : ModuleError) → IsUnrewritten e → IsUnrewritten d → AreAlike m b e d
   rewrites_alike e d h k =

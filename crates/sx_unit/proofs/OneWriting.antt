@@ -5,12 +5,12 @@ use Rattle.sx_rules.specs.Derivations.{Proof}
 use Rattle.sx_words.specs.declared.print_defect.PrintedPart.{PrintedPart}
 use Rattle.sx_words.specs.declared.print_defect.PrintedPart.TheVariants.{Body, Signature, Stated}
 use Rattle.sx_words.specs.declared.print_defect.PrintDefect.{PrintDefect}
-use Rattle.sx_unit.specs.declared.module_error.ModuleError.{ModuleError}
-use Rattle.sx_unit.specs.declared.module_error.ModuleError.TheVariants.{Memory, Token, Read}
-use Rattle.sx_unit.specs.declared.module_error.ModuleError.TheVariants.{TypeError, BudgetSpent}
-use Rattle.sx_unit.specs.declared.module_error.ModuleError.TheVariants.{DepthSpent, TooDeep, TooBig}
-use Rattle.sx_unit.specs.declared.module_error.ModuleError.TheVariants.{RewriteSpent, RewriteDeep}
-use Rattle.sx_unit.specs.declared.module_error.ModuleError.TheVariants.{Print, Captured}
+use Rattle.sx_typing.specs.declared.module_error.ModuleError.{ModuleError}
+use Rattle.sx_typing.specs.declared.module_error.ModuleError.TheVariants.{Memory, Token, Read}
+use Rattle.sx_typing.specs.declared.module_error.ModuleError.TheVariants.{TypeError, BudgetSpent}
+use Rattle.sx_typing.specs.declared.module_error.ModuleError.TheVariants.{DepthSpent, TooDeep, TooBig}
+use Rattle.sx_typing.specs.declared.module_error.ModuleError.TheVariants.{RewriteSpent, RewriteDeep}
+use Rattle.sx_typing.specs.declared.module_error.ModuleError.TheVariants.{Print, Captured}
 use Rattle.sx_unit.specs.Alike.{PartHasThree, ShowOthers}
 use Rattle.sx_unit.specs.Captured.{names_in}
 use Rattle.sx_unit.specs.Modules.{ModuleData}

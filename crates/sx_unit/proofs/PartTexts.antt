@@ -10,7 +10,7 @@ use Rattle.sx_interface.specs.Headers.{HeaderParts}
 use Rattle.sx_interface.specs.StatedHeader.{row_lines}
 use Rattle.sx_interface.specs.Interfaces.{InterfaceParts, mark_lines, interface_lines}
 use Rattle.sx_words.specs.declared.print_defect.PrintedPart.{PrintedPart}
-use Rattle.sx_unit.specs.declared.module_error.ModuleError.{ModuleError}
+use Rattle.sx_typing.specs.declared.module_error.ModuleError.{ModuleError}
 use Rattle.sx_unit.specs.declared.print_check.PrintRefusal.TheVariants.{Memory, Defect}
 use Rattle.sx_unit.specs.Modules.{ModuleData}
 use Rattle.sx_unit.specs.PartRefused.{IsPartRefusal}

@@ -36,8 +36,8 @@ use Rattle.sx_typing.specs.Dialects.{DialectData, IsDialect}
 use Rattle.sx_typing.specs.Goals.{IsBody, IsTypedBy, dialect_rules, goal_with}
 use Rattle.sx_typing.specs.MainGoals.{input_at, main_terms}
 use Rattle.sx_unit.specs.declared.compiled.Compiled.{Compiled}
-use Rattle.sx_unit.specs.declared.module_error.ModuleError.{ModuleError}
-use Rattle.sx_unit.specs.declared.module_error.ModuleError.TheVariants.{RewriteSpent}
+use Rattle.sx_typing.specs.declared.module_error.ModuleError.{ModuleError}
+use Rattle.sx_typing.specs.declared.module_error.ModuleError.TheVariants.{RewriteSpent}
 use Rattle.sx_unit.specs.BaseAlone.{IsBaseAlone}
 use Rattle.sx_unit.specs.Modules.{ModuleData}
 use Rattle.sx_unit.specs.PrintedParts.{PrintedData}

@@ -3,14 +3,13 @@
 use Rattle.std.specs.Prelude.{◌≡◌, ◌≢◌, ◌⊎◌, ℕ}
 use Rattle.sx_extcheck.specs.declared.budgets.Budgets.{Budgets}
 use Rattle.sx_grammar.specs.Grammar.{Text}
-use Rattle.sx_notation.specs.declared.unread.Unread.TheVariants.{Ambiguous}
 use Rattle.sx_words.specs.declared.print_defect.PrintedPart.{PrintedPart}
 use Rattle.sx_words.specs.declared.print_defect.PrintDefect.TheVariants as print_defect
-use Rattle.sx_typing.specs.Alike.{BodyHasThree, HasThree}
+use Rattle.sx_typing.specs.Alike.{HasThree, ReadOthers}
 use Rattle.sx_typing.specs.Dialects.{IsDialect}
 use Rattle.sx_typing.specs.Refused.{HasWalked}
-use Rattle.sx_unit.specs.declared.module_error.ModuleError.{ModuleError}
-use Rattle.sx_unit.specs.declared.module_error.ModuleError.TheVariants.{Memory, Read, Print}
+use Rattle.sx_typing.specs.declared.module_error.ModuleError.{ModuleError}
+use Rattle.sx_typing.specs.declared.module_error.ModuleError.TheVariants.{Memory, Print}
 use Rattle.sx_unit.specs.Modules.{ModuleData}
 use Rattle.sx_unit.specs.PrintedParts.{PrintedData, part_grammar_of, part_sort_of}
 use Rattle.sx_unit.specs.Refused.{IsBadModule}
@@ -22,18 +21,6 @@ abbrev pub PartHasThree : ModuleData → PrintedData → PrintedPart → Type 0
 PartHasThree m t part =
     HasThree (part_grammar_of m.source.dialect part) (part_sort_of m.source.dialect part)
     (shown_of m t part)
-
--- both say that the body has more than one reading, and show two of them; it has more than two
-pub record ReadOthers (m : ModuleData) (e d : ModuleError) : Type 0 where
-  pub line : ℕ
-  pub column : ℕ
-  pub one : Text
-  pub other : Text
-  pub some : Text
-  pub more : Text
-  pub first : e ≡ Read line column (Ambiguous one other)
-  pub second : d ≡ Read line column (Ambiguous some more)
-  pub three : BodyHasThree m.source
 
 -- both say of these terms that the same part, which is due, has more than one reading, and show two
 -- of them; it has more than two
@@ -54,7 +41,7 @@ PrintOthers m b e d = (l : HasLowering m b) × ShowOthers m l.terms e d
 
 -- the same refusal, but for the two readings that it shows of a text with more than two
 abbrev pub AreAlike : ModuleData → Budgets → ModuleError → ModuleError → Type 0
-AreAlike m b e d = (e ≡ d) ⊎ ReadOthers m e d ⊎ PrintOthers m b e d
+AreAlike m b e d = (e ≡ d) ⊎ ReadOthers m.source e d ⊎ PrintOthers m b e d
 
 -- A module in a dialect has one unit, or one refusal, and its walk makes so many tries. Two
 -- readings that a refusal shows are the same two in the same order, that of their tree texts by

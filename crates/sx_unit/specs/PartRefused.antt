@@ -3,8 +3,8 @@ use Rattle.std.specs.Prelude.{◌≡◌, ℕ, List}
 use Rattle.sx_term.specs.Tree.{Tree}
 use Rattle.sx_words.specs.declared.print_defect.PrintedPart.{PrintedPart}
 use Rattle.sx_typing.specs.Dialects.{DialectData}
-use Rattle.sx_unit.specs.declared.module_error.ModuleError.{ModuleError}
-use Rattle.sx_unit.specs.declared.module_error.ModuleError.TheVariants.{Memory, Print}
+use Rattle.sx_typing.specs.declared.module_error.ModuleError.{ModuleError}
+use Rattle.sx_typing.specs.declared.module_error.ModuleError.TheVariants.{Memory, Print}
 use Rattle.sx_unit.specs.declared.print_check.PrintRefusal.{PrintRefusal}
 use Rattle.sx_unit.specs.declared.print_check.PrintRefusal.TheVariants as refusal
 use Rattle.sx_unit.specs.PrintedParts.{part_grammar_of, part_sort_of}

@@ -7,18 +7,17 @@ use Rattle.sx_rewrite.specs.declared.rewrite_error.RewriteError.TheVariants as r
 use Rattle.sx_rewrite.specs.RewrittenView.{IsRewriting}
 use Rattle.sx_extcheck.specs.declared.budgets.Budgets.{Budgets}
 use Rattle.sx_words.specs.declared.goal_defect.GoalDefect.{GoalDefect}
-use Rattle.sx_typing.specs.declared.typing_error.TypingError.TheVariants as typing
 use Rattle.sx_typing.specs.Goals.{dialect_rules}
 use Rattle.sx_rules.specs.Rules.{no_hypotheses}
 use Rattle.sx_typing.specs.Refused.{HasTyping, HasWalked, IsBadSource, IsUntyped}
 use Rattle.sx_unit.specs.declared.compiled.Compiled.{Compiled}
-use Rattle.sx_unit.specs.declared.module_error.ModuleError.{ModuleError}
-use Rattle.sx_unit.specs.declared.module_error.ModuleError.TheVariants.{Memory, Token, Read}
-use Rattle.sx_unit.specs.declared.module_error.ModuleError.TheVariants.{TypeError, BudgetSpent}
-use Rattle.sx_unit.specs.declared.module_error.ModuleError.TheVariants.{DepthSpent, TooDeep}
-use Rattle.sx_unit.specs.declared.module_error.ModuleError.TheVariants.{TooBig, RewriteSpent}
-use Rattle.sx_unit.specs.declared.module_error.ModuleError.TheVariants.{RewriteDeep, Print}
-use Rattle.sx_unit.specs.declared.module_error.ModuleError.TheVariants.{Captured}
+use Rattle.sx_typing.specs.declared.module_error.ModuleError.{ModuleError}
+use Rattle.sx_typing.specs.declared.module_error.ModuleError.TheVariants.{Memory, Token, Read}
+use Rattle.sx_typing.specs.declared.module_error.ModuleError.TheVariants.{TypeError, BudgetSpent}
+use Rattle.sx_typing.specs.declared.module_error.ModuleError.TheVariants.{DepthSpent, TooDeep}
+use Rattle.sx_typing.specs.declared.module_error.ModuleError.TheVariants.{TooBig, RewriteSpent}
+use Rattle.sx_typing.specs.declared.module_error.ModuleError.TheVariants.{RewriteDeep, Print}
+use Rattle.sx_typing.specs.declared.module_error.ModuleError.TheVariants.{Captured}
 use Rattle.sx_unit.specs.Modules.{ModuleData}
 use Rattle.sx_unit.specs.Unit.{HasLowering, IsUnitMade}
 use Rattle.sx_unit.specs.Written.{IsUnwritten, unit_of}
@@ -38,16 +37,16 @@ IsUnmade m b e = (l : HasLowering m b) × IsUnwritten m l.terms e
 abbrev pub IsBadModule : ModuleData → Budgets → ModuleError → Type 0
 IsBadModule m b Memory = Unit {0}
 IsBadModule m b (Token line column e) =
-    IsBadSource m.source b.tries (typing.Token line column e)
-IsBadModule m b (Read line column u) = IsBadSource m.source b.tries (typing.Read line column u)
+    IsBadSource m.source b.tries (Token line column e)
+IsBadModule m b (Read line column u) = IsBadSource m.source b.tries (Read line column u)
 IsBadModule m b (TypeError line column text) =
-    IsBadSource m.source b.tries (typing.TypeError line column text)
-IsBadModule m b (BudgetSpent n) = IsBadSource m.source b.tries (typing.BudgetSpent n)
-IsBadModule m b DepthSpent = IsBadSource m.source b.tries typing.DepthSpent
+    IsBadSource m.source b.tries (TypeError line column text)
+IsBadModule m b (BudgetSpent n) = IsBadSource m.source b.tries (BudgetSpent n)
+IsBadModule m b DepthSpent = IsBadSource m.source b.tries DepthSpent
 IsBadModule m b (TooDeep n) =
-    IsBadSource m.source b.tries (typing.TooDeep n) ⊎ IsUnlowered m b (rewrite.TooDeep n)
+    IsBadSource m.source b.tries (TooDeep n) ⊎ IsUnlowered m b (rewrite.TooDeep n)
 IsBadModule m b (TooBig n) =
-    IsBadSource m.source b.tries (typing.TooBig n) ⊎ IsUnlowered m b (rewrite.TooBig n)
+    IsBadSource m.source b.tries (TooBig n) ⊎ IsUnlowered m b (rewrite.TooBig n)
 IsBadModule m b (RewriteSpent n) = IsUnlowered m b (rewrite.RewriteSpent n)
 IsBadModule m b RewriteDeep = IsUnlowered m b rewrite.RewriteDeep
 IsBadModule m b (Print part defect) = IsUnmade m b (Print part defect)

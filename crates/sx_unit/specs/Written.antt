@@ -11,8 +11,8 @@ use Rattle.sx_words.specs.declared.print_defect.PrintDefect.{PrintDefect}
 use Rattle.sx_typing.specs.Dialects.{DialectData}
 use Rattle.sx_typing.specs.BodySource.{IsGoodTerm}
 use Rattle.sx_unit.specs.declared.compiled.Compiled.{Compiled}
-use Rattle.sx_unit.specs.declared.module_error.ModuleError.{ModuleError}
-use Rattle.sx_unit.specs.declared.module_error.ModuleError.TheVariants.{Memory, Print, Captured}
+use Rattle.sx_typing.specs.declared.module_error.ModuleError.{ModuleError}
+use Rattle.sx_typing.specs.declared.module_error.ModuleError.TheVariants.{Memory, Print, Captured}
 use Rattle.sx_unit.specs.Captured.{IsCaptured, IsFree}
 use Rattle.sx_unit.specs.Modules.{ModuleData}
 use Rattle.sx_unit.specs.PrintedParts.{PrintedData, part_grammar_of, part_sort_of, term_of}

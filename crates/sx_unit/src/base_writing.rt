@@ -20,13 +20,12 @@ ghost use Rattle.sx_unit.specs.Refused.{IsCompiled};
 
 use crate::compiled::Compiled;
 use crate::known_reading::adds_nothing;
-use crate::module_error::ModuleError;
 use crate::module_source::ModuleSource;
 use crate::module_writing::write_module;
 use crate::printed_terms::PrintedTerms;
 use std::alloc::Global;
 use sx_term::{MOST_SIZE, Term};
-use sx_typing::{Body, Dialect, Typed};
+use sx_typing::{Body, Dialect, ModuleError, Typed};
 
 /// Whether the extensions in use add neither a rule nor a production.
 fn adds_no_rule(dialect: &Dialect) -> bool

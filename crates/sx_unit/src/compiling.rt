@@ -15,16 +15,15 @@ ghost use Rattle.sx_unit.specs.Written.{unit_of};
 
 use crate::base_writing::{is_lowered, write_typed};
 use crate::compiled::Compiled;
-use crate::errors::{rewrite_error, typing_error};
+use crate::errors::rewrite_error;
 use crate::lowered_writing::write_lowered;
-use crate::module_error::ModuleError;
 use crate::module_source::ModuleSource;
 use crate::typed_lowering::lower_typed;
 use std::alloc::Global;
 use std::sync::ledger::Ledger;
 use sx_extcheck::Budgets;
 use sx_term::Steps;
-use sx_typing::{Body, Typed, read_source, type_source};
+use sx_typing::{Body, ModuleError, Typed, read_source, type_source};
 
 /// Lowers the derivation of a typed body, and writes the module's texts.
 fn compile_lowered(
@@ -93,10 +92,8 @@ fn compile_body<L: Ledger>(
     ensures tries { IsCounted (module_data given.now) budgets result steps.old steps.new }
     ensures most { steps.new ≤ steps.old + budgets.tries }
 {
-    match type_source(alloc, &given.source, body, budgets.tries, steps) {
-        Ok(typed) => compile_typed(alloc, given, body, typed, budgets.nodes),
-        Err(error) => Err(typing_error(error)),
-    }
+    let typed = type_source(alloc, &given.source, body, budgets.tries, steps)?;
+    compile_typed(alloc, given, body, typed, budgets.nodes)
 }
 
 /// Compiles a module in a dialect: its body is read by the dialect's grammar; the first derivation
@@ -126,8 +123,6 @@ pub fn compile<L: Ledger>(
     ensures tries { IsCounted (module_data given.now) budgets result steps.old steps.new }
     ensures most { steps.new ≤ steps.old + budgets.tries }
 {
-    match read_source(alloc, &given.source) {
-        Ok(body) => compile_body(alloc, given, &body, budgets, steps),
-        Err(error) => Err(typing_error(error)),
-    }
+    let body = read_source(alloc, &given.source)?;
+    compile_body(alloc, given, &body, budgets, steps)
 }

@@ -23,7 +23,6 @@ ghost use Rattle.sx_unit.specs.PrintedParts.{part_sort_of};
 ghost use Rattle.sx_unit.specs.Texts.{printed, print_line};
 ghost use Rattle.sx_unit.specs.Unprinted.{IsPrintable};
 
-use crate::module_error::ModuleError;
 use crate::module_source::ModuleSource;
 use crate::part_check::check_part;
 use crate::print_check::MOST_BYTES;
@@ -31,7 +30,7 @@ use std::alloc::Global;
 use sx_lines::after;
 use sx_term::Term;
 use sx_token::Token;
-use sx_typing::{Body, Dialect};
+use sx_typing::{Body, Dialect, ModuleError};
 use sx_words::{PrintDefect, PrintedPart};
 
 /// What ends a line.

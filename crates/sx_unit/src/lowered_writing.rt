@@ -14,11 +14,10 @@ ghost use Rattle.sx_unit.specs.Refused.{IsCompiled};
 use crate::compiled::Compiled;
 use crate::judgement_terms::printed_terms;
 use crate::lowering::Lowering;
-use crate::module_error::ModuleError;
 use crate::module_source::ModuleSource;
 use crate::module_writing::write_module;
 use std::alloc::Global;
-use sx_typing::{Body, Typed};
+use sx_typing::{Body, ModuleError, Typed};
 
 /// Writes the texts of a typed body that is lowered so.
 pub(crate) fn write_lowered(

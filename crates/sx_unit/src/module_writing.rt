@@ -19,7 +19,6 @@ ghost use Rattle.sx_unit.specs.Written.{ArePrintable, IsGoodPart, IsUnwritten, I
 
 use crate::compiled::Compiled;
 use crate::known_reading::check_body;
-use crate::module_error::ModuleError;
 use crate::module_source::ModuleSource;
 use crate::printed_terms::PrintedTerms;
 use crate::showing::show;
@@ -28,7 +27,7 @@ use crate::texts::{base_text, derivation_text};
 use std::alloc::Global;
 use sx_rules::Entry;
 use sx_term::NoMemory;
-use sx_typing::Body;
+use sx_typing::{Body, ModuleError};
 
 /// The base file, and how many tokens its printed body has.
 #[derive(Drop)]

@@ -13,12 +13,11 @@ ghost use Rattle.sx_unit.specs.PrintedParts.{part_grammar_of, part_sort_of};
 ghost use Rattle.sx_unit.specs.Texts.{printed, print_text};
 ghost use Rattle.sx_unit.specs.Unprinted.{IsPrintable};
 
-use crate::module_error::ModuleError;
 use crate::parts::{part_grammar, part_sort};
 use crate::print_check::{PrintRefusal, check_print};
 use std::alloc::Global;
 use sx_term::Term;
-use sx_typing::Dialect;
+use sx_typing::{Dialect, ModuleError};
 use sx_words::PrintedPart;
 
 /// The refusal of a printed part.

@@ -13,13 +13,13 @@ ghost use Rattle.sx_unit.specs.Written.{file_size};
 
 use crate::captured::captured;
 use crate::known_reading::{adds_nothing, check_known};
-use crate::module_error::ModuleError;
 use crate::module_source::ModuleSource;
 use crate::part_check::check_part;
 use crate::printed_terms::PrintedTerms;
 use crate::showing::show;
 use crate::texts::interface_text;
 use std::alloc::Global;
+use sx_typing::ModuleError;
 use sx_words::PrintedPart;
 
 /// The names of the stated signature are no literals of the dialect.

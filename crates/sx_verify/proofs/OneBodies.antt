@@ -10,8 +10,8 @@ use Rattle.sx_notation.specs.WhyUnread.{IsUnreadAs}
 use Rattle.sx_notation.proofs.OneReasons.{unread_or_read}
 use Rattle.sx_rules.specs.Modes.{AllModed}
 use Rattle.sx_rules.specs.Views.{modes_of}
-use Rattle.sx_typing.specs.declared.typing_error.TypingError.{TypingError}
-use Rattle.sx_typing.specs.declared.typing_error.TypingError.TheVariants as typing_error
+use Rattle.sx_typing.specs.declared.module_error.ModuleError.{ModuleError}
+use Rattle.sx_typing.specs.declared.module_error.ModuleError.TheVariants as module_error
 use Rattle.sx_typing.specs.Alike.{AreAlike, BodyHasThree}
 use Rattle.sx_typing.specs.Goals.{dialect_rules}
 use Rattle.sx_typing.specs.Refused.{HasBody, IsBadSource}
@@ -26,22 +26,26 @@ use Rattle.sx_verify.specs.Ground.{HasSubject, body_stop, ReadsBody}
 
 module _ (s : BodySource) (file : List ℕ) where
   -- a body that is read is not refused
-  no_body : (e : TypingError) (stop : Stop) → IsBadSource s 0 e → body_stop file e ≡ Some stop →
+  no_body : (e : ModuleError) (stop : Stop) → IsBadSource s 0 e → body_stop file e ≡ Some stop →
       HasBody s → ⊥
-  no_body (typing_error.Token line column e) stop bad is b =
+  no_body (module_error.Token line column e) stop bad is b =
       defect_or_cut s.dialect.parts s.header.body e b.tokens bad.0 b.read.cut
-  no_body (typing_error.Read line column u) stop ((ts, cut, why), at) is b =
+  no_body (module_error.Read line column u) stop ((ts, cut, why), at) is b =
       let sort = main_sort s.dialect.language Sub in
       let size = length s.header.body in
       unread_or_read s.dialect.parts [] sort b.tokens size u b.reading
       (subst (λ (l : List Token). IsUnreadAs s.dialect.parts [] sort l size u)
       (one_cut s.dialect.parts s.header.body ts b.tokens cut b.read.cut) why) b.read.answer
-  no_body typing_error.Memory stop bad is b = none_some stop is
-  no_body (typing_error.TypeError line column text) stop bad is b = none_some stop is
-  no_body (typing_error.BudgetSpent n) stop bad is b = none_some stop is
-  no_body typing_error.DepthSpent stop bad is b = none_some stop is
-  no_body (typing_error.TooDeep n) stop bad is b = none_some stop is
-  no_body (typing_error.TooBig n) stop bad is b = none_some stop is
+  no_body module_error.Memory stop bad is b = none_some stop is
+  no_body (module_error.TypeError line column text) stop bad is b = none_some stop is
+  no_body (module_error.BudgetSpent n) stop bad is b = none_some stop is
+  no_body module_error.DepthSpent stop bad is b = none_some stop is
+  no_body (module_error.TooDeep n) stop bad is b = none_some stop is
+  no_body (module_error.TooBig n) stop bad is b = none_some stop is
+  no_body (module_error.RewriteSpent n) stop bad is b = none_some stop is
+  no_body module_error.RewriteDeep stop bad is b = none_some stop is
+  no_body (module_error.Print part defect) stop bad is b = none_some stop is
+  no_body (module_error.Captured word) stop bad is b = none_some stop is
 
   abbrev body_of : (t : Tree) → HasSubject s (Ok t) → HasBody s
   body_of t h = record { tokens = h.0; reading = h.1; subject = t; read = h.2 }
@@ -50,10 +54,10 @@ module _ (s : BodySource) (file : List ℕ) where
   abbrev pub SameButBody : Stop → Stop → Type 0
   SameButBody x y = (x ≡ y) ⊎ (AreReadings x y × (x.file ≡ file) × BodyHasThree s)
 
-  wants : (stop : Stop) (e : TypingError) → body_stop file e ≡ Some stop → e ≢ typing_error.Memory
+  wants : (stop : Stop) (e : ModuleError) → body_stop file e ≡ Some stop → e ≢ module_error.Memory
   wants stop e is same = none_some stop (sym (ap (body_stop file) same) ∙ is)
 
-  alike : (e d : TypingError) (x y : Stop) → AreAlike s e d → body_stop file e ≡ Some x →
+  alike : (e d : ModuleError) (x y : Stop) → AreAlike s e d → body_stop file e ≡ Some x →
       body_stop file d ≡ Some y → SameButBody x y
   alike e d x y (inl same) h k = inl (some_same x y (sym h ∙ ap (body_stop file) same ∙ k))
   alike e d x y (inr show) h k =

@@ -16,8 +16,8 @@ use Rattle.sx_notation.specs.declared.unread.Unread.{Unread}
 use Rattle.sx_notation.specs.declared.unread.Unread.TheVariants as unread
 use Rattle.sx_notation.specs.Language.{LanguageData}
 use Rattle.sx_interface.specs.Interfaces.{InterfaceParts, Mark}
-use Rattle.sx_typing.specs.declared.typing_error.TypingError.{TypingError}
-use Rattle.sx_typing.specs.declared.typing_error.TypingError.TheVariants as typing_error
+use Rattle.sx_typing.specs.declared.module_error.ModuleError.{ModuleError}
+use Rattle.sx_typing.specs.declared.module_error.ModuleError.TheVariants as module_error
 use Rattle.sx_typing.specs.BodySource.{BodySource}
 use Rattle.sx_unit.specs.Texts.{print_text}
 use Rattle.sx_environment.specs.declared.import_error.ImportError.{ImportError}
@@ -82,15 +82,19 @@ module _ (Q : Stop → Type 0) where
   text_unread file line column (unread.TooDeep depth) = λ h. absurd h
   text_unread file line column (unread.Ambiguous one other) = λ h. absurd h
 
-  no_body : (file : List ℕ) (e : TypingError) → OnTypeError Q (body_stop file e)
-  no_body file typing_error.Memory = tt
-  no_body file (typing_error.Token line column e) = text_uncut file line column e
-  no_body file (typing_error.Read line column u) = text_unread file line column u
-  no_body file (typing_error.TypeError line column stuck) = tt
-  no_body file (typing_error.BudgetSpent n) = tt
-  no_body file typing_error.DepthSpent = tt
-  no_body file (typing_error.TooDeep n) = tt
-  no_body file (typing_error.TooBig n) = tt
+  no_body : (file : List ℕ) (e : ModuleError) → OnTypeError Q (body_stop file e)
+  no_body file module_error.Memory = tt
+  no_body file (module_error.Token line column e) = text_uncut file line column e
+  no_body file (module_error.Read line column u) = text_unread file line column u
+  no_body file (module_error.TypeError line column stuck) = tt
+  no_body file (module_error.BudgetSpent n) = tt
+  no_body file module_error.DepthSpent = tt
+  no_body file (module_error.TooDeep n) = tt
+  no_body file (module_error.TooBig n) = tt
+  no_body file (module_error.RewriteSpent n) = tt
+  no_body file module_error.RewriteDeep = tt
+  no_body file (module_error.Print part defect) = tt
+  no_body file (module_error.Captured word) = tt
 
   no_import : (file : List ℕ) (its : List InterfaceParts) (e : ImportError) →
       OnTypeError Q (import_stop file its e)

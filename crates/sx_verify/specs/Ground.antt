@@ -3,8 +3,8 @@ use Rattle.std.specs.Prelude.{ℕ, List, [], Option, Some, None, Result, Ok, Err
 use Rattle.sx_term.specs.Tree.{Tree}
 use Rattle.sx_token.specs.declared.token.Token.{Token}
 use Rattle.sx_grammar.specs.Reading.{Reading}
-use Rattle.sx_typing.specs.declared.typing_error.TypingError.{TypingError}
-use Rattle.sx_typing.specs.declared.typing_error.TypingError.TheVariants as typing_error
+use Rattle.sx_typing.specs.declared.module_error.ModuleError.{ModuleError}
+use Rattle.sx_typing.specs.declared.module_error.ModuleError.TheVariants as module_error
 use Rattle.sx_typing.specs.Goals.{IsBody}
 use Rattle.sx_typing.specs.Growing.{unextended_dialect}
 use Rattle.sx_typing.specs.Refused.{IsBadSource}
@@ -38,14 +38,14 @@ source_in l m environment = record {
 }
 
 -- the body of the source has only one reading, whose term is the subject, or it is refused
-abbrev pub HasSubject : BodySource → Result Tree TypingError → Type 0
+abbrev pub HasSubject : BodySource → Result Tree ModuleError → Type 0
 HasSubject s (Ok subject) = (ts : List Token) × (r : Reading) × IsBody s ts r subject
 HasSubject s (Err e) = IsBadSource s 0 e
 
 -- the stop of a body that is not read; no goal is searched
-abbrev pub body_stop : List ℕ → TypingError → Option Stop
-body_stop file (typing_error.Token line column e) = uncut_text file line column e
-body_stop file (typing_error.Read line column u) = Some (unread_text file line column u)
+abbrev pub body_stop : List ℕ → ModuleError → Option Stop
+body_stop file (module_error.Token line column e) = uncut_text file line column e
+body_stop file (module_error.Read line column u) = Some (unread_text file line column u)
 body_stop file _ = None
 
 -- the term of the body in the file

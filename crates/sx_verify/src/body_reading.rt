@@ -3,7 +3,7 @@
 ghost use Rattle.std.specs.Prelude.{◌≡◌, ◌⊎◌, IfOk, Some};
 ghost use Rattle.sx_term.specs.Term.{tree};
 ghost use Rattle.sx_term.specs.declared.role.Role.TheVariants.{Sub};
-ghost use Rattle.sx_typing.specs.declared.typing_error.TypingError.TheVariants.{Memory};
+ghost use Rattle.sx_typing.specs.declared.module_error.ModuleError.TheVariants.{Memory};
 ghost use Rattle.sx_typing.specs.Refused.{HasBody, IsBadSource};
 ghost use Rattle.sx_typing.specs.BodySource.{BodySource as SourceData, CanType, IsTermFor};
 ghost use Rattle.sx_typing.specs.BodySource.{source_of};
@@ -15,26 +15,26 @@ use std::alloc::Global;
 use sx_headers::{uncut_text, unread_text};
 use sx_steps::{StepError, Stop};
 use sx_term::{NoMemory, Term, Text};
-use sx_typing::{Body, BodySource, TypingError, read_source};
+use sx_typing::{Body, BodySource, ModuleError, read_source};
 
 /// The refusal of a body that is not read.
-fn bad_body(alloc: Global, file: &Text, error: TypingError) -> Result<Stop, NoMemory>
+fn bad_body(alloc: Global, file: &Text, error: ModuleError) -> Result<Stop, NoMemory>
     requires { (s : SourceData) × IsBadSource s 0 error ×
         ((error ≡ Memory) ⊎ (HasBody s → ⊥)) }
     ensures { IfOk result (λ stop. stop_of_body file.now error ≡ Some stop) }
 {
     match error {
-        TypingError::Token {
+        ModuleError::Token {
             line,
             column,
             error,
         } => uncut_text(alloc, file, line, column, error),
-        TypingError::Read {
+        ModuleError::Read {
             line,
             column,
             error,
         } => unread_text(alloc, file, line, column, error),
-        TypingError::Memory => Err(NoMemory::Memory),
+        ModuleError::Memory => Err(NoMemory::Memory),
         _ => unreachable!(),
     }
 }

@@ -3,7 +3,7 @@ use Rattle.std.specs.List.{AllByRecursion}
 use Rattle.sx_term.specs.Term.{tree}
 use Rattle.sx_rules.specs.ListText.{IsEntry}
 use Rattle.sx_forest.specs.Readings.{plain_reading}
-use Rattle.sx_unit.specs.declared.module_error.ModuleError.TheVariants.{RewriteSpent}
+use Rattle.sx_typing.specs.declared.module_error.ModuleError.TheVariants.{RewriteSpent}
 use Rattle.sx_unit.specs.Modules.{module_data}
 use Rattle.sx_unit.specs.Refused.{IsBadModule}
 use Rattle.sx_unit.proofs.Entries.{names_are}

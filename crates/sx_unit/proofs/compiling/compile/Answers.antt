@@ -6,7 +6,7 @@ use Rattle.sx_rules.specs.Views.{modes_of}
 use Rattle.sx_rules.proofs.Refusals.{good_moded}
 use Rattle.sx_typing.specs.Dialects.{DialectData, IsDialect}
 use Rattle.sx_typing.specs.Goals.{dialect_rules}
-use Rattle.sx_unit.specs.declared.module_error.ModuleError.{ModuleError}
+use Rattle.sx_typing.specs.declared.module_error.ModuleError.{ModuleError}
 use Rattle.sx_unit.specs.Modules.{module_data}
 use Rattle.sx_unit.specs.Refused.{IsBadModule, IsCounted, IsFinal}
 use Rattle.sx_unit.proofs.MadeUnits.{unread_bad, unread_counted, unit_if, final_if}

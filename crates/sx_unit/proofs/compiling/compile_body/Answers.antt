@@ -3,7 +3,7 @@ use Rattle.std.specs.Prelude.{Err}
 use Rattle.sx_term.specs.Term.{tree}
 use Rattle.sx_forest.specs.Readings.{plain_reading}
 use Rattle.sx_typing.specs.Refused.{HasBody}
-use Rattle.sx_unit.specs.declared.module_error.ModuleError.{ModuleError}
+use Rattle.sx_typing.specs.declared.module_error.ModuleError.{ModuleError}
 use Rattle.sx_unit.specs.Modules.{module_data}
 use Rattle.sx_unit.specs.Refused.{IsBadModule, IsCounted}
 use Rattle.sx_unit.proofs.MadeUnits.{unread_bad, typed_counted, untyped_counted}

@@ -5,7 +5,7 @@ use Rattle.sx_forest.specs.Readings.{plain_reading}
 use Rattle.sx_rules.specs.Views.{subjects_in}
 use Rattle.sx_rewrite.specs.RewrittenView.{IsRewriting}
 use Rattle.sx_rules.specs.Rules.{no_hypotheses}
-use Rattle.sx_unit.specs.declared.module_error.ModuleError.{ModuleError}
+use Rattle.sx_typing.specs.declared.module_error.ModuleError.{ModuleError}
 use Rattle.sx_unit.specs.Lowered.{IsLowering}
 use Rattle.sx_unit.specs.Modules.{module_data}
 use Rattle.sx_unit.specs.Refused.{IsBadModule}

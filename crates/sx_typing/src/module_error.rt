@@ -9,7 +9,8 @@ use sx_words::{GoalDefect, PrintDefect, PrintedPart};
 use thiserror::Error;
 
 /// Why a module is not compiled. Lines and columns are those of the module's file, from 1; a column
-/// counts bytes.
+/// counts bytes. A body is refused by the variants as far as `TooBig`; by that and those after it
+/// what its derivation is lowered to, and what is written of it.
 #[derive(Drop, Error)]
 pub enum ModuleError {
     /// Memory is lacking.
@@ -75,7 +76,7 @@ impl fmt::Debug for ModuleError {
 
 impl From<NoMemory> for ModuleError {
     ghost use Rattle.std.specs.Prelude.{◌≡◌};
-    ghost use Rattle.sx_unit.specs.declared.module_error.ModuleError.TheVariants.{Memory};
+    ghost use Rattle.sx_typing.specs.declared.module_error.ModuleError.TheVariants.{Memory};
 
     ghost from_gives = { λ _ e. e ≡ Memory };
 
@@ -86,7 +87,7 @@ impl From<NoMemory> for ModuleError {
 
 impl From<AllocError> for ModuleError {
     ghost use Rattle.std.specs.Prelude.{◌≡◌};
-    ghost use Rattle.sx_unit.specs.declared.module_error.ModuleError.TheVariants.{Memory};
+    ghost use Rattle.sx_typing.specs.declared.module_error.ModuleError.TheVariants.{Memory};
 
     ghost from_gives = { λ _ e. e ≡ Memory };
 
