@@ -78,7 +78,7 @@ fn show_from(
     depth: u32,
     before: u64,
 ) -> Result<u64, ShowError>
-    requires height { height_of (view.proof proof.now) + depth ≤ 3001 }
+    requires height { height_of (view.proof proof.now) + depth ≤ most_levels + 1 }
     requires rules { IsByRules (length (rules_in rules.now)) (view.proof proof.now) }
     ensures { IsShownAfter before (map (λ b. meaning b) auditors.old.items)
         (nodes (rules_in rules.now) depth (view.proof proof.now))

@@ -1,6 +1,7 @@
 -- What is known of plain images, by the numbers of the terms.
-use Rattle.std.specs.Prelude.{◌≡◌, ℕ, ◌-◌, ◌^◌, ◌*◌, ◌<◌, ◌≤◌, List, length, min, get_or, Option}
-use Rattle.std.specs.Prelude.{Some, None, if◌then◌else◌, ◌==◌}
+use Rattle.std.specs.Prelude.{◌≡◌, ℕ, ◌+◌, ◌-◌, ◌^◌, ◌*◌, ◌<◌, ◌≤◌, List, length, min, get_or}
+use Rattle.std.specs.Prelude.{Option, Some, None, if◌then◌else◌, ◌==◌}
+use Rattle.sx_term.specs.Limits.{most_depth}
 use Rattle.sx_term.specs.Tree.{Tree, depth_of, size_of}
 use Rattle.sx_plain.specs.declared.measure.Measure.{Measure}
 use Rattle.sx_plain.specs.Plain.{Table, image}
@@ -19,7 +20,7 @@ with_note notes number value i = if i == number then Some value else notes i
 -- it is more
 pub record IsMeasure (table : Table) (t : Tree) (m : Measure) : Type 0 where
   pub depth : m.depth ≡ depth_of (image table t)
-  pub small : m.depth ≤ 1001 * depth_of t
+  pub small : m.depth ≤ (most_depth + 1) * depth_of t
   pub size : m.size ≡ min (size_of (image table t)) (2 ^ 64 - 1)
 
 -- the term stands at the number, and its plain image has the measure

@@ -92,7 +92,7 @@ fn once_more(part: PartUse, above: u32) -> PartUse
 
 /// Notes which parts stand in the term, which stands under so many nodes.
 fn note(flat: &Term, above: u32, uses: &mut Vec<PartUse>)
-    requires shallow { above + depth_of (tree flat.now) ≤ 1001 }
+    requires shallow { above + depth_of (tree flat.now) ≤ most_depth + 1 }
     requires few { spec.most_times uses.old.items + size_of (tree flat.now) ≤ most_size }
     ensures { uses.new.items ≡ spec.noted above (tree flat.now) uses.old.items }
 {

@@ -29,7 +29,7 @@ pub fn image_measure(table: &PlainTable, term: &Term) -> Measure
     requires shallow { depth_of (tree term.now) ≤ most_depth }
     requires fits { FitsTable (table_of table.now) (tree term.now) }
     ensures depth { result.depth ≡ depth_of (image (table_of table.now) (tree term.now)) }
-    ensures small { result.depth ≤ 1001 * depth_of (tree term.now) }
+    ensures small { result.depth ≤ (most_depth + 1) * depth_of (tree term.now) }
     ensures size { result.size ≡ min (size_of (image (table_of table.now) (tree term.now)))
         (2 ^ 64 - 1) }
 {
@@ -51,7 +51,8 @@ fn body_measure(table: &PlainTable, entry: &Entry, parts: &[Term]) -> Measure
     requires many { length parts.now ≡ entry.now.arity }
     ensures depth { result.depth ≡ depth_with
         (image_depths (table_of table.now) (map tree parts.now)) (tree entry.now.flat) }
-    ensures small { result.depth ≤ 1001 * (greatest_depth (forest (map tree parts.now)) + 1) }
+    ensures small { result.depth ≤ (most_depth + 1) *
+        (greatest_depth (forest (map tree parts.now)) + 1) }
     ensures size { result.size ≡ min (size_with
         (image_sizes (table_of table.now) (map tree parts.now)) (tree entry.now.flat))
         (2 ^ 64 - 1) }
@@ -74,7 +75,8 @@ fn node_measure(table: &PlainTable, kids: &[Term]) -> Measure
     requires fit { FitTable (table_of table.now) (forest (map tree kids.now)) }
     ensures depth { result.depth ≡ greatest (image_depths (table_of table.now)
         (map tree kids.now)) + 1 }
-    ensures small { result.depth ≤ 1001 * (greatest_depth (forest (map tree kids.now)) + 1) }
+    ensures small { result.depth ≤ (most_depth + 1) *
+        (greatest_depth (forest (map tree kids.now)) + 1) }
     ensures size { result.size
         ≡ min (total (image_sizes (table_of table.now) (map tree kids.now)) + 1) (2 ^ 64 - 1) }
 {

@@ -101,7 +101,7 @@ fn once_more(given: GivenUse, above: u32) -> GivenUse
 /// Notes which givens stand in the proof, which stands under so many nodes.
 /// The answer is the proof's own size.
 fn note(proof: &Proof, above: u32, uses: &mut Vec<GivenUse>) -> OwnSize
-    requires shallow { above + height_of (view.proof proof.now) ≤ 3001 }
+    requires shallow { above + height_of (view.proof proof.now) ≤ most_levels + 1 }
     ensures nodes { result.nodes ≡ in_u128 (count.own_nodes (view.proof proof.now)) }
     ensures height { result.height ≡ count.own_height (view.proof proof.now) }
     ensures uses { uses.new.items ≡ noted (λ i. times_given i (view.proof proof.now))
