@@ -55,7 +55,7 @@ fn has_label(arena: &Arena, term: usize, label: u32) -> bool
 
 /// Whether the first pattern that is a node has the label of its term: where not, the patterns
 /// match under no bindings.
-fn may_fit(arena: &Arena, side: &Side, terms: &[usize]) -> bool
+pub fn may_fit(arena: &Arena, side: &Side, terms: &[usize]) -> bool
     requires arena { IsArena arena.now }
     requires terms { AreBelow (length (trees arena.now)) terms.now }
     ensures { result ≡ false → NeverFit (patterns_of side.now)
