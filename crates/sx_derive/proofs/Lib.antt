@@ -17,6 +17,7 @@ pub mod Resumed
 pub mod Handed
 pub mod Tried
 pub mod Tasked
+pub mod Passed
 pub mod Turned
 pub mod Walking
 pub mod Proved

@@ -7,17 +7,18 @@ use Rattle.sx_rules.specs.Modes.{Modes}
 use Rattle.sx_arena.specs.declared.fact.Fact.{Fact}
 use Rattle.sx_arena.specs.declared.pairs.Pair.{Pair}
 use Rattle.sx_derive.specs.Candidates.{AreFacts}
-use Rattle.sx_derive.specs.Resumable.{tries_then, Takes, IsReachedAt, IsReached, IsSettled}
+use Rattle.sx_derive.specs.Resumable.{Takes, IsReachedAt, IsReached, IsSettled}
 use Rattle.sx_derive.specs.Store.{IsStore, StoreGrows, store_trees}
 use Rattle.sx_derive.specs.Tasks.{events_left, TaskFits, TasksFit}
 use Rattle.sx_derive.specs.Turns.{IsMet, IsTaskTurn}
-use Rattle.sx_derive.specs.Walk.{Event, try, Answer}
+use Rattle.sx_derive.specs.Walk.{Event, try, Answer, tries_then}
 use Rattle.sx_derive.specs.declared.store.Store.{Store}
 use Rattle.sx_derive.specs.declared.tasks.Ending.{Ending as EndingOf}
 use Rattle.sx_derive.specs.declared.tasks.Ending.TheVariants.{Found, Passed, DepthSpent, Spent}
 use Rattle.sx_derive.specs.declared.tasks.Ending.TheVariants.{Exhausted}
 use Rattle.sx_derive.specs.declared.tasks.Task.{Task as TaskOf}
 use Rattle.sx_arena.proofs.Facts.{facts_stay}
+use Rattle.sx_derive.proofs.Passed.{tries_more}
 use Rattle.sx_derive.proofs.Stored.{grows_same, grows_then}
 use Rattle.sx_derive.proofs.Tasked.{facts_length}
 use Rattle.sx_derive.proofs.Turned.{events_try, events_pop, fits_pop}
@@ -60,10 +61,6 @@ last_dropped modes rules pairs js s n i first ts rest t h e r l k x =
       same = x.same ∙ ap (events_left modes rules pairs js s) q ∙ events_pop modes rules pairs js s rest t (omega arith);
       fits = λ f. (fits_pop modes rules n s rest t (subst (λ (zs : List TaskOf). TasksFit modes rules s n zs) q (x.fits f))).0;
     }
-
-tries_more : {A : Type 0} (n : ℕ) (es : List (Event A)) → tries_then n (try ∷ es) ≡ tries_then (suc n) es
-tries_more zero es = refl
-tries_more (suc n) es = ap (λ fs. try ∷ fs) (tries_more n es)
 
 module _ (modes : Modes) (rules : List Rule) (pairs : List Pair) (facts : List Fact) (old : Store) (budget : ℕ) (start : List TaskOf) (first : ℕ) where
   abbrev candidates : ℕ

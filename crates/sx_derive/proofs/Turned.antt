@@ -5,7 +5,8 @@ use Rattle.std.proofs.lemmas.Bool.{cases_lt}
 use Rattle.std.specs.declared.alloc.Global.{Global}
 use Rattle.sx_rules.specs.Rules.{Judgement, Rule, Hypotheses}
 use Rattle.sx_rules.specs.Modes.{Modes}
-use Rattle.sx_derive.specs.Walk.{depth_spent, Event, try, give, stop, Answer}
+use Rattle.sx_derive.specs.Passing.{task_at, ComeToNothing}
+use Rattle.sx_derive.specs.Walk.{depth_spent, Event, try, give, stop, Answer, tries_then}
 use Rattle.sx_derive.specs.Search.{walk, are_wanted, found_when, tries_of, tries_unless}
 use Rattle.sx_derive.specs.Machine.{Task, hypotheses_from, Result, nothing, stops, answers, goes_on}
 use Rattle.sx_derive.specs.Machine.{tasks_events, result_events}
@@ -345,3 +346,30 @@ events_try modes rules pairs js s xs k h = go (cases_lt k.next (length js))
         let r = rule_there rules (k.next - length js) l in
         let n : k.next ≡ length js + (k.next - length js) = omega arith in
         ends _ (next_rule modes rules (hyps_in pairs s js) k.levels (goal_in s k.form k.terms.items) (frames_in modes rules s k.frames) k.next (k.next - length js) r.0 n r.1 (stacked modes rules js s xs []))
+
+-- the last task with another number in the place of its own
+module _ (modes : Modes) (rules : List Rule) (n : ℕ) (s : Store) (xs : List TaskOf) (t after : TaskOf) (next : ℕ) (a : after ≡ record { next = next; form = t.form; terms = t.terms; levels = t.levels; frames = t.frames; mark = t.mark }) (l : next ≤ n) where
+  abbrev moved : TaskOf
+  moved = record { next = next; form = t.form; terms = t.terms; levels = t.levels; frames = t.frames; mark = t.mark }
+
+  move_fit : (c : Store) → TaskFits modes rules c n t → TaskFits modes rules c n moved
+  move_fit c f = record { next = l; terms = f.terms; frames = f.frames }
+
+  pub moved_fits : TasksFit modes rules s n (xs ++ t ∷ []) → TasksFit modes rules s n (xs ++ after ∷ [])
+  moved_fits f =
+      let p = fits_pop modes rules n s xs t f in
+      subst (λ (k : TaskOf). TasksFit modes rules s n (xs ++ k ∷ [])) (sym a) (fits_push modes rules n s xs moved p.0 (move_fit s p.1))
+
+  pub moved_piled : (first : Store) → Piled modes rules n first (xs ++ t ∷ []) s → Piled modes rules n first (xs ++ after ∷ []) s
+  moved_piled first p =
+      let r = piled_top modes rules n first s xs t p in
+      subst (λ (k : TaskOf). Piled modes rules n first (xs ++ k ∷ []) s) (sym a) (piled_push modes rules n first r.0 s xs moved r.1.0 r.1.1 (move_fit r.0 r.1.2) r.1.3)
+
+  pub moved_events : (pairs : List Pair) (js : List Judgement) (k : ℕ) → next ≡ t.next + k → ComeToNothing modes rules pairs js s t t.next k →
+      events_left modes rules pairs js s (xs ++ t ∷ []) ≡ tries_then k (events_left modes rules pairs js s (xs ++ after ∷ []))
+  moved_events pairs js k e h =
+      ap (tasks_events modes rules (hyps_in pairs s js)) (stack_push modes rules js s xs t [])
+      ∙ h (stacked modes rules js s xs [])
+      ∙ ap (λ (m : ℕ). tries_then k (tasks_events modes rules (hyps_in pairs s js) (task_at modes rules js s t m ∷ stacked modes rules js s xs []))) (sym e)
+      ∙ ap (λ (ts : List Task). tries_then k (tasks_events modes rules (hyps_in pairs s js) ts)) (sym (stack_push modes rules js s xs moved []))
+      ∙ ap (λ (q : TaskOf). tries_then k (events_left modes rules pairs js s (xs ++ q ∷ []))) (sym a)

@@ -12,6 +12,7 @@ pub mod Premises
 pub mod Handing
 pub mod Candidates
 pub mod Tasks
+pub mod Passing
 pub mod Turns
 pub mod Walked
 pub mod Problems

@@ -1,26 +1,5 @@
 -- Searches that can be taken up again.
-use Rattle.std.specs.Prelude.{
-  ◌≡◌,
-  ℕ,
-  zero,
-  suc,
-  ◌+◌,
-  ◌-◌,
-  ◌^◌,
-  ◌≤◌,
-  ◌<◌,
-  ◌⊎◌,
-  List,
-  [],
-  ◌∷◌,
-  map,
-  length,
-  min,
-  Some,
-  Result,
-  Ok,
-  Err,
-}
+use Rattle.std.specs.Prelude.{◌≡◌, ℕ, ◌+◌, ◌-◌, ◌^◌, ◌≤◌, ◌<◌, ◌⊎◌, List, [], ◌∷◌, map, length, min, Some, Result, Ok, Err}
 use Rattle.sx_term.specs.Term.{tree}
 use Rattle.sx_term.specs.declared.no_memory.NoMemory.{NoMemory}
 use Rattle.sx_rules.specs.Rules.{Judgement, Rule, Hypotheses}
@@ -47,6 +26,7 @@ use Rattle.sx_derive.specs.Walk.{
   give,
   stop,
   Answer,
+  tries_then,
 }
 use Rattle.sx_derive.specs.declared.found.Found.{Found}
 use Rattle.sx_derive.specs.declared.found.Found.TheVariants.{Next, Paused, Ended}
@@ -77,11 +57,6 @@ use Rattle.sx_derive.specs.declared.tasks.Ending.TheVariants.{
 }
 use Rattle.sx_derive.specs.declared.tasks.Task.{Task as TaskOf}
 use Rattle.sx_rules.specs.Limits.{most_levels}
-
--- that many tries, and then the rest
-abbrev pub tries_then : {A : Type 0} → ℕ → List (Event A) → List (Event A)
-tries_then zero rest = rest
-tries_then (suc n) rest = try ∷ tries_then n rest
 
 -- the events that a search in this state stands for, where the rest are those of its tasks
 abbrev pub StandsBefore : State → List (Event Answer) → List (Event Answer) → Type 0

@@ -14,7 +14,7 @@ use Rattle.sx_derive.specs.declared.tasks.Ending.TheVariants.{
   Spent,
   Exhausted,
 }
-use Rattle.sx_derive.specs.Walk.{Cause, depth_spent, Event, try, give, stop, Answer}
+use Rattle.sx_derive.specs.Walk.{Cause, depth_spent, Event, try, give, stop, Answer, tries_then}
 use Rattle.sx_arena.specs.Arena.{AreBelow}
 use Rattle.sx_arena.specs.Places.{IsLimit}
 use Rattle.sx_derive.specs.Chains.{HeadFits}
@@ -22,16 +22,17 @@ use Rattle.sx_derive.specs.Handing.{answer_in}
 use Rattle.sx_derive.specs.Store.{StoreGrows, IsMark, store_trees, store_envs, store_kids}
 use Rattle.sx_derive.specs.Tasks.{events_left, TaskFits, TasksFit, Piled, wanted_in, IsOutcome}
 
--- the last task that has a candidate left, and the tasks before it; or none has one
-abbrev pub IsPopped : Modes → List Rule → List Pair → List Judgement → Store → ℕ → List TaskOf →
-    List TaskOf → Option TaskOf → Type 0
-IsPopped modes rules pairs js s candidates old new None =
-    events_left modes rules pairs js s old ≡ []
-IsPopped modes rules pairs js s candidates old new (Some t) =
+-- after that many tries that come to nothing, the last task that has a candidate left, and the tasks
+-- before it; or none has one
+abbrev pub IsPopped : Modes → List Rule → List Pair → List Judgement → Store → ℕ → ℕ →
+    List TaskOf → List TaskOf → Option TaskOf → Type 0
+IsPopped modes rules pairs js s candidates n old new None =
+    events_left modes rules pairs js s old ≡ tries_then n []
+IsPopped modes rules pairs js s candidates n old new (Some t) =
     (t.next < candidates)
-    × (events_left modes rules pairs js s old ≡ events_left modes rules pairs js s (new ++ t ∷ []))
-    × (TasksFit modes rules s candidates old → TasksFit modes rules s candidates new
-    × TaskFits modes rules s candidates t)
+    × (events_left modes rules pairs js s old
+    ≡ tries_then n (events_left modes rules pairs js s (new ++ t ∷ [])))
+    × TasksFit modes rules s candidates (new ++ t ∷ [])
     × ((first : Store) → Piled modes rules candidates first old s →
     Piled modes rules candidates first (new ++ t ∷ []) s)
 

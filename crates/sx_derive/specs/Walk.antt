@@ -52,6 +52,11 @@ pub data Event (A : Type 0) : Type 0 where
   give : A → Event A
   stop : Cause → Event A
 
+-- that many tries, and then the rest
+abbrev pub tries_then : {A : Type 0} → ℕ → List (Event A) → List (Event A)
+tries_then zero rest = rest
+tries_then (suc n) rest = try ∷ tries_then n rest
+
 -- the events, with f a in the place of each give a
 abbrev pub then_each : {A B : Type 0} → (A → List (Event B)) → List (Event A) → List (Event B)
 then_each f [] = []

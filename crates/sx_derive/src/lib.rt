@@ -26,6 +26,7 @@ mod made_places;
 mod numbered_goal;
 mod open;
 mod outcome;
+mod passing;
 mod premise_descent;
 mod premise_loop;
 mod problem;

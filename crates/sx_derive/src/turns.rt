@@ -3,7 +3,9 @@
 ghost use Rattle.std.specs.Prelude.{
   ◌≡◌,
   ◌+◌,
+  ◌-◌,
   ◌^◌,
+  ◌≤◌,
   ◌<◌,
   ◌↔◌,
   IsTrue,
@@ -20,10 +22,9 @@ ghost use Rattle.sx_derive.specs.Store.{store_trees};
 ghost use Rattle.sx_derive.specs.Tasks.{TaskFits, TasksFit, WantedBelow, IsNextCandidate};
 ghost use Rattle.sx_derive.specs.Turns.{IsPopped, IsTaskTurn};
 ghost use Rattle.sx_arena.specs.Views.{rules_of, set_modes};
-ghost use Rattle.sx_arena.specs.declared.pairs.Pair.{Pair as PairOf};
-ghost use Rattle.sx_derive.specs.declared.store.Store.{Store as StoreOf};
 
 use crate::given::Given;
+use crate::passing::pass_over;
 use crate::step::Step;
 use crate::store::Store;
 use crate::tasks::{Ending, Task, is_candidate, new_task, try_next};
@@ -41,15 +42,28 @@ fn is_wanted(wanted: &Option<Vec<usize>>, outputs: &[usize]) -> bool
     }
 }
 
-/// The last task that has a candidate left.
-pub(crate) fn next_task(given: &Given, tasks: &mut Vec<Task>) -> Option<Task>
-    ensures { (pairs : List PairOf) (js : List Judgement) (s : StoreOf) →
-        length js ≡ length given.now.facts.now →
-        IsPopped (set_modes given.now.rules.now) (rules_of given.now.rules.now) pairs js s
-        (length given.now.facts.now + length (rules_of given.now.rules.now)) tasks.old.items
-        tasks.new.items result }
+/// The last task that has a candidate left which does not come to nothing at a look, or where no
+/// try is left. Each candidate that is passed over takes one of the tries.
+pub(crate) fn next_task(
+    given: &Given,
+    store: &Store,
+    tasks: &mut Vec<Task>,
+    left: &mut u64,
+) -> Option<Task>
+    requires store { IsStoreOf given.now store.now }
+    requires tasks { TasksFit (set_modes given.now.rules.now) (rules_of given.now.rules.now)
+        store.now
+        (length given.now.facts.now + length (rules_of given.now.rules.now)) tasks.old.items }
+    ensures less { left.new ≤ left.old }
+    ensures popped { (js : List Judgement) → HasFacts given.now store.now js →
+        IsPopped (set_modes given.now.rules.now) (rules_of given.now.rules.now)
+        given.now.pairs.now js store.now
+        (length given.now.facts.now + length (rules_of given.now.rules.now))
+        (left.old - left.new) tasks.old.items tasks.new.items result }
 {
-    while let Some(task) = tasks.pop() {
+    while let Some(popped) = tasks.pop() {
+        let mut task = popped;
+        task.next = pass_over(given, store, &task, left);
         if is_candidate(given, task.next) {
             return Some(task);
         }

@@ -1,12 +1,13 @@
 //! The walk of a goal.
 
-ghost use Rattle.std.specs.Prelude.{◌≡◌, ◌+◌, ◌^◌, ◌<◌, List, ◌∷◌, [], IfOk, length};
+ghost use Rattle.std.specs.Prelude.{◌≡◌, ◌+◌, ◌-◌, ◌^◌, ◌≤◌, ◌<◌, List, ◌∷◌, [], IfOk, length};
 ghost use Rattle.sx_rules.specs.Rules.{Judgement};
 ghost use Rattle.sx_arena.specs.Arena.{AreBelow};
 ghost use Rattle.sx_arena.specs.Pairs.{ArePairs};
 ghost use Rattle.sx_derive.specs.Givens.{IsStoreOf, HasFacts};
 ghost use Rattle.sx_derive.specs.Store.{store_trees};
-ghost use Rattle.sx_derive.specs.Tasks.{events_left, Piled, WantedBelow};
+ghost use Rattle.sx_derive.specs.Tasks.{events_left, Piled, TasksFit, WantedBelow};
+ghost use Rattle.sx_derive.specs.Turns.{IsPopped};
 ghost use Rattle.sx_derive.specs.Walked.{events_in, IsWalked, IsWalkedTo};
 ghost use Rattle.sx_arena.specs.Views.{rules_of, set_modes};
 
@@ -18,6 +19,41 @@ use crate::turns::{next_task, turn};
 use std::alloc::Global;
 use std::sync::ledger::Ledger;
 use sx_term::{NoMemory, Steps};
+
+/// Counts that many tries.
+fn count<L: Ledger>(steps: &mut Steps<L>, tries: u64)
+    ensures { steps.new ≡ steps.old + tries }
+{
+    for _ in 0..tries {
+        steps.tick();
+    }
+}
+
+/// The next task, as `next_task` finds it, each candidate that is passed over counted.
+fn next_counted<L: Ledger>(
+    given: &Given,
+    store: &Store,
+    tasks: &mut Vec<Task>,
+    left: &mut u64,
+    steps: &mut Steps<L>,
+) -> Option<Task>
+    requires store { IsStoreOf given.now store.now }
+    requires tasks { TasksFit (set_modes given.now.rules.now) (rules_of given.now.rules.now)
+        store.now
+        (length given.now.facts.now + length (rules_of given.now.rules.now)) tasks.old.items }
+    ensures less { left.new ≤ left.old }
+    ensures counted { steps.new ≡ steps.old + (left.old - left.new) }
+    ensures popped { (js : List Judgement) → HasFacts given.now store.now js →
+        IsPopped (set_modes given.now.rules.now) (rules_of given.now.rules.now)
+        given.now.pairs.now js store.now
+        (length given.now.facts.now + length (rules_of given.now.rules.now))
+        (left.old - left.new) tasks.old.items tasks.new.items result }
+{
+    let before = *left;
+    let next = next_task(given, store, tasks, left);
+    count(steps, before - *left);
+    next
+}
 
 /// How the walk of what is left of the tasks ends, each try counted.
 fn walk_tasks<L: Ledger>(
@@ -44,7 +80,7 @@ fn walk_tasks<L: Ledger>(
 {
     let mut tasks = tasks;
     let mut left = budget;
-    while let Some(task) = next_task(given, &mut tasks) {
+    while let Some(task) = next_counted(given, store, &mut tasks, &mut left, steps) {
         if left == 0 {
             return Ok(Ending::Spent);
         }
@@ -85,7 +121,7 @@ pub(crate) fn walk_uncounted(
 {
     let mut tasks = tasks;
     let mut left = budget;
-    while let Some(task) = next_task(given, &mut tasks) {
+    while let Some(task) = next_task(given, store, &mut tasks, &mut left) {
         if left == 0 {
             return Ok(Ending::Spent);
         }

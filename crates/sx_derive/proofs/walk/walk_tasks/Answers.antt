@@ -1,89 +1,91 @@
-use Rattle.std.proofs.Common.{◌<◌, ◌++◌, ◌∷◌, [], sym, arith}
-use Rattle.sx_derive.specs.Store.{store_trees}
+use Rattle.std.proofs.Common.{◌+◌, ◌-◌, ◌<◌, ◌++◌, ◌∷◌, [], length, arith}
 use Rattle.sx_arena.specs.Views.{rules_of, set_modes}
 use Rattle.sx_arena.proofs.Growing.{extends-length}
 use Rattle.sx_arena.proofs.Parted.{pairs_more_terms}
-use Rattle.sx_derive.proofs.Tasked.{facts_length}
 use Rattle.sx_derive.proofs.Turned.{fits_pop}
-use Rattle.sx_derive.proofs.Walking.{Walking, walking_first, facts_now, wanted_below, walking_end, walking_spent, walking_failed, walking_more, walking_ends, walking_cut, popped_same}
+use Rattle.sx_derive.proofs.Walking.{Walking, walking_first, facts_now, wanted_below, walking_popped, walking_end, walking_spent, walking_failed, walking_more, walking_ends, walking_cut}
 use Rattle.sx_derive.proofs.walk.walk_tasks.Goals as goal
-use Rattle.sx_derive.proofs.walk.walk_tasks.Goals.{After-cut}
+use Rattle.sx_derive.proofs.walk.walk_tasks.Goals.{In-Some, After-cut}
+
+-- the walk after the tries that were passed over
+popped : (g : _) (c : In-Some g) → Walking (set_modes c.args.given.now.rules.now) (rules_of c.args.given.now.rules.now) c.args.given.now.pairs.now c.args.given.now.facts.now c.args.wanted.now c.args.store.now c.args.budget c.args.tasks.items c.args.steps.now c.loop-task.store c.next_counted.new.left c.next_counted.new.steps (c.next_counted.new.tasks.items ++ c.in-Some.task ∷ [])
+popped g c =
+    let b = c.requires.facts in
+    let x = c.in-Some.ensures.less in
+    walking_popped (set_modes c.args.given.now.rules.now) (rules_of c.args.given.now.rules.now) c.args.given.now.pairs.now c.args.given.now.facts.now c.args.wanted.now c.args.store.now c.args.budget c.args.tasks.items c.args.steps.now c.loop-task.store c.loop-task.left c.loop-task.steps c.loop-task.tasks.items c.loop-task.invariant (c.loop-task.left - c.next_counted.new.left) c.next_counted.new.left c.next_counted.new.steps (omega arith) (omega arith) c.in-Some.ensures.counted b.0 b.1 c.in-Some.task c.next_counted.new.tasks.items c.in-Some.ensures.popped
+
+-- the task has a candidate
+there : (g : _) (c : In-Some g) → c.in-Some.task.next < length c.args.given.now.facts.now + length (rules_of c.args.given.now.rules.now)
+there g c =
+    let b = c.requires.facts in
+    (c.in-Some.ensures.popped b.0 (facts_now (set_modes c.args.given.now.rules.now) (rules_of c.args.given.now.rules.now) c.args.given.now.pairs.now c.args.given.now.facts.now c.args.wanted.now c.args.store.now c.args.budget c.args.tasks.items c.args.steps.now c.loop-task.store c.loop-task.left c.loop-task.steps c.loop-task.tasks.items c.loop-task.invariant b.0 b.1)).0
 
 -- the walk after the cut
-cut_walk : (g : _) (c : After-cut g) → Walking (set_modes c.args.given.now.rules.now) (rules_of c.args.given.now.rules.now) c.args.given.now.pairs.now c.args.given.now.facts.now c.args.wanted.now c.args.store.now c.args.budget c.args.tasks.items c.args.steps.now c.cut.new.self c.loop-task.left c.loop-task.steps (c.next_task.new.tasks.items ++ c.in-Some.task ∷ [])
-cut_walk g c =
-    let b = c.requires.facts in
-    walking_cut (set_modes c.args.given.now.rules.now) (rules_of c.args.given.now.rules.now) c.args.given.now.pairs.now c.args.given.now.facts.now c.args.wanted.now c.args.store.now c.args.budget c.args.tasks.items c.args.steps.now c.loop-task.store c.loop-task.left c.loop-task.steps c.loop-task.tasks.items c.loop-task.invariant c.in-Some.task c.next_task.new.tasks.items (λ js s e. c.in-Some.ensures c.args.given.now.pairs.now js s e) c.requires.pairs c.cut.new.self c.cut.ensures b.0 b.1
+cut_walk : (g : _) (c : After-cut g) → Walking (set_modes c.args.given.now.rules.now) (rules_of c.args.given.now.rules.now) c.args.given.now.pairs.now c.args.given.now.facts.now c.args.wanted.now c.args.store.now c.args.budget c.args.tasks.items c.args.steps.now c.loop-task.store c.next_counted.new.left c.next_counted.new.steps (c.next_counted.new.tasks.items ++ c.in-Some.task ∷ []) → Walking (set_modes c.args.given.now.rules.now) (rules_of c.args.given.now.rules.now) c.args.given.now.pairs.now c.args.given.now.facts.now c.args.wanted.now c.args.store.now c.args.budget c.args.tasks.items c.args.steps.now c.cut.new.self c.next_counted.new.left c.next_counted.new.steps (c.next_counted.new.tasks.items ++ c.in-Some.task ∷ [])
+cut_walk g c w = walking_cut (set_modes c.args.given.now.rules.now) (rules_of c.args.given.now.rules.now) c.args.given.now.pairs.now c.args.given.now.facts.now c.args.wanted.now c.args.store.now c.args.budget c.args.tasks.items c.args.steps.now c.loop-task.store c.next_counted.new.left c.next_counted.new.steps c.in-Some.task c.next_counted.new.tasks.items w c.requires.pairs c.cut.new.self c.cut.ensures
+
+pub loop-task-init : goal.loop-task-init
+loop-task-init g c = walking_first (set_modes c.args.given.now.rules.now) (rules_of c.args.given.now.rules.now) c.args.given.now.pairs.now c.args.given.now.facts.now c.args.wanted.now c.args.store.now c.args.budget c.args.tasks.items c.args.steps.now c.requires.store c.requires.tasks
 
 pub returns-then-left-eq0 : goal.returns-then-left-eq0
-returns-then-left-eq0 g c = walking_spent (set_modes c.args.given.now.rules.now) (rules_of c.args.given.now.rules.now) c.args.given.now.pairs.now c.args.given.now.facts.now c.args.wanted.now c.args.store.now c.args.budget c.args.tasks.items c.args.steps.now c.loop-task.store c.loop-task.left c.loop-task.steps c.loop-task.tasks.items c.loop-task.invariant c.in-Some.task c.next_task.new.tasks.items (λ js s e. c.in-Some.ensures c.args.given.now.pairs.now js s e) c.if-left-eq0.true
+returns-then-left-eq0 g c =
+    let w = (goal.at.returns-then-left-eq0 g c).In-Some in
+    walking_spent (set_modes c.args.given.now.rules.now) (rules_of c.args.given.now.rules.now) c.args.given.now.pairs.now c.args.given.now.facts.now c.args.wanted.now c.args.store.now c.args.budget c.args.tasks.items c.args.steps.now c.loop-task.store c.next_counted.new.left c.next_counted.new.steps c.in-Some.task c.next_counted.new.tasks.items (popped g w) (there g w) c.if-left-eq0.true
 
 pub turn-requires-clause-facts : goal.turn-requires-clause-facts
 turn-requires-clause-facts g c =
     let b = c.requires.facts in
-    let w = cut_walk g (goal.at.turn-requires-clause-facts g c).After-cut in
-    (b.0, facts_now (set_modes c.args.given.now.rules.now) (rules_of c.args.given.now.rules.now) c.args.given.now.pairs.now c.args.given.now.facts.now c.args.wanted.now c.args.store.now c.args.budget c.args.tasks.items c.args.steps.now c.cut.new.self c.loop-task.left c.loop-task.steps (c.next_task.new.tasks.items ++ c.in-Some.task ∷ []) w b.0 b.1)
+    let w = cut_walk g (goal.at.turn-requires-clause-facts g c).After-cut (popped g (goal.at.turn-requires-clause-facts g c).In-Some) in
+    (b.0, facts_now (set_modes c.args.given.now.rules.now) (rules_of c.args.given.now.rules.now) c.args.given.now.pairs.now c.args.given.now.facts.now c.args.wanted.now c.args.store.now c.args.budget c.args.tasks.items c.args.steps.now c.cut.new.self c.next_counted.new.left c.next_counted.new.steps (c.next_counted.new.tasks.items ++ c.in-Some.task ∷ []) w b.0 b.1)
+
+pub turn-requires-clause-store : goal.turn-requires-clause-store
+turn-requires-clause-store g c =
+    let w = cut_walk g (goal.at.turn-requires-clause-store g c).After-cut (popped g (goal.at.turn-requires-clause-store g c).In-Some) in
+    w.grows.store
 
 pub turn-requires-clause-pairs : goal.turn-requires-clause-pairs
 turn-requires-clause-pairs g c =
-    let b = c.requires.facts in
-    let w = cut_walk g (goal.at.turn-requires-clause-pairs g c).After-cut in
+    let w = cut_walk g (goal.at.turn-requires-clause-pairs g c).After-cut (popped g (goal.at.turn-requires-clause-pairs g c).In-Some) in
     pairs_more_terms _ _ (extends-length _ _ w.grows.trees) _ c.requires.pairs
 
 pub turn-requires-clause-wanted : goal.turn-requires-clause-wanted
 turn-requires-clause-wanted g c =
-    let b = c.requires.facts in
-    let w = cut_walk g (goal.at.turn-requires-clause-wanted g c).After-cut in
+    let w = cut_walk g (goal.at.turn-requires-clause-wanted g c).After-cut (popped g (goal.at.turn-requires-clause-wanted g c).In-Some) in
     wanted_below _ _ (extends-length _ _ w.grows.trees) _ c.requires.wanted
 
 pub turn-requires-clause-task : goal.turn-requires-clause-task
 turn-requires-clause-task g c =
-    let b = c.requires.facts in
-    let w = cut_walk g (goal.at.turn-requires-clause-task g c).After-cut in
-    (fits_pop _ _ _ c.cut.new.self c.next_task.new.tasks.items c.in-Some.task w.fits).1
+    let w = cut_walk g (goal.at.turn-requires-clause-task g c).After-cut (popped g (goal.at.turn-requires-clause-task g c).In-Some) in
+    (fits_pop _ _ _ c.cut.new.self c.next_counted.new.tasks.items c.in-Some.task w.fits).1
 
 pub turn-requires-clause-next : goal.turn-requires-clause-next
-turn-requires-clause-next g c =
-    let b = c.requires.facts in
-    let e = facts_length _ (store_trees c.args.store.now) b.0 c.args.given.now.facts.now b.1 in
-    let p = c.in-Some.ensures c.args.given.now.pairs.now b.0 c.loop-task.store (sym e) in
-    p.0
+turn-requires-clause-next g c = there g (goal.at.turn-requires-clause-next g c).In-Some
 
 pub turn-requires-clause-tasks : goal.turn-requires-clause-tasks
 turn-requires-clause-tasks g c =
-    let b = c.requires.facts in
-    let w = cut_walk g (goal.at.turn-requires-clause-tasks g c).After-cut in
-    (fits_pop _ _ _ c.cut.new.self c.next_task.new.tasks.items c.in-Some.task w.fits).0
+    let w = cut_walk g (goal.at.turn-requires-clause-tasks g c).After-cut (popped g (goal.at.turn-requires-clause-tasks g c).In-Some) in
+    (fits_pop _ _ _ c.cut.new.self c.next_counted.new.tasks.items c.in-Some.task w.fits).0
 
 pub returns-in-Err : goal.returns-in-Err
 returns-in-Err g c = λ js a.
-    let l : 0 < c.loop-task.left = (let z = c.if-left-eq0.false in omega arith) in
-    walking_failed (set_modes c.args.given.now.rules.now) (rules_of c.args.given.now.rules.now) c.args.given.now.pairs.now c.args.given.now.facts.now c.args.wanted.now c.args.store.now c.args.budget c.args.tasks.items c.args.steps.now c.loop-task.store c.loop-task.left c.loop-task.steps c.loop-task.tasks.items c.loop-task.invariant c.in-Some.task c.next_task.new.tasks.items (λ js s e. c.in-Some.ensures c.args.given.now.pairs.now js s e) c.in-Err.e l js a c.turn.new.store c.tick.new.self c.tick.ensures
+    let p = (goal.at.returns-in-Err g c).In-Some in
+    let l : 0 < c.next_counted.new.left = (let z = c.if-left-eq0.false in omega arith) in
+    walking_failed (set_modes c.args.given.now.rules.now) (rules_of c.args.given.now.rules.now) c.args.given.now.pairs.now c.args.given.now.facts.now c.args.wanted.now c.args.store.now c.args.budget c.args.tasks.items c.args.steps.now c.loop-task.store c.next_counted.new.left c.next_counted.new.steps c.in-Some.task c.next_counted.new.tasks.items (popped g p) (there g p) c.in-Err.e l js a c.turn.new.store c.tick.new.self c.tick.ensures
 
 pub loop-task-preserved : goal.loop-task-preserved
 loop-task-preserved g c =
     let b = c.requires.facts in
-    let w = cut_walk g (goal.at.loop-task-preserved g c).After-cut in
-    let n = (c.in-Some.ensures c.args.given.now.pairs.now b.0 c.loop-task.store (sym (facts_length _ (store_trees c.args.store.now) b.0 c.args.given.now.facts.now b.1))).0 in
-    let l : 0 < c.loop-task.left = (let z = c.if-left-eq0.false in omega arith) in
-    walking_more (set_modes c.args.given.now.rules.now) (rules_of c.args.given.now.rules.now) c.args.given.now.pairs.now c.args.given.now.facts.now c.args.wanted.now c.args.store.now c.args.budget c.args.tasks.items c.args.steps.now c.cut.new.self c.loop-task.left c.loop-task.steps (c.next_task.new.tasks.items ++ c.in-Some.task ∷ []) w c.in-Some.task c.next_task.new.tasks.items (λ js s e. popped_same _ _ c.args.given.now.pairs.now js s _ c.next_task.new.tasks.items c.in-Some.task n) l c.requires.wanted c.turn.new.store c.turn.new.tasks.items (λ js a. rw c.in-Ok-None.field-0-is at (c.in-Ok-None.ensures js a)) b.0 b.1 c.tick.new.self c.tick.ensures
+    let w = cut_walk g (goal.at.loop-task-preserved g c).After-cut (popped g (goal.at.loop-task-preserved g c).In-Some) in
+    let l : 0 < c.next_counted.new.left = (let z = c.if-left-eq0.false in omega arith) in
+    walking_more (set_modes c.args.given.now.rules.now) (rules_of c.args.given.now.rules.now) c.args.given.now.pairs.now c.args.given.now.facts.now c.args.wanted.now c.args.store.now c.args.budget c.args.tasks.items c.args.steps.now c.cut.new.self c.next_counted.new.left c.next_counted.new.steps c.in-Some.task c.next_counted.new.tasks.items w l c.requires.wanted c.turn.new.store c.turn.new.tasks.items (λ js a. rw c.in-Ok-None.field-0-is at (c.in-Ok-None.ensures js a)) b.0 b.1 c.tick.new.self c.tick.ensures
 
 pub returns-in-Ok-Some : goal.returns-in-Ok-Some
 returns-in-Ok-Some g c = λ js a.
-    let b = c.requires.facts in
-    let w = cut_walk g (goal.at.returns-in-Ok-Some g c).After-cut in
-    let n = (c.in-Some.ensures c.args.given.now.pairs.now b.0 c.loop-task.store (sym (facts_length _ (store_trees c.args.store.now) b.0 c.args.given.now.facts.now b.1))).0 in
-    let l : 0 < c.loop-task.left = (let z = c.if-left-eq0.false in omega arith) in
-    walking_ends (set_modes c.args.given.now.rules.now) (rules_of c.args.given.now.rules.now) c.args.given.now.pairs.now c.args.given.now.facts.now c.args.wanted.now c.args.store.now c.args.budget c.args.tasks.items c.args.steps.now c.cut.new.self c.loop-task.left c.loop-task.steps (c.next_task.new.tasks.items ++ c.in-Some.task ∷ []) w c.in-Some.task c.next_task.new.tasks.items (λ js s e. popped_same _ _ c.args.given.now.pairs.now js s _ c.next_task.new.tasks.items c.in-Some.task n) l c.requires.wanted c.turn.new.store c.turn.new.tasks.items c.in-Ok-Some.ending (λ ks b. rw c.in-Ok-Some.field-0-is at (c.in-Ok-Some.ensures ks b)) c.tick.new.self c.tick.ensures js a
+    let w = cut_walk g (goal.at.returns-in-Ok-Some g c).After-cut (popped g (goal.at.returns-in-Ok-Some g c).In-Some) in
+    let l : 0 < c.next_counted.new.left = (let z = c.if-left-eq0.false in omega arith) in
+    walking_ends (set_modes c.args.given.now.rules.now) (rules_of c.args.given.now.rules.now) c.args.given.now.pairs.now c.args.given.now.facts.now c.args.wanted.now c.args.store.now c.args.budget c.args.tasks.items c.args.steps.now c.cut.new.self c.next_counted.new.left c.next_counted.new.steps c.in-Some.task c.next_counted.new.tasks.items w l c.requires.wanted c.turn.new.store c.turn.new.tasks.items c.in-Ok-Some.ending (λ ks b. rw c.in-Ok-Some.field-0-is at (c.in-Ok-Some.ensures ks b)) c.tick.new.self c.tick.ensures js a
 
 pub returns : goal.returns
-returns g c = λ js a. walking_end (set_modes c.args.given.now.rules.now) (rules_of c.args.given.now.rules.now) c.args.given.now.pairs.now c.args.given.now.facts.now c.args.wanted.now c.args.store.now c.args.budget c.args.tasks.items c.args.steps.now c.loop-task.store c.loop-task.left c.loop-task.steps c.loop-task.tasks.items c.loop-task.invariant c.next_task.new.tasks.items (λ ks s e. c.in_default.ensures c.args.given.now.pairs.now ks s e) js a
-
-pub turn-requires-clause-store : goal.turn-requires-clause-store
-turn-requires-clause-store g c =
-    let b = c.requires.facts in
-    let w = cut_walk g (goal.at.turn-requires-clause-store g c).After-cut in
-    w.grows.store
-
-pub loop-task-init : goal.loop-task-init
-loop-task-init g c = walking_first (set_modes c.args.given.now.rules.now) (rules_of c.args.given.now.rules.now) c.args.given.now.pairs.now c.args.given.now.facts.now c.args.wanted.now c.args.store.now c.args.budget c.args.tasks.items c.args.steps.now c.requires.store c.requires.tasks
+returns g c = λ js a.
+    let x = c.in_default.ensures.less in
+    walking_end (set_modes c.args.given.now.rules.now) (rules_of c.args.given.now.rules.now) c.args.given.now.pairs.now c.args.given.now.facts.now c.args.wanted.now c.args.store.now c.args.budget c.args.tasks.items c.args.steps.now c.loop-task.store c.loop-task.left c.loop-task.steps c.loop-task.tasks.items c.loop-task.invariant (c.loop-task.left - c.next_counted.new.left) c.next_counted.new.left c.next_counted.new.steps (omega arith) (omega arith) c.in_default.ensures.counted c.next_counted.new.tasks.items c.in_default.ensures.popped js a
