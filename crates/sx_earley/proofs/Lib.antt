@@ -2,6 +2,7 @@ pub mod Filing
 pub mod Pairs
 pub mod Same
 pub mod Hashed
+pub mod Packing
 pub mod ItemSets
 pub mod Growth
 pub mod Counts

@@ -1,4 +1,5 @@
 pub mod Table
+pub mod PackedItem
 pub mod ItemSet
 pub mod Shown
 pub mod Growth

@@ -1,8 +1,8 @@
 //! Where items were found.
 
-ghost use Rattle.std.specs.Prelude.{◌≤◌, ◌<◌, IsTrue, Contains};
+ghost use Rattle.std.specs.Prelude.{◌≡◌, ◌≤◌, ◌<◌, IsTrue, IsFalse, Contains};
 
-use crate::item_set::{ItemSet, is_same};
+use crate::item_set::ItemSet;
 use std::alloc::{AllocError, Global};
 use sx_grammar::{Head, Item};
 
@@ -29,6 +29,31 @@ fn number_in(head: Head) -> u32 {
 #[inline(always)]
 fn slot_of(item: Item) -> usize {
     item.origin as usize * 16 + item.dot % 4 * 4 + (number_in(item.head) % 4) as usize
+}
+
+/// Whether the heads are the same.
+#[inline(always)]
+fn is_same_head(one: Head, other: Head) -> bool
+    ensures yes { IsTrue result → one ≡ other }
+    ensures no { IsFalse result → one ≡ other → ⊥ }
+{
+    match (one, other) {
+        (Head::Labelled(a), Head::Labelled(b)) => a == b,
+        (Head::Bracketed(a), Head::Bracketed(b)) => a == b,
+        _ => false,
+    }
+}
+
+/// Whether the items are the same.
+#[inline(always)]
+fn is_same(one: Item, other: Item) -> bool
+    ensures yes { IsTrue result → one ≡ other }
+    ensures no { IsFalse result → one ≡ other → ⊥ }
+{
+    one.origin == other.origin
+        && one.end == other.end
+        && one.dot == other.dot
+        && is_same_head(one.head, other.head)
 }
 
 /// Whether the item is found at the place.

@@ -18,6 +18,7 @@ mod neighbours;
 mod notes;
 mod opening;
 mod openings;
+mod packed_item;
 mod prediction;
 mod ready_grammar;
 mod shown;
