@@ -1,7 +1,7 @@
 -- The part for which an item waits, by the symbol after its dot.
 use Rattle.std.proofs.Common.{◌≡◌, ◌≤◌, refl, ◌∙◌, ◌<◌, ◌^◌, ap, sym, subst, ℕ, List, Option, Some, None, option_map, IfSome, length, arith}
 use Rattle.std.proofs.lemmas.Option.{slice_get_within}
-use Rattle.sx_grammar.specs.Grammar.{Text, Symbol, Production, production_of}
+use Rattle.sx_grammar.specs.Grammar.{Grammar, Text, Symbol, Production, production_of}
 use Rattle.sx_grammar.specs.Numbered.{symbol}
 use Rattle.sx_grammar.specs.Tables.{GrammarData}
 use Rattle.sx_grammar.specs.declared.item.Item.{Item}
@@ -9,7 +9,8 @@ use Rattle.sx_grammar.specs.declared.numbered.NumberedSymbol.{NumberedSymbol}
 use Rattle.sx_grammar.specs.declared.numbered.NumberedSymbol.TheVariants.{Lit, Lex, Part}
 use Rattle.sx_earley.specs.Shown.{plain, literal_texts}
 use Rattle.sx_earley.specs.Chart.{as_part, symbol_after, HasDotAtEnd, IsOfSort}
-use Rattle.sx_earley.specs.Dotted.{IsNextSymbol, WaitsFor, HasMade}
+use Rattle.sx_earley.specs.Dotted.{IsNextSymbol, WaitsFor, HasEnded, HasMade}
+use Rattle.sx_earley.specs.Keys.{before_key}
 
 -- what is of a sort is there
 pub there_is : (o : Option Production) (sort least : ℕ) → IsOfSort o sort least → (p : Production) × (o ≡ Some p) × (p.sort ≡ sort) × (least ≤ p.level)
@@ -43,3 +44,8 @@ some_not_at_end (Some p) dot s e h =
 pub none_made : (d : GrammarData) (item : Item) (next : Option NumberedSymbol) (x : NumberedSymbol) → IsNextSymbol d item next → next ≡ Some x → HasMade (plain d) item None
 none_made d item next x is some = λ sort ends made. absurd (some_not_at_end (production_of (plain d) item.head) item.dot (symbol (literal_texts d) x)
     (sym is.is ∙ ap (option_map (symbol (literal_texts d))) some) ends)
+
+-- where an item has made a sort, and so a key, it is complete
+pub complete_before : (g : Grammar) (item : Item) (made key : Option ℕ) → key ≡ before_key item made → IfSome made (λ _. HasEnded g item) → IfSome key (λ _. HasEnded g item)
+complete_before g item None key e h = subst (λ (o : Option ℕ). IfSome o (λ _. HasEnded g item)) (sym e) tt
+complete_before g item (Some sort) key e h = subst (λ (o : Option ℕ). IfSome o (λ _. HasEnded g item)) (sym e) h

@@ -20,6 +20,10 @@ pub record WaitsFor (g : Grammar) (item : Item) (part : Option (ℕ × ℕ)) : T
   pub is : part ≡ as_part (next_symbol g item.head item.dot)
   pub small : IfSome part (λ _. item.dot < 2 ^ 63)
 
+-- the item is complete
+abbrev pub HasEnded : Grammar → Item → Type 0
+HasEnded g item = HasDotAtEnd (production_of g item.head) item.dot
+
 -- where the item is complete, its sort
 abbrev pub HasMade : Grammar → Item → Option ℕ → Type 0
 HasMade g item made = (sort : ℕ) → HasDotAtEnd (production_of g item.head) item.dot →

@@ -1,14 +1,14 @@
 //! What follows from one item.
 
 ghost use Rattle.std.specs.Prelude.{◌≡◌, ◌+◌, ◌≤◌, OnOk, IfOk, Contains};
-ghost use Rattle.std.specs.Prelude.{length, IsTrue};
+ghost use Rattle.std.specs.Prelude.{length, IsTrue, IfSome};
 ghost use Rattle.sx_earley.specs.Growth.{GoesOnFrom, Only};
 ghost use Rattle.sx_earley.specs.Shown.{plain, literal_texts, tokens_of, ShownBelow};
 ghost use Rattle.sx_earley.specs.Chart.{Follows, Foresees};
 ghost use Rattle.sx_earley.specs.Chart.{AllFollow, Joins, IsJoined, moved};
 ghost use Rattle.sx_earley.specs.Chart.{next_symbol, ReadsNext};
 ghost use Rattle.sx_earley.specs.Counted.{AllAsked, AsksMore};
-ghost use Rattle.sx_earley.specs.Dotted.{IsNextSymbol, WaitsFor};
+ghost use Rattle.sx_earley.specs.Dotted.{IsNextSymbol, WaitsFor, HasEnded};
 ghost use Rattle.sx_earley.specs.Keys.{AreWithin, IsKeyed};
 ghost use Rattle.sx_earley.specs.Openings.{HasAllOpenings};
 ghost use Rattle.sx_term.specs.Limits.{most_tokens};
@@ -67,8 +67,9 @@ fn add_noted(found: &mut ItemSet, hints: &mut Hints, item: Item) -> Result<(), A
     Ok(())
 }
 
-/// Moves the dot of the first item, which waits for this part, over the second, if that is one.
-fn join(
+/// Moves the dot of the first item, which waits for this part, over the second, which is complete,
+/// if that is one.
+fn join_complete(
     grammar: &Grammar,
     found: &mut ItemSet,
     hints: &mut Hints,
@@ -77,6 +78,7 @@ fn join(
     filling: Item,
 ) -> Result<(), AllocError>
     requires waits { WaitsFor (plain grammar.now) before part }
+    requires complete { HasEnded (plain grammar.now) filling }
     ensures extends { GoesOnFrom found.old found.new }
     ensures only { Only found.old found.new
         (λ i. Joins (plain grammar.now) before filling × (i ≡ moved before filling.end)) }
@@ -86,10 +88,7 @@ fn join(
     match part {
         None => Ok(()),
         Some((sort, least)) => {
-            if before.end == filling.origin
-                && ends_at(grammar, filling.head, filling.dot)
-                && makes(grammar, filling.head, sort, least)
-            {
+            if before.end == filling.origin && makes(grammar, filling.head, sort, least) {
                 add_noted(
                     found,
                     hints,
@@ -107,6 +106,29 @@ fn join(
     }
 }
 
+/// Moves the dot of the first item, which waits for this part, over the second, if that is one.
+fn join(
+    grammar: &Grammar,
+    found: &mut ItemSet,
+    hints: &mut Hints,
+    before: Item,
+    part: Option<(u32, u8)>,
+    filling: Item,
+) -> Result<(), AllocError>
+    requires waits { WaitsFor (plain grammar.now) before part }
+    ensures extends { GoesOnFrom found.old found.new }
+    ensures only { Only found.old found.new
+        (λ i. Joins (plain grammar.now) before filling × (i ≡ moved before filling.end)) }
+    ensures every { OnOk result (Joins (plain grammar.now) before filling →
+        Contains found.new (moved before filling.end)) }
+{
+    if ends_at(grammar, filling.head, filling.dot) {
+        join_complete(grammar, found, hints, before, part, filling)
+    } else {
+        Ok(())
+    }
+}
+
 /// Moves the dot of each of the items that may wait for the item over it, if it waits for it.
 fn join_each(
     grammar: &Grammar,
@@ -116,6 +138,7 @@ fn join_each(
     filling: Item,
 ) -> Result<(), AllocError>
     requires within { AreWithin near.filed.now (length found.old) }
+    requires complete { IfSome near.before (λ _. HasEnded (plain grammar.now) filling) }
     ensures extends { GoesOnFrom found.old found.new }
     ensures only { Only found.old found.new (IsJoined (plain grammar.now)
         (IsKeyed found.old near.entry.filed.now near.entry.before) (λ x. x ≡ filling)) }
@@ -135,7 +158,7 @@ fn join_each(
             continue;
         }
         let part = next_part(grammar, before.head, before.dot);
-        join(grammar, found, hints, before, part, filling)?;
+        join_complete(grammar, found, hints, before, part, filling)?;
     }
     Ok(())
 }
@@ -230,6 +253,8 @@ pub(crate) fn treat(
     requires asked { AllAsked (plain given.grammar.now)
         (tokens_of given.grammar.now given.shown.now) asked.old found.old }
     requires within { AreWithin near.filed.now (length found.old) }
+    requires complete { IfSome near.before
+        (λ _. HasEnded (plain given.grammar.now) dotted.item) }
     ensures extends { IfOk result (λ _. GoesOnFrom found.old found.new) }
     ensures only { IfOk result (λ _. Only found.old found.new
         (Follows (plain given.entry.grammar.now)

@@ -8,7 +8,7 @@ ghost use Rattle.sx_earley.specs.Shown.{plain, literal_texts, pair_symbol, IsLit
 ghost use Rattle.sx_earley.specs.Shown.{LiteralsBelow};
 ghost use Rattle.sx_earley.specs.Chart.{symbol_after, next_symbol, as_part, HasDotAtEnd};
 ghost use Rattle.sx_earley.specs.Chart.{IsOfSort, sort_made, sort_and_level, IsToken};
-ghost use Rattle.sx_earley.specs.Dotted.{IsNextSymbol, HasMade};
+ghost use Rattle.sx_earley.specs.Dotted.{IsNextSymbol, HasMade, HasEnded};
 
 use sx_grammar::{Grammar, Head, Item, NumberedProduction, NumberedSymbol};
 
@@ -148,8 +148,10 @@ pub(crate) fn made_by(grammar: &Grammar, head: Head) -> Option<(u32, u8)>
 
 /// The sort that the head makes, if the dot stands at the end.
 fn sort_at_end(grammar: &Grammar, head: Head, dot: usize) -> Option<u32>
-    ensures { (sort : ℕ) → HasDotAtEnd (production_of (plain grammar.now) head) dot →
+    ensures made { (sort : ℕ) → HasDotAtEnd (production_of (plain grammar.now) head) dot →
         sort_made (production_of (plain grammar.now) head) ≡ Some sort → result ≡ Some sort }
+    ensures complete { IfSome result
+        (λ _. HasDotAtEnd (production_of (plain grammar.now) head) dot) }
 {
     if ends_at(grammar, head, dot) {
         sort_of(grammar, head)
@@ -166,7 +168,8 @@ pub(crate) fn sort_made(
     symbol: Option<NumberedSymbol>,
 ) -> Option<u32>
     requires { IsNextSymbol grammar.now item symbol }
-    ensures { HasMade (plain grammar.now) item result }
+    ensures made { HasMade (plain grammar.now) item result }
+    ensures complete { IfSome result (λ _. HasEnded (plain grammar.now) item) }
 {
     match symbol {
         Some(_) => None,

@@ -9,7 +9,7 @@ use Rattle.sx_earley.proofs.Growth.{longer}
 use Rattle.sx_earley.proofs.Asking.{asked_none}
 use Rattle.sx_earley.proofs.Turning.{Turn, turn_holds, turn_busy, turn_closed, turn_filed}
 use Rattle.sx_earley.proofs.Keying.{before_there, filling_there, own_is, within_on, within_longer, within_none}
-use Rattle.sx_earley.proofs.Waiting.{waits_for}
+use Rattle.sx_earley.proofs.Waiting.{waits_for, complete_before}
 use Rattle.sx_earley.proofs.Whole.{so_far_first, so_far_on, too_many, few_enough, items_are, not_too_many}
 use Rattle.sx_earley.proofs.Closing.{treated_none, ended, empty_front, nothing_in, there_at}
 use Rattle.sx_earley.proofs.all_items.collect.Goals as goal
@@ -57,9 +57,9 @@ loop-item-preserved c =
       filed = inv.filed;
       many = inv.numbers.same;
       own = c.own_key-own.result;
-      own_is = λ key k. c.own_key-own.ensures ∙ own_is g item _ _ waits c.sort_made-made.ensures key k;
+      own_is = λ key k. c.own_key-own.ensures ∙ own_is g item _ _ waits c.sort_made-made.ensures.made key k;
       added = c.in_ok-file.ensures;
-      befores_all = λ x j f. subst (λ (o : Option ℕ). IsKeyed old more o x) (sym c.before_key.ensures) (before_there g old more item _ c.sort_made-made.ensures x j f);
+      befores_all = λ x j f. subst (λ (o : Option ℕ). IsKeyed old more o x) (sym c.before_key.ensures) (before_there g old more item _ c.sort_made-made.ensures.made x j f);
       fillings_all = λ x j f. subst (λ (o : Option ℕ). IsKeyed old more o x) (sym c.filling_key.ensures) (filling_there g old more item _ waits x j f);
     } in
     let told = c.in_ok-idle-2.ensures in
@@ -92,9 +92,9 @@ returns-then-are_too_many-2-clause-hard c = λ _.
       filed = inv.filed;
       many = inv.numbers.same;
       own = c.own_key-own.result;
-      own_is = λ key k. c.own_key-own.ensures ∙ own_is g item _ _ waits c.sort_made-made.ensures key k;
+      own_is = λ key k. c.own_key-own.ensures ∙ own_is g item _ _ waits c.sort_made-made.ensures.made key k;
       added = c.in_ok-file.ensures;
-      befores_all = λ x j f. subst (λ (o : Option ℕ). IsKeyed old more o x) (sym c.before_key.ensures) (before_there g old more item _ c.sort_made-made.ensures x j f);
+      befores_all = λ x j f. subst (λ (o : Option ℕ). IsKeyed old more o x) (sym c.before_key.ensures) (before_there g old more item _ c.sort_made-made.ensures.made x j f);
       fillings_all = λ x j f. subst (λ (o : Option ℕ). IsKeyed old more o x) (sym c.filling_key.ensures) (filling_there g old more item _ waits x j f);
     } in
     let told = c.in_ok-idle-2.ensures in
@@ -118,3 +118,6 @@ returns-clause-few c =
     let whole = take_all c.loop-item.next keys (ended keys c.loop-item.next c.in_default.ensures) in
     few_enough g ts c.args.start asks keys c.loop-item.idle c.loop-item.invariant.so (subst (λ l. Treated g ts l asks keys) whole c.loop-item.invariant.closed)
     2000000 c.loop-item.invariant.few
+
+pub treat-requires-clause-complete : goal.treat-requires-clause-complete
+treat-requires-clause-complete c = complete_before (plain c.args.given.grammar.now) c.in-Some.item _ _ c.before_key.ensures c.sort_made-made.ensures.complete

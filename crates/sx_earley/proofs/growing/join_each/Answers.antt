@@ -1,7 +1,8 @@
-use Rattle.std.proofs.Common.{ℕ, inl, List, Option, Contains, subst, arith}
+use Rattle.std.proofs.Common.{IfSome, ℕ, inl, List, Option, Contains, subst, arith}
 use Rattle.sx_grammar.specs.declared.item.Item.{Item}
 use Rattle.sx_earley.specs.Shown.{plain}
 use Rattle.sx_earley.specs.Chart.{Joins, moved}
+use Rattle.sx_earley.specs.Dotted.{HasEnded}
 use Rattle.sx_earley.specs.Keys.{IsKeyed}
 use Rattle.sx_earley.proofs.Growth.{extends_self, extends_on, still_there, longer}
 use Rattle.sx_earley.proofs.Joining.{each_only}
@@ -24,13 +25,13 @@ loop-here-preserved c =
     let Told : List Item → Item → Type 0 = λ l x. Joins g x c.args.filling → Contains l (moved x c.args.filling.end) in
     let passed = subst (λ (o : Option ℕ). ArePassed filed.keys (IsDone items filed (Told mid)) key o) c.in-Some-here.is c.loop-here.invariant.every in
     let at = walk_at items filed near key c.in-Some.is (Told mid) n here passed mid c.number.result c.loop-here.invariant.extends c.requires.within c.number.ensures c.item_within-before.ensures in
-    let new = c.join.new.found in
+    let new = c.join_complete.new.found in
     record {
-      extends = extends_on items mid new c.loop-here.invariant.extends c.join.ensures.extends;
+      extends = extends_on items mid new c.loop-here.invariant.extends c.join_complete.ensures.extends;
       only = each_only g (IsKeyed items filed c.args.near.before) c.args.filling here items mid new
-          (walk_keyed items filed near key c.in-Some.is (Told mid) n here passed at) c.loop-here.invariant.only c.join.ensures.only;
+          (walk_keyed items filed near key c.in-Some.is (Told mid) n here passed at) c.loop-here.invariant.only c.join_complete.ensures.only;
       every = walk_next items filed near key c.in-Some.is (Told mid) n here passed (Told new) c.before-here.result
-          (λ x told joins. still_there mid new (moved x c.args.filling.end) c.join.ensures.extends (told joins)) at c.in_ok-join.ensures.every c.before-here.ensures;
+          (λ x told joins. still_there mid new (moved x c.args.filling.end) c.join_complete.ensures.extends (told joins)) at c.in_ok-join_complete.ensures.every c.before-here.ensures;
     }
 
 -- where the hints know, the item is there
@@ -49,17 +50,17 @@ loop-here-preserved-then-is_known c =
           (λ x told. told) at (λ _. c.is_known.ensures c.if-is_known.true) c.before-here.ensures;
     }
 
-pub returns-in_err-join-clause-only : goal.returns-in_err-join-clause-only
-returns-in_err-join-clause-only c =
+pub returns-in_err-join_complete-clause-only : goal.returns-in_err-join_complete-clause-only
+returns-in_err-join_complete-clause-only c =
     let g = plain c.args.grammar.now in let items = c.args.found.now in let mid = c.loop-here.found in
     let filed = c.args.near.filed.now in let near = c.args.near.before in let key = c.in-Some.key in
     let n = c.in-Some-here.place in let here = c.item_within-before.result in
     let Told : List Item → Item → Type 0 = λ l x. Joins g x c.args.filling → Contains l (moved x c.args.filling.end) in
     let passed = subst (λ (o : Option ℕ). ArePassed filed.keys (IsDone items filed (Told mid)) key o) c.in-Some-here.is c.loop-here.invariant.every in
     let at = walk_at items filed near key c.in-Some.is (Told mid) n here passed mid c.number.result c.loop-here.invariant.extends c.requires.within c.number.ensures c.item_within-before.ensures in
-    let new = c.join.new.found in
+    let new = c.join_complete.new.found in
     each_only g (IsKeyed items filed c.args.near.before) c.args.filling here items mid new
-    (walk_keyed items filed near key c.in-Some.is (Told mid) n here passed at) c.loop-here.invariant.only c.join.ensures.only
+    (walk_keyed items filed near key c.in-Some.is (Told mid) n here passed at) c.loop-here.invariant.only c.join_complete.ensures.only
 
 pub number-requires : goal.number-requires
 number-requires c =
@@ -76,3 +77,7 @@ item_within-before-requires c =
     let passed = subst (λ (o : Option ℕ). ArePassed filed.keys (IsDone items filed (Told mid)) c.in-Some.key o) c.in-Some-here.is c.loop-here.invariant.every in
     let low = c.requires.within.within c.in-Some-here.place passed.0 in let same = c.number.ensures in
     omega (arith, longer items mid c.loop-here.invariant.extends)
+
+pub join_complete-requires-clause-complete : goal.join_complete-requires-clause-complete
+join_complete-requires-clause-complete c =
+    subst (λ (o : Option ℕ). IfSome o (λ _. HasEnded (plain c.args.grammar.now) c.args.filling)) c.in-Some.is c.requires.complete

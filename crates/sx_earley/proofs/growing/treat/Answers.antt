@@ -48,10 +48,8 @@ returns-clause-extends c =
     extends_on _ _ _ c.in_ok-idle.ensures.extends (extends_on _ _ _ c.scan.ensures.extends (extends_on _ _ _ c.join_each.ensures.extends c.join_over.ensures.extends))
 
 -- the numbers stay those of items that are found
-pub join_each-requires : goal.join_each-requires
-join_each-requires c = record {
-  within = within_longer _ _ _ (longer _ _ (extends_on _ _ _ c.in_ok-idle.ensures.extends c.scan.ensures.extends)) c.requires.within;
-}
+pub join_each-requires-clause-within : goal.join_each-requires-clause-within
+join_each-requires-clause-within c = within_longer _ _ _ (longer _ _ (extends_on _ _ _ c.in_ok-idle.ensures.extends c.scan.ensures.extends)) c.requires.within
 
 pub join_over-requires-clause-within : goal.join_over-requires-clause-within
 join_over-requires-clause-within c =

@@ -2,7 +2,7 @@ use Rattle.std.proofs.Common.{◌≡◌, ◌∙◌, sym}
 use Rattle.sx_earley.specs.Shown.{plain}
 use Rattle.sx_earley.specs.Chart.{Joins, moved}
 use Rattle.sx_earley.proofs.Growth.{only_more}
-use Rattle.sx_earley.proofs.growing.join.Goals as goal
+use Rattle.sx_earley.proofs.growing.join_complete.Goals as goal
 
 pub returns-then-makes-clause-only : goal.returns-then-makes-clause-only
 returns-then-makes-clause-only c =
@@ -11,7 +11,7 @@ returns-then-makes-clause-only c =
       least = c.in-Some.least;
       waits = sym c.requires.waits.is ∙ c.in-Some.is;
       fits = c.makes.ensures.0 c.if-makes.true;
-      complete = c.ends_at.ensures.0 c.if-ends_at.true;
+      complete = c.requires.complete;
       meets = c.if-before-filling.true;
     } in
     only_more c.args.found.now c.add_noted.new.found (λ i. i ≡ moved c.args.before c.args.filling.end)
