@@ -7,35 +7,34 @@ use Rattle.sx_rewrite.specs.AcceptedView.{accepted}
 use Rattle.sx_rewrite.specs.Stored.{certificate_at}
 use Rattle.sx_rewrite.specs.Needed.{needed}
 use Rattle.sx_rewrite.proofs.PutEach.{PutSoFar, put-start, apart-step, holds-within, skip-step, put-step, put-all, boxed-at}
-use Rattle.sx_rewrite.proofs.put_subjects.put_subjects.Goals.{in-Holds, then-is_needed+in_ok-put_subject-in-Holds, else-is_needed, in-Apart}
+use Rattle.sx_rewrite.proofs.put_subjects.put_subjects.Goals.{In-Holds, in-Holds, then-is_needed+in_ok-put_subject-in-Holds, else-is_needed, in-Apart}
 use Rattle.sx_rewrite.proofs.put_subjects.put_subjects.Goals as goal
+
+-- the kid of the premise is there
+kid_is_there : (c : In-Holds) → c.loop-from.number < length c.args.kids.now
+kid_is_there c =
+    let l = holds-within (subjects_in (forms_in c.args.source.now.set.now.base)) (bare_rules_in c.args.source.now.set.now.base) (hypotheses c.args.source.now.given.now) (needed (certificate_at (accepted c.args.source.now.set.now) c.args.rule)) c.args.premises.now (boxed c.args.kids.now) c.loop-from.from-index c.loop-from.number c.args.puts.now c.loop-from.puts c.loop-from.invariant c.loop-from-test.true c.from-item.result c.from-item.is c.in-Holds.it c.in-Holds.is in
+    let m = c.requires.many in omega (arith, l, m)
 
 pub loop-from-init : goal.loop-from-init
 loop-from-init c = put-start (subjects_in (forms_in c.args.source.now.set.now.base)) (bare_rules_in c.args.source.now.set.now.base) (hypotheses c.args.source.now.given.now) (needed (certificate_at (accepted c.args.source.now.set.now) c.args.rule)) c.args.premises.now (boxed c.args.kids.now) c.args.puts.now
 
 pub bounds-kids-number : goal.bounds-kids-number
 bounds-kids-number c =
-    let l = holds-within (subjects_in (forms_in c.args.source.now.set.now.base)) (bare_rules_in c.args.source.now.set.now.base) (hypotheses c.args.source.now.given.now) (needed (certificate_at (accepted c.args.source.now.set.now) c.args.rule)) c.args.premises.now (boxed c.args.kids.now) c.loop-from.from-index c.loop-from.number c.args.puts.now c.loop-from.puts c.loop-from.invariant c.loop-from-test.true c.from-item.result c.from-item.is c.in-Holds.it c.in-Holds.is in
-    let m = c.requires.many in omega (arith, l, m)
+    let n = kid_is_there (goal.at.bounds-kids-number c).In-Holds in omega (arith, n)
 
 pub offset_bounds-kids-number : goal.offset_bounds-kids-number
 offset_bounds-kids-number c =
-    let l = holds-within (subjects_in (forms_in c.args.source.now.set.now.base)) (bare_rules_in c.args.source.now.set.now.base) (hypotheses c.args.source.now.given.now) (needed (certificate_at (accepted c.args.source.now.set.now) c.args.rule)) c.args.premises.now (boxed c.args.kids.now) c.loop-from.from-index c.loop-from.number c.args.puts.now c.loop-from.puts c.loop-from.invariant c.loop-from-test.true c.from-item.result c.from-item.is c.in-Holds.it c.in-Holds.is in
-    let m = c.requires.many in
-    let n : c.loop-from.number < length c.args.kids.now = omega (arith, l, m) in search (rules, n)
+    let n = kid_is_there (goal.at.offset_bounds-kids-number c).In-Holds in search (rules, n)
 
 pub put_subject-requires-clause-ready : goal.put_subject-requires-clause-ready
 put_subject-requires-clause-ready c =
-    let l = holds-within (subjects_in (forms_in c.args.source.now.set.now.base)) (bare_rules_in c.args.source.now.set.now.base) (hypotheses c.args.source.now.given.now) (needed (certificate_at (accepted c.args.source.now.set.now) c.args.rule)) c.args.premises.now (boxed c.args.kids.now) c.loop-from.from-index c.loop-from.number c.args.puts.now c.loop-from.puts c.loop-from.invariant c.loop-from-test.true c.from-item.result c.from-item.is c.in-Holds.it c.in-Holds.is in
-    let m = c.requires.many in
-    let n : c.loop-from.number < length c.args.kids.now = omega (arith, l, m) in
+    let n = kid_is_there (goal.at.put_subject-requires-clause-ready c).In-Holds in
     c.requires.ready c.loop-from.number (proof c.deref.result.now) (sym c.if-is_needed.ensures) (boxed-at c.args.kids.now c.loop-from.number _ c.deref.result.now n c.index-kids-number.is c.deref.ensures)
 
 pub overflow_add-number : goal.overflow_add-number
 overflow_add-number c =
-    let l = holds-within (subjects_in (forms_in c.args.source.now.set.now.base)) (bare_rules_in c.args.source.now.set.now.base) (hypotheses c.args.source.now.given.now) (needed (certificate_at (accepted c.args.source.now.set.now) c.args.rule)) c.args.premises.now (boxed c.args.kids.now) c.loop-from.from-index c.loop-from.number c.args.puts.now c.loop-from.puts c.loop-from.invariant c.loop-from-test.true c.from-item.result c.from-item.is c.in-Holds.it c.in-Holds.is in
-    let m = c.requires.many in
-    let n : c.loop-from.number < length c.args.kids.now = omega (arith, l, m) in search (rules, n)
+    let n = kid_is_there (goal.at.overflow_add-number c).In-Holds in search (rules, n)
 
 pub loop-from-preserved : goal.loop-from-preserved
 loop-from-preserved c =

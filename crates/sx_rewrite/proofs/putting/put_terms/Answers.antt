@@ -17,28 +17,30 @@ use Rattle.sx_rewrite.specs.PutSubjects.{ArePutBelow}
 use Rattle.sx_rewrite.specs.Stored.{certificate_at}
 use Rattle.sx_rewrite.proofs.Instanced.{bare-found, bare-none}
 use Rattle.sx_rewrite.proofs.putting.put_terms.Goals as goal
+use Rattle.sx_rewrite.proofs.putting.put_terms.Goals.{In-Some}
 
 -- the rule that is found
 found-is : (o : Option Rule) (x y : Rule) → o ≡ Some x → o ≡ Some y → x ≡ y
 found-is o x y e f = let q : Some x ≡ Some y = sym e ∙ f in cc
 
+-- the rule that is found is that of the node
+rule_is_node_rule : (c : In-Some) → rule c.in-Some.found.now ≡ c.requires.node.rule
+rule_is_node_rule c = found-is _ (rule c.in-Some.found.now) c.requires.node.rule (bare-found c.args.source.now.rules.now.rules.items c.args.rule c.in-Some.found.now c.in-Some.ensures) c.requires.node.at
+
 pub image_terms-requires-clause-many : goal.image_terms-requires-clause-many
 image_terms-requires-clause-many c =
-    let rs = c.args.source.now.rules.now.rules.items in
-    let same = found-is _ (rule c.in-Some.found.now) c.requires.node.rule (bare-found rs c.args.rule c.in-Some.found.now c.in-Some.ensures) c.requires.node.at in
+    let same = rule_is_node_rule (goal.at.image_terms-requires-clause-many c).In-Some in
     c.requires.node.binds_many ∙ ap (λ (x : Rule). length x.sorts) (sym same) ∙ ap length (sym c.deref.ensures.value)
 
 pub put_subjects-requires-clause-many : goal.put_subjects-requires-clause-many
 put_subjects-requires-clause-many c =
-    let rs = c.args.source.now.rules.now.rules.items in
-    let same = found-is _ (rule c.in-Some.found.now) c.requires.node.rule (bare-found rs c.args.rule c.in-Some.found.now c.in-Some.ensures) c.requires.node.at in
+    let same = rule_is_node_rule (goal.at.put_subjects-requires-clause-many c).In-Some in
     c.requires.node.kids_many ∙ ap (λ (x : Rule). length (judgements_of x.premises)) (sym same)
     ∙ ap (λ (ps : List Premise). length (judgements_of (map premise ps))) (sym c.deref-in-Some.ensures.value)
 
 pub put_subjects-requires-clause-bare : goal.put_subjects-requires-clause-bare
 put_subjects-requires-clause-bare c =
-    let rs = c.args.source.now.rules.now.rules.items in
-    let same = found-is _ (rule c.in-Some.found.now) c.requires.node.rule (bare-found rs c.args.rule c.in-Some.found.now c.in-Some.ensures) c.requires.node.at in
+    let same = rule_is_node_rule (goal.at.put_subjects-requires-clause-bare c).In-Some in
     let subjects = subjects_in (forms_in c.args.source.now.set.now.base) in
     let bare = subst (λ (x : Rule). (conclusion : Judgement) × AreBareSubjects subjects conclusion [] (judgements_of x.premises)) (sym same) (c.requires.node.rule.conclusion, c.requires.node.bare) in
     subst (λ (ps : List Premise). (conclusion : Judgement) × AreBareSubjects subjects conclusion [] (judgements_of (map premise ps))) (sym c.deref-in-Some.ensures.value) bare
