@@ -4,6 +4,7 @@ use Rattle.std.proofs.Common.{sym, ap, ◌∙◌, subst, arith}
 use Rattle.std.specs.List.{AllByRecursion}
 use Rattle.std.specs.Prelude.{Result, Ok, Err, IfOk, IfErr}
 use Rattle.sx_term.specs.declared.role.Role.TheVariants.{In, Sub}
+use Rattle.std.specs.Result.{IsErrAnd}
 use Rattle.sx_term.specs.Term.{tree}
 use Rattle.sx_term.specs.Tree.{Tree}
 use Rattle.sx_token.specs.declared.token.Token.{Token as TokenOf}
@@ -98,6 +99,12 @@ module _ (m : ModuleData) (b : Budgets) where
   unread_bad (Print part defect) h = absurd h
   unread_bad (Captured word) h = absurd h
 
+  -- a refusal that is passed on
+  pub not_compiled : (r : Result Compiled ModuleError) (P : ModuleError → Type 0) → IsErrAnd r P →
+      ((e : ModuleError) → P e → IsBadModule m b e) → IsCompiled m b r
+  not_compiled (Ok c) P h f = absurd h
+  not_compiled (Err e) P h f = f e h
+
   pub unlowered_bad : (e : RewriteError) → IsUnlowered m b e → IsBadModule m b (of_rewrite e)
   unlowered_bad rewrite.Memory h = tt
   unlowered_bad (rewrite.RewriteSpent n) h = h
@@ -188,6 +195,13 @@ module _ (m : ModuleData) (b : Budgets) where
   all_counted made first last walked h (Err RewriteDeep) = (made, walked, h)
   all_counted made first last walked h (Err (Print part defect)) = (made, walked, h)
   all_counted made first last walked h (Err (Captured word)) = (made, walked, h)
+
+  -- where a refusal is passed on they are its tries
+  pub passed_counted : (first last : ℕ) (r : Result Compiled ModuleError)
+      (P : ModuleError → Type 0) → IsErrAnd r P →
+      ((e : ModuleError) → P e → IsCounted m b (Err e) first last) → IsCounted m b r first last
+  passed_counted first last (Ok c) P h f = absurd h
+  passed_counted first last (Err e) P h f = f e h
 
   -- where the body is refused there are none
   pub unread_counted : (e : ModuleError) (at : ℕ) → (e ≡ Memory) ⊎ (HasBody m.source → ⊥) →

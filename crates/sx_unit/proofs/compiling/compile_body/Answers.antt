@@ -6,44 +6,46 @@ use Rattle.sx_typing.specs.Refused.{HasBody}
 use Rattle.sx_typing.specs.declared.module_error.ModuleError.{ModuleError}
 use Rattle.sx_unit.specs.Modules.{module_data}
 use Rattle.sx_unit.specs.Refused.{IsBadModule, IsCounted}
-use Rattle.sx_unit.proofs.MadeUnits.{unread_bad, typed_counted, untyped_counted}
+use Rattle.sx_unit.proofs.MadeUnits.{not_compiled, unread_bad, passed_counted, typed_counted}
+use Rattle.sx_unit.proofs.MadeUnits.{untyped_counted}
 use Rattle.sx_unit.proofs.compiling.compile_body.Goals as goal
 
-pub returns-in-Ok-clause-tries : goal.returns-in-Ok-clause-tries
-returns-in-Ok-clause-tries g c =
+pub returns-in_err-typed-clause-answer : goal.returns-in_err-typed-clause-answer
+returns-in_err-typed-clause-answer g c =
+    let m = module_data c.args.given.now in
+    let bad = unread_bad m c.args.budgets _ c.in_err-typed.ensures.refused in
+    not_compiled m c.args.budgets c.from_residual.result _ c.from_residual.ensures.1
+    (λ e is. subst (λ (x : ModuleError). IsBadModule m c.args.budgets x) (sym is) bad)
+
+pub returns-in_err-typed-clause-tries : goal.returns-in_err-typed-clause-tries
+returns-in_err-typed-clause-tries g c =
     let m = module_data c.args.given.now in
     let body = c.args.body.now in
     let b : HasBody m.source = record {
       tokens = body.tokens.items;
-      reading =
-          plain_reading body.reading;
+      reading = plain_reading body.reading;
       subject = tree body.term;
       read = c.requires.body;
     } in
-    typed_counted m c.args.budgets b c.args.steps.now c.type_source.new.steps c.in-Ok.typed
-    c.in-Ok.ensures.tries c.compile_typed.result
+    let counted = untyped_counted m c.args.budgets b c.args.steps.now c.type_source.new.steps _
+    c.in_err-typed.ensures.tries in
+    passed_counted m c.args.budgets c.args.steps.now c.type_source.new.steps
+    c.from_residual.result _ c.from_residual.ensures.1
+    (λ e is. subst (λ (x : ModuleError). IsCounted m c.args.budgets (Err x) c.args.steps.now
+    c.type_source.new.steps) (sym is) counted)
 
-pub returns-in-Err-clause-answer : goal.returns-in-Err-clause-answer
-returns-in-Err-clause-answer g c =
-    let m = module_data c.args.given.now in
-    subst (λ (e : ModuleError). IsBadModule m c.args.budgets e) (sym c.typing_error.ensures)
-    (unread_bad m c.args.budgets c.in-Err.error c.in-Err.ensures.refused)
-
-pub returns-in-Err-clause-tries : goal.returns-in-Err-clause-tries
-returns-in-Err-clause-tries g c =
+pub returns-clause-tries : goal.returns-clause-tries
+returns-clause-tries g c =
     let m = module_data c.args.given.now in
     let body = c.args.body.now in
     let b : HasBody m.source = record {
       tokens = body.tokens.items;
-      reading =
-          plain_reading body.reading;
+      reading = plain_reading body.reading;
       subject = tree body.term;
       read = c.requires.body;
     } in
-    subst (λ (e : ModuleError). IsCounted m c.args.budgets (Err e) c.args.steps.now
-    c.type_source.new.steps) (sym c.typing_error.ensures)
-    (untyped_counted m c.args.budgets b c.args.steps.now c.type_source.new.steps c.in-Err.error
-    c.in-Err.ensures.tries)
+    typed_counted m c.args.budgets b c.args.steps.now c.type_source.new.steps c.in_ok-typed.typed
+    c.in_ok-typed.ensures.tries c.compile_typed.result
 
-pub returns-in-Ok-clause-answer : goal.returns-in-Ok-clause-answer
-returns-in-Ok-clause-answer g c = c.compile_typed.ensures c.args.budgets refl c.in-Ok.ensures.typed
+pub returns-clause-answer : goal.returns-clause-answer
+returns-clause-answer g c = c.compile_typed.ensures c.args.budgets refl c.in_ok-typed.ensures.typed
