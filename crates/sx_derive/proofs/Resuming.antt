@@ -1,5 +1,5 @@
 -- A search on its way to what it comes to next.
-use Rattle.std.proofs.Common.{◌≡◌, ℕ, zero, suc, ◌+◌, ◌<◌, ◌≤◌, List, [], ◌∷◌, ◌++◌, take, get_or, length, Some, None, refl, sym, ap, ◌∙◌, arith, subst}
+use Rattle.std.proofs.Common.{◌≡◌, ℕ, zero, suc, ◌+◌, ◌<◌, slice_set, ◌≤◌, List, [], ◌∷◌, ◌++◌, take, get_or, length, Some, None, refl, sym, ap, ◌∙◌, arith, subst}
 use Rattle.std.specs.Prelude.{Ok, Err}
 use Rattle.sx_term.specs.declared.no_memory.NoMemory.{NoMemory}
 use Rattle.sx_rules.specs.Rules.{Judgement, Rule}
@@ -7,6 +7,7 @@ use Rattle.sx_rules.specs.Modes.{Modes}
 use Rattle.sx_arena.specs.declared.fact.Fact.{Fact}
 use Rattle.sx_arena.specs.declared.pairs.Pair.{Pair}
 use Rattle.sx_derive.specs.Candidates.{AreFacts}
+use Rattle.sx_derive.specs.Passing.{ComeToNothing}
 use Rattle.sx_derive.specs.Resumable.{Takes, IsReachedAt, IsReached, IsSettled}
 use Rattle.sx_derive.specs.Store.{IsStore, StoreGrows, store_trees}
 use Rattle.sx_derive.specs.Tasks.{events_left, TaskFits, TasksFit}
@@ -18,10 +19,10 @@ use Rattle.sx_derive.specs.declared.tasks.Ending.TheVariants.{Found, Passed, Dep
 use Rattle.sx_derive.specs.declared.tasks.Ending.TheVariants.{Exhausted}
 use Rattle.sx_derive.specs.declared.tasks.Task.{Task as TaskOf}
 use Rattle.sx_arena.proofs.Facts.{facts_stay}
-use Rattle.sx_derive.proofs.Passed.{tries_more}
+use Rattle.sx_derive.proofs.Passed.{tries_more, tries_both}
 use Rattle.sx_derive.proofs.Stored.{grows_same, grows_then}
 use Rattle.sx_derive.proofs.Tasked.{facts_length}
-use Rattle.sx_derive.proofs.Turned.{events_try, events_pop, fits_pop}
+use Rattle.sx_derive.proofs.Turned.{events_try, events_pop, fits_pop, moved_fits, moved_events}
 
 -- the last of a list that is not empty
 last_of : {X : Type 0} (xs : List X) (n : ℕ) (d : X) → length xs ≡ suc n → xs ≡ take n xs ++ get_or xs n d ∷ []
@@ -30,11 +31,6 @@ last_of (x ∷ []) zero d h = refl
 last_of (x ∷ []) (suc n) d h = absurd (omega arith)
 last_of (x ∷ y ∷ xs) zero d h = absurd (omega arith)
 last_of (x ∷ y ∷ xs) (suc n) d h = ap (λ zs. x ∷ zs) (last_of (y ∷ xs) n d (omega arith))
-
--- the last task has a candidate
-pub last_here : (ts : List TaskOf) (n i : ℕ) (t : TaskOf) → length ts ≡ suc i → t ≡ get_or ts i t → t.next < n →
-    (front : List TaskOf) × (last : TaskOf) × (ts ≡ front ++ last ∷ []) × (last.next < n)
-last_here ts n i t h e l = (take i ts, t, last_of ts i t h ∙ ap (λ (k : TaskOf). take i ts ++ k ∷ []) (sym e), l)
 
 last_or : TaskOf → List TaskOf → TaskOf
 last_or d [] = d
@@ -51,16 +47,56 @@ last_less ts rest t n e h =
     let q : h.1 ≡ t = sym (last_is h.0 t h.1) ∙ ap (last_or t) (sym h.2 ∙ e) ∙ last_is rest t t in
     subst (λ (k : TaskOf). k.next < n) q h.3
 
--- the last task has none, and is dropped
-pub last_dropped : (modes : Modes) (rules : List Rule) (pairs : List Pair) (js : List Judgement) (s : Store) (n i : ℕ) (first ts rest : List TaskOf) (t : TaskOf) →
-    length ts ≡ suc i → t ≡ get_or ts i t → rest ≡ take i ts → n ≤ t.next → length js + length rules ≡ n →
-    IsSettled modes rules pairs js s n first ts → IsSettled modes rules pairs js s n first rest
-last_dropped modes rules pairs js s n i first ts rest t h e r l k x =
-    let q : ts ≡ rest ++ t ∷ [] = last_of ts i t h ∙ (λ j. sym r j ++ sym e j ∷ []) in
-    record {
-      same = x.same ∙ ap (events_left modes rules pairs js s) q ∙ events_pop modes rules pairs js s rest t (omega arith);
-      fits = λ f. (fits_pop modes rules n s rest t (subst (λ (zs : List TaskOf). TasksFit modes rules s n zs) q (x.fits f))).0;
-    }
+-- the last of a list, replaced
+pub set_last : {X : Type 0} (xs : List X) (n : ℕ) (d : X) → length xs ≡ suc n → slice_set xs n d ≡ take n xs ++ d ∷ []
+set_last [] n d h = absurd (omega arith)
+set_last (x ∷ []) zero d h = refl
+set_last (x ∷ []) (suc n) d h = absurd (omega arith)
+set_last (x ∷ y ∷ xs) zero d h = absurd (omega arith)
+set_last (x ∷ y ∷ xs) (suc n) d h = ap (λ zs. x ∷ zs) (set_last (y ∷ xs) n d (omega arith))
+
+take_kept : {X : Type 0} (xs : List X) (n : ℕ) (d : X) → length xs ≡ suc n → take n (take n xs ++ d ∷ []) ≡ take n xs
+take_kept xs zero d h = refl
+take_kept [] (suc n) d h = absurd (omega arith)
+take_kept (x ∷ xs) (suc n) d h = ap (λ zs. x ∷ zs) (take_kept xs n d (omega arith))
+
+-- the last task, from another candidate on
+module _ (modes : Modes) (rules : List Rule) (pairs : List Pair) (n : ℕ) (s : Store) (ts changed : List TaskOf) (i : ℕ) (t after : TaskOf) (next : ℕ) (h : length ts ≡ suc i) (e : t ≡ get_or ts i t)
+    (a : after ≡ record { next = next; form = t.form; terms = t.terms; levels = t.levels; frames = t.frames; mark = t.mark }) (c : changed ≡ slice_set ts i after) where
+  parted : ts ≡ take i ts ++ t ∷ []
+  parted = last_of ts i t h ∙ ap (λ (k : TaskOf). take i ts ++ k ∷ []) (sym e)
+
+  pub last_changed : changed ≡ take i ts ++ after ∷ []
+  last_changed = c ∙ set_last ts i after h
+
+  pub last_fits : TasksFit modes rules s n ts → TaskFits modes rules s n t
+  last_fits f = (fits_pop modes rules n s (take i ts) t (subst (λ (zs : List TaskOf). TasksFit modes rules s n zs) parted f)).1
+
+  pub changed_fits : next ≤ n → TasksFit modes rules s n ts → TasksFit modes rules s n changed
+  changed_fits l f =
+      subst (λ (zs : List TaskOf). TasksFit modes rules s n zs) (sym last_changed)
+      (moved_fits modes rules n s (take i ts) t after next a l (subst (λ (zs : List TaskOf). TasksFit modes rules s n zs) parted f))
+
+  pub changed_events : next ≤ n → (js : List Judgement) (k : ℕ) → next ≡ t.next + k → ComeToNothing modes rules pairs js s t t.next k →
+      events_left modes rules pairs js s ts ≡ tries_then k (events_left modes rules pairs js s changed)
+  changed_events l js k m x =
+      ap (events_left modes rules pairs js s) parted
+      ∙ moved_events modes rules n s (take i ts) t after next a l pairs js k m x
+      ∙ ap (λ (zs : List TaskOf). tries_then k (events_left modes rules pairs js s zs)) (sym last_changed)
+
+  rest_is : (rest : List TaskOf) → rest ≡ take i changed → rest ≡ take i ts
+  rest_is rest r = r ∙ ap (take i) last_changed ∙ take_kept ts i after h
+
+  pub rest_fit : (rest : List TaskOf) → rest ≡ take i changed → TasksFit modes rules s n ts → TasksFit modes rules s n rest
+  rest_fit rest r f =
+      subst (λ (zs : List TaskOf). TasksFit modes rules s n zs) (sym (rest_is rest r))
+      (fits_pop modes rules n s (take i ts) t (subst (λ (zs : List TaskOf). TasksFit modes rules s n zs) parted f)).0
+
+  pub rest_events : (rest : List TaskOf) → rest ≡ take i changed → (js : List Judgement) → length js + length rules ≤ after.next → events_left modes rules pairs js s changed ≡ events_left modes rules pairs js s rest
+  rest_events rest r js l =
+      ap (events_left modes rules pairs js s) last_changed
+      ∙ events_pop modes rules pairs js s (take i ts) after l
+      ∙ ap (events_left modes rules pairs js s) (sym (rest_is rest r))
 
 module _ (modes : Modes) (rules : List Rule) (pairs : List Pair) (facts : List Fact) (old : Store) (budget : ℕ) (start : List TaskOf) (first : ℕ) where
   abbrev candidates : ℕ
@@ -84,15 +120,20 @@ module _ (modes : Modes) (rules : List Rule) (pairs : List Pair) (facts : List F
     pub facts_then : (js : List Judgement) → AreFacts modes (store_trees old) js facts → AreFacts modes (store_trees now) js facts
     facts_then js a = facts_stay modes (store_trees old) (store_trees now) w.grows.trees js facts a
 
-    pub reaching_settled : (one : List Judgement) → AreFacts modes (store_trees old) one facts → (rest : List TaskOf) →
-        ((js : List Judgement) (s : Store) → length js ≡ length facts → IsSettled modes rules pairs js s (length facts + length rules) tasks rest) → Reaching now tries last rest
-    reaching_settled one b rest x = record {
-      grows = w.grows;
-      fits = (x one now (sym (facts_length modes (store_trees old) one facts b))).fits w.fits;
-      less = w.less;
-      steps = w.steps;
-      goes = λ js a. w.goes js a ∙ ap (tries_then tries) (x js now (sym (facts_length modes (store_trees old) js facts a))).same;
-    }
+    pub reaching_settled : (one : List Judgement) → AreFacts modes (store_trees old) one facts → (rest : List TaskOf) (n then_tries then_last : ℕ) → then_tries ≡ tries + n → then_tries ≤ budget → then_last ≡ last + n →
+        ((js : List Judgement) → AreFacts modes (store_trees now) js facts → IsSettled modes rules pairs js now (length facts + length rules) n tasks rest) → Reaching now then_tries then_last rest
+    reaching_settled one b rest n then_tries then_last e l f x =
+        let s = w.steps in
+        record {
+          grows = w.grows;
+          fits = (x one (facts_then one b)).fits;
+          less = l;
+          steps = (omega arith);
+          goes = λ js a.
+              w.goes js a
+              ∙ ap (tries_then tries) (x js (facts_then js a)).same
+              ∙ tries_both tries n then_tries (events_left modes rules pairs js now rest) e;
+        }
 
     takes : (js : List Judgement) → AreFacts modes (store_trees old) js facts → Takes budget first last (events_first js) (events_left modes rules pairs js now tasks) tries
     takes js a = record { within = w.less; counted = w.steps; events = w.goes js a }

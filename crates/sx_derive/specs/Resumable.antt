@@ -166,11 +166,13 @@ IsReached modes rules pairs js candidates old new tasks budget first last es (Ok
 IsReached modes rules pairs js candidates old new tasks budget first last es (Err e) =
     (n : ℕ) × (rest : List (Event Answer)) × Takes budget first last es rest n × (0 < n)
 
--- the tasks are left whose last one has a candidate, where there is one
+-- after that many tries that come to nothing, the tasks are left whose last one has a candidate,
+-- where there is one
 pub record IsSettled (modes : Modes) (rules : List Rule) (pairs : List Pair) (js : List Judgement)
-    (s : Store) (candidates : ℕ) (old new : List TaskOf) : Type 0 where
-  pub same : events_left modes rules pairs js s old ≡ events_left modes rules pairs js s new
-  pub fits : TasksFit modes rules s candidates old → TasksFit modes rules s candidates new
+    (s : Store) (candidates n : ℕ) (old new : List TaskOf) : Type 0 where
+  pub same : events_left modes rules pairs js s old
+      ≡ tries_then n (events_left modes rules pairs js s new)
+  pub fits : TasksFit modes rules s candidates new
 
 -- where the next event is a stop, or none is left, a call answers so and makes no try
 pub record StopsStay (modes : Modes) (rules : List Rule) (hyps : Hypotheses) (budget first last : ℕ)

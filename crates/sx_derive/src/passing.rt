@@ -24,8 +24,10 @@ ghost use Rattle.sx_derive.specs.Store.{store_trees};
 use crate::given::Given;
 use crate::store::Store;
 use crate::tasks::Task;
+use std::sync::ledger::Ledger;
 use sx_arena::{Fact, Side, may_fit, roles, same_numbers};
 use sx_rules::{Place, Rule};
+use sx_term::Steps;
 
 /// Whether the hypothesis has another form than the task's goal, or other inputs.
 fn is_other_fact(fact: &Fact, task: &Task) -> bool
@@ -98,4 +100,13 @@ pub(crate) fn pass_over(given: &Given, store: &Store, task: &Task, left: &mut u6
         *left -= 1;
     }
     next
+}
+
+/// Counts that many tries.
+pub(crate) fn count<L: Ledger>(steps: &mut Steps<L>, tries: u64)
+    ensures { steps.new ≡ steps.old + tries }
+{
+    for _ in 0..tries {
+        steps.tick();
+    }
 }

@@ -13,21 +13,13 @@ ghost use Rattle.sx_arena.specs.Views.{rules_of, set_modes};
 
 use crate::given::Given;
 use crate::numbered_goal::NumberedGoal;
+use crate::passing::count;
 use crate::store::{Mark, Store};
 use crate::tasks::{Ending, Task, new_task};
 use crate::turns::{next_task, turn};
 use std::alloc::Global;
 use std::sync::ledger::Ledger;
 use sx_term::{NoMemory, Steps};
-
-/// Counts that many tries.
-fn count<L: Ledger>(steps: &mut Steps<L>, tries: u64)
-    ensures { steps.new ≡ steps.old + tries }
-{
-    for _ in 0..tries {
-        steps.tick();
-    }
-}
 
 /// The next task, as `next_task` finds it, each candidate that is passed over counted.
 fn next_counted<L: Ledger>(
