@@ -6,10 +6,10 @@ use Rattle.sx_grammar.specs.Grammar.{Grammar, Token, Production, production_of}
 use Rattle.sx_grammar.specs.declared.item.Item.{Item}
 use Rattle.sx_earley.specs.declared.ask.Ask.{Ask}
 use Rattle.sx_earley.specs.Growth.{GoesOnFrom}
-use Rattle.sx_earley.specs.AskSet.{ask_hash, IsBeside, IsReached, IsLeast, IsOfSortFrom}
+use Rattle.sx_earley.specs.AskSet.{ask_hash, IsBeside, IsLevelReached, IsLeastLevel, IsOfSortFrom}
 use Rattle.sx_slots.specs.Mixed.{mixed_with, folded}
-use Rattle.sx_earley.specs.Chart.{IsOfSort, IsPredicted, IsIdle, IsAsked}
-use Rattle.sx_earley.specs.Counted.{IsCount, IsCounted, IsNew, AllAsked, AsksMore}
+use Rattle.sx_earley.specs.Chart.{IsOfSort, IsPredicted, IsIdle, WasAsked}
+use Rattle.sx_earley.specs.Counted.{IsCount, IsIdleAsked, IsNewlyAsked, AllAsked, AsksMore}
 use Rattle.sx_earley.proofs.Growth.{still_there}
 use Rattle.sx_earley.proofs.Counts.{count_both}
 
@@ -32,7 +32,7 @@ from_or_not None sort least before is = absurd is
 from_or_not (Some p) sort least None is = inr (λ h. h)
 from_or_not (Some p) sort least (Some m) is = ⊎_elim (λ low. inr (λ h. let high = h.1 in omega arith)) (λ high. inl (is.0, high)) (cases_lt p.level m)
 
-reached_from : (o : Option Production) (sort : ℕ) (before : Option ℕ) (level : ℕ) → IsReached before level → IsOfSort o sort level → IsOfSortFrom o sort before
+reached_from : (o : Option Production) (sort : ℕ) (before : Option ℕ) (level : ℕ) → IsLevelReached before level → IsOfSort o sort level → IsOfSortFrom o sort before
 reached_from o sort None level reached is = absurd reached
 reached_from o sort (Some m) level reached is = lower_level o sort m level reached is
 
@@ -42,7 +42,7 @@ module _ (g : Grammar) (asked : List Ask) (ask : Ask) where
 
   -- what begins from the level that was asked for before was asked for
   asked_from : (before : Option ℕ) → IfSome before (λ m. (other : Ask) × Contains asked other × IsBeside other ask × (other.least ≡ m)) →
-      (i : Item) → Wanted i → IsOfSortFrom (production_of g i.head) ask.sort before → IsAsked g asked i
+      (i : Item) → Wanted i → IsOfSortFrom (production_of g i.head) ask.sort before → WasAsked g asked i
   asked_from None some i w from = absurd from
   asked_from (Some m) some i w from = (
     some.0,
@@ -56,12 +56,12 @@ module _ (g : Grammar) (asked : List Ask) (ask : Ask) where
     ),
   )
 
-  module _ (before : Option ℕ) (least : IsLeast asked ask before) where
-    was_asked : (i : Item) → Wanted i → IsOfSortFrom (production_of g i.head) ask.sort before → IsAsked g asked i
+  module _ (before : Option ℕ) (least : IsLeastLevel asked ask before) where
+    was_asked : (i : Item) → Wanted i → IsOfSortFrom (production_of g i.head) ask.sort before → WasAsked g asked i
     was_asked = asked_from before least.some
 
     -- what was asked for before is of that level
-    from_asked : (i : Item) → IsAsked g asked i → Wanted i → IsOfSortFrom (production_of g i.head) ask.sort before
+    from_asked : (i : Item) → WasAsked g asked i → Wanted i → IsOfSortFrom (production_of g i.head) ask.sort before
     from_asked i a w =
         let o = production_of g i.head in
         let sorts : a.0.sort ≡ ask.sort = one_sort o a.0.sort ask.sort a.0.least ask.least a.2.0 w.0 in
@@ -70,33 +70,33 @@ module _ (g : Grammar) (asked : List Ask) (ask : Ask) where
 
     module _ (tokens : List Token) where
       -- all of it was asked for before
-      pub asks_none : IsReached before ask.least → AsksMore g tokens Wanted asked asked 0
+      pub asks_none : IsLevelReached before ask.least → AsksMore g tokens Wanted asked asked 0
       asks_none reached = record {
         asks = λ i. ((λ a. inl a), (λ h. ⊎_elim (λ a. a) (λ w. was_asked i w (reached_from (production_of g i.head) ask.sort before ask.least reached w.0)) h));
-        idle = λ m c. let e : m ≡ m + 0 = omega arith in subst (λ (n : ℕ). IsCount (IsCounted g tokens asked) n) e c;
+        idle = λ m c. let e : m ≡ m + 0 = omega arith in subst (λ (n : ℕ). IsCount (IsIdleAsked g tokens asked) n) e c;
         small = omega arith;
       }
 
       module _ (more : List Ask) (is : more ≡ asked ++ ask ∷ []) where
-        one_more : (i : Item) → IsAsked g more i → IsAsked g asked i ⊎ Wanted i
+        one_more : (i : Item) → WasAsked g more i → WasAsked g asked i ⊎ Wanted i
         one_more i a = ⊎_elim (λ was. inl (a.0, was, a.2)) (λ e. inr (subst (λ (x : Ask). IsPredicted g x.sort x.least x.place i) (sym e) a.2))
             (Contains-push_cases asked ask a.0 (subst (λ (l : List Ask). Contains l a.0) is a.1))
 
-        also_more : (i : Item) → IsAsked g asked i ⊎ Wanted i → IsAsked g more i
+        also_more : (i : Item) → WasAsked g asked i ⊎ Wanted i → WasAsked g more i
         also_more i (inl a) = (a.0, subst (λ (l : List Ask). Contains l a.0) (sym is) (Contains-append_left asked (ask ∷ []) a.0 a.1), a.2)
         also_more i (inr w) = (ask, subst (λ (l : List Ask). Contains l ask) (sym is) (Contains-push asked ask), w)
 
         -- it was asked for before, or is new
-        was_or_new : (i : Item) → IsAsked g more i → IsAsked g asked i ⊎ IsNew g ask before i
+        was_or_new : (i : Item) → WasAsked g more i → WasAsked g asked i ⊎ IsNewlyAsked g ask before i
         was_or_new i a = ⊎_elim (λ was. inl was)
             (λ w. ⊎_elim (λ from. inl (was_asked i w from)) (λ new. inr (w, new)) (from_or_not (production_of g i.head) ask.sort ask.least before w.0))
             (one_more i a)
 
         -- one more is asked for
-        pub asks_one : (n : ℕ) → n < 2 ^ 63 → IsCount (λ i. IsIdle g tokens i × IsNew g ask before i) n → AsksMore g tokens Wanted asked more n
+        pub asks_one : (n : ℕ) → n < 2 ^ 63 → IsCount (λ i. IsIdle g tokens i × IsNewlyAsked g ask before i) n → AsksMore g tokens Wanted asked more n
         asks_one n small count = record {
           asks = λ i. (one_more i, also_more i);
-          idle = λ m c. count_both (IsCounted g tokens asked) (λ i. IsIdle g tokens i × IsNew g ask before i) (IsCounted g tokens more) m n
+          idle = λ m c. count_both (IsIdleAsked g tokens asked) (λ i. IsIdle g tokens i × IsNewlyAsked g ask before i) (IsIdleAsked g tokens more) m n
               (λ i p q. q.1.1 (from_asked i p.1 q.1.0))
               (λ i. (
                 (λ r. ⊎_elim (λ a. inl (r.0, a)) (λ new. inr (r.0, new)) (was_or_new i r.1)),
@@ -106,7 +106,7 @@ module _ (g : Grammar) (asked : List Ask) (ask : Ask) where
           small = small;
         }
 
-        pub asked_more : (old new : List Item) → GoesOnFrom old new → AllAsked g tokens asked old → ((i : Item) → IsNew g ask before i → Contains new i ⊎ IsIdle g tokens i) →
+        pub asked_more : (old new : List Item) → GoesOnFrom old new → AllAsked g tokens asked old → ((i : Item) → IsNewlyAsked g ask before i → Contains new i ⊎ IsIdle g tokens i) →
             AllAsked g tokens more new
         asked_more old new grown all every i a = ⊎_elim
             (λ was. ⊎_elim (λ there. inl (still_there old new i grown there)) (λ idle. inr idle) (all i was))
@@ -118,7 +118,7 @@ module _ (g : Grammar) (tokens : List Token) where
   pub asked_on : (asked : List Ask) (old new : List Item) → GoesOnFrom old new → AllAsked g tokens asked old → AllAsked g tokens asked new
   asked_on asked old new grown all i a = ⊎_elim (λ there. inl (still_there old new i grown there)) (λ idle. inr idle) (all i a)
 
-  pub nothing_asked : (asked : List Ask) → asked ≡ [] → (i : Item) → IsAsked g asked i → ⊥
+  pub nothing_asked : (asked : List Ask) → asked ≡ [] → (i : Item) → WasAsked g asked i → ⊥
   nothing_asked asked none i a = let h : Contains [] a.0 = subst (λ (l : List Ask). Contains l a.0) none a.1 in let low = h.1 in omega arith
 
   pub asked_none : (asked : List Ask) (keys : List Item) → asked ≡ [] → AllAsked g tokens asked keys
@@ -139,6 +139,6 @@ module _ (g : Grammar) (tokens : List Token) where
   pub asks_nothing : (P : Item → Type 0) (asked : List Ask) → ((i : Item) → P i → ⊥) → AsksMore g tokens P asked asked 0
   asks_nothing P asked none = record {
     asks = λ i. ((λ a. inl a), (λ h. ⊎_elim (λ a. a) (λ p. absurd (none i p)) h));
-    idle = λ m c. let e : m ≡ m + 0 = omega arith in subst (λ (n : ℕ). IsCount (IsCounted g tokens asked) n) e c;
+    idle = λ m c. let e : m ≡ m + 0 = omega arith in subst (λ (n : ℕ). IsCount (IsIdleAsked g tokens asked) n) e c;
     small = omega arith;
   }

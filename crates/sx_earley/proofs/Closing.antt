@@ -12,11 +12,11 @@ use Rattle.sx_grammar.specs.Items.{ReadsToken, Makes, NextIs, AtEnd, started, pr
 use Rattle.sx_grammar.specs.Items.{completed}
 use Rattle.sx_grammar.specs.declared.item.Item.{Item}
 use Rattle.sx_earley.specs.Growth.{GoesOnFrom, Only}
-use Rattle.sx_earley.specs.Chart.{Foresees, Follows, by_prediction, by_scanning, by_filling}
+use Rattle.sx_earley.specs.Chart.{Foresees, FollowsFrom, by_prediction, by_scanning, by_filling}
 use Rattle.sx_earley.specs.Chart.{by_waiting, AllFollow, Joins, ReadsNext, next_symbol}
 use Rattle.sx_earley.specs.Chart.{symbol_after, as_part, IsOfSort, HasDotAtEnd, IsPredicted, moved}
-use Rattle.sx_earley.specs.Chart.{beginning, Treated, IsAsked}
-use Rattle.sx_earley.specs.Counted.{AllAsked, IsBusy, IsCounted}
+use Rattle.sx_earley.specs.Chart.{beginning, Treated, WasAsked}
+use Rattle.sx_earley.specs.Counted.{AllAsked, IsBusy, IsIdleAsked}
 use Rattle.sx_earley.specs.declared.ask.Ask.{Ask}
 use Rattle.sx_grammar.specs.ReadOne.{Holds}
 use Rattle.sx_earley.proofs.Growth.{still_there}
@@ -81,7 +81,7 @@ module _ (g : Grammar) (tokens : List Token) (start : ℕ) where
 
   -- what follows from items that hold holds
   pub follows_hold : (IsBefore IsFilling : Item → Type 0) (item : Item) → Holds g tokens start item → ((x : Item) → IsBefore x → Holds g tokens start x) →
-      ((x : Item) → IsFilling x → Holds g tokens start x) → (i : Item) → Follows g tokens IsBefore IsFilling item i → Holds g tokens start i
+      ((x : Item) → IsFilling x → Holds g tokens start x) → (i : Item) → FollowsFrom g tokens IsBefore IsFilling item i → Holds g tokens start i
   follows_hold IsBefore IsFilling item h all every i (by_prediction f busy) = prediction_holds item i h f
   follows_hold IsBefore IsFilling item h all every i (by_scanning r e) = subst (Holds g tokens start) (sym e) (scan_holds item h r)
   follows_hold IsBefore IsFilling item h all every i (by_filling j) =
@@ -91,7 +91,7 @@ module _ (g : Grammar) (tokens : List Token) (start : ℕ) where
 
   -- one more item has been treated
   pub treated_more : (done : List Item) (item : Item) (asked asks : List Ask) (keys more : List Item) (IsBefore IsFilling : Item → Type 0) → GoesOnFrom keys more →
-      ((i : Item) → IsAsked g asked i → IsAsked g asks i) → Treated g tokens done asked keys →
+      ((i : Item) → WasAsked g asked i → WasAsked g asks i) → Treated g tokens done asked keys →
       AllFollow g tokens IsBefore IsFilling item asks more → ((x : Item) → Contains (done ++ item ∷ []) x → Joins g x item → IsBefore x) →
       ((x : Item) → Contains (done ++ item ∷ []) x → Joins g item x → IsFilling x) → Treated g tokens (done ++ item ∷ []) asks more
   treated_more done item asked asks keys more IsBefore IsFilling grown still t f has_before has_filling = record {
@@ -100,7 +100,7 @@ module _ (g : Grammar) (tokens : List Token) (start : ℕ) where
     joined = λ before filling there there' joins. by_join_of before filling there there' (Contains-push_cases done item before there) (Contains-push_cases done item filling there') joins;
   }
     where
-      by_prediction_of : (x : Item) → Contains done x ⊎ (item ≡ x) → (i : Item) → Foresees g x i → IsAsked g asks i
+      by_prediction_of : (x : Item) → Contains done x ⊎ (item ≡ x) → (i : Item) → Foresees g x i → WasAsked g asks i
       by_prediction_of x (inl old) i foresees = still i (t.predictions x old i foresees)
       by_prediction_of x (inr e) i foresees = f.predictions i (subst (λ y. Foresees g y i) (sym e) foresees)
 
@@ -119,12 +119,12 @@ module _ (g : Grammar) (tokens : List Token) (start : ℕ) where
           subst (λ y. Contains more (moved before y.end)) e (f.filled before (has_before before a now) now)
 
   -- what follows from what is asked for and closed has every item that holds, but for idle ones, which were asked for
-  module _ (asked : List Ask) (keys : List Item) (starts : (i : Item) → IsPredicted g start 0 0 i → IsAsked g asked i) (all : AllAsked g tokens asked keys)
+  module _ (asked : List Ask) (keys : List Item) (starts : (i : Item) → IsPredicted g start 0 0 i → WasAsked g asked i) (all : AllAsked g tokens asked keys)
       (t : Treated g tokens keys asked keys) where
     abbrev Met : Item → Type 0
-    Met i = Contains keys i ⊎ IsCounted g tokens asked i
+    Met i = Contains keys i ⊎ IsIdleAsked g tokens asked i
 
-    met : (i : Item) → IsAsked g asked i → Met i
+    met : (i : Item) → WasAsked g asked i → Met i
     met i a = ⊎_elim (λ there. inl there) (λ idle. inr (idle, a)) (all i a)
 
     -- an item that something follows from is not idle
@@ -138,7 +138,7 @@ module _ (g : Grammar) (tokens : List Token) (start : ℕ) where
     kept_complete i ends h = ⊎_elim (λ there. there) (λ c. absurd (idle_open g tokens i c.0 ends)) h
 
     pub closed_has : {head : Head} {dot origin end : ℕ} → items.Item g tokens start head dot origin end →
-        Contains keys (record { head = head; dot = dot; origin = origin; end = end }) ⊎ IsCounted g tokens asked (record { head = head; dot = dot; origin = origin; end = end })
+        Contains keys (record { head = head; dot = dot; origin = origin; end = end }) ⊎ IsIdleAsked g tokens asked (record { head = head; dot = dot; origin = origin; end = end })
     closed_has (started {head = head} makes) = met (beginning head 0) (starts (beginning head 0) (is_of_sort g head start 0 makes, refl, refl, refl))
     closed_has (predicted {head = head} {other = other} {dot = dot} {origin = origin} {end = end} {sort = sort} {least = least} item next makes) =
         let at : Item = record { head = head; dot = dot; origin = origin; end = end } in
@@ -183,7 +183,7 @@ module _ (g : Grammar) (tokens : List Token) (start : ℕ) where
 
   pub more_hold : (old keys : List Item) (IsBefore IsFilling : Item → Type 0) (item : Item) → ((i : Item) → Contains old i → Holds g tokens start i) → Holds g tokens start item →
       ((x : Item) → IsBefore x → Holds g tokens start x) → ((x : Item) → IsFilling x → Holds g tokens start x) →
-      Only old keys (Follows g tokens IsBefore IsFilling item) → (i : Item) → Contains keys i → Holds g tokens start i
+      Only old keys (FollowsFrom g tokens IsBefore IsFilling item) → (i : Item) → Contains keys i → Holds g tokens start i
   more_hold old keys IsBefore IsFilling item sound h all every only i there = ⊎_elim (λ was. sound i was) (λ f. follows_hold IsBefore IsFilling item h all every i f) (only i there)
 
 -- the element at a place is in the list

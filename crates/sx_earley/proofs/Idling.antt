@@ -4,7 +4,7 @@ use Rattle.std.proofs.lemmas.Option.{none-some}
 use Rattle.sx_grammar.specs.Grammar.{Symbol, literal, lexical, part, Grammar, Token, production_of}
 use Rattle.sx_grammar.specs.declared.item.Item.{Item}
 use Rattle.sx_earley.specs.Chart.{as_part, next_symbol, ReadsNext, IsMissed, IsIdle, HasDotAtEnd}
-use Rattle.sx_earley.specs.Chart.{Follows, by_prediction, by_scanning, by_filling, by_waiting, moved}
+use Rattle.sx_earley.specs.Chart.{FollowsFrom, by_prediction, by_scanning, by_filling, by_waiting, moved}
 use Rattle.sx_earley.proofs.Waiting.{some_not_at_end}
 
 missed_part : (tokens : List Token) (o : Option Symbol) (place sort least : ℕ) → IsMissed tokens o place → as_part o ≡ Some (sort, least) → ⊥
@@ -41,7 +41,7 @@ module _ (g : Grammar) (tokens : List Token) where
   moved_busy before end i e idle = let is : IsIdle g tokens (moved before end) = subst (IsIdle g tokens) e idle in let none : before.dot + 1 ≡ 0 = is.0 in omega arith
 
   -- what follows is not idle
-  pub follows_busy : (IsBefore IsFilling : Item → Type 0) (item i : Item) → Follows g tokens IsBefore IsFilling item i → IsIdle g tokens i → ⊥
+  pub follows_busy : (IsBefore IsFilling : Item → Type 0) (item i : Item) → FollowsFrom g tokens IsBefore IsFilling item i → IsIdle g tokens i → ⊥
   follows_busy IsBefore IsFilling item i (by_prediction f busy) idle = busy idle
   follows_busy IsBefore IsFilling item i (by_scanning r e) idle = moved_busy item (item.end + 1) i e idle
   follows_busy IsBefore IsFilling item i (by_filling j) idle = moved_busy j.0 j.1.end i j.5 idle

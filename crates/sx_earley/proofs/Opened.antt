@@ -1,5 +1,5 @@
 -- The openings of a grammar, filed one after another.
-use Rattle.std.proofs.Common.{◌≡◌, ◌∙◌, refl, sym, ap, subst, ℕ, ◌<◌, ◌+◌, ◌⊎◌, inl, inr, ⊎_elim, List, [], ◌∷◌, ◌++◌, map, Option, Some, None, length, Contains, arith}
+use Rattle.std.proofs.Common.{◌≡◌, ◌∙◌, refl, sym, ap, subst, ℕ, ◌<◌, ◌+◌, ◌⊎◌, inl, inr, ⊎_elim, List, [], ◌∷◌, map, Option, Some, None, length, Contains, arith}
 use Rattle.std.specs.Prelude.{slice_get}
 use Rattle.std.proofs.lemmas.Option.{slice_get_within, none-some, some_pair_parts}
 use Rattle.std.proofs.lemmas.Bool.{cases_lt}
@@ -15,7 +15,7 @@ use Rattle.sx_earley.specs.declared.table.Table.{Table}
 use Rattle.sx_earley.specs.Shown.{plain}
 use Rattle.sx_earley.specs.Chart.{IsOfSort, sort_and_level, beginning}
 use Rattle.sx_earley.specs.Dotted.{IsNextSymbol}
-use Rattle.sx_earley.specs.Openings.{IsOpening, HasAllOpenings, row_of, AreFiled, IsBelow, AddsOpening}
+use Rattle.sx_earley.specs.Openings.{IsOpening, HasAllOpenings, openings_of, AreFiled, IsBelow, AddsOpening}
 use Rattle.sx_earley.specs.Openings.{MayAddOpening}
 use Rattle.sx_earley.proofs.Closing.{nothing_in}
 use Rattle.sx_earley.proofs.Spanning.{once_push}
@@ -56,39 +56,39 @@ made_sort o p sort least e is = let h : IsOfSort (Some p) sort least = subst (λ
 module _ (d : GrammarData) (head : Head) (IsFiled Also : Head → Type 0) (old new : Table Opening) (also_was : (h : Head) → Also h → IsFiled h ⊎ (head ≡ h))
     (was_also : (h : Head) → IsFiled h → Also h) (now : Also head) (apart : IsFiled head → ⊥) (f : AreFiled d IsFiled old) where
   module _ (a : AddsOpening d head old new) where
-    old_there : (sort : ℕ) (o : Opening) → Contains (row_of old sort) o → Contains (row_of new sort) o
+    old_there : (sort : ℕ) (o : Opening) → Contains (openings_of old sort) o → Contains (openings_of new sort) o
     old_there sort o there = ⊎_elim
         (λ same. subst (λ l. Contains l o) (sym same) there)
-        (λ e. subst (λ (s : ℕ). Contains (row_of old s) o → Contains (row_of new s) o) (sym e)
-        (λ was. subst (λ l. Contains l o) (sym a.row) (Contains-append_left (row_of old a.sort) (a.opening ∷ []) o was)) there)
+        (λ e. subst (λ (s : ℕ). Contains (openings_of old s) o → Contains (openings_of new s) o) (sym e)
+        (λ was. subst (λ l. Contains l o) (sym a.row) (Contains-append_left (openings_of old a.sort) (a.opening ∷ []) o was)) there)
         (a.rows sort)
 
-    here : Contains (row_of new a.sort) a.opening
-    here = subst (λ l. Contains l a.opening) (sym a.row) (Contains-push (row_of old a.sort) a.opening)
+    here : Contains (openings_of new a.sort) a.opening
+    here = subst (λ l. Contains l a.opening) (sym a.row) (Contains-push (openings_of old a.sort) a.opening)
 
-    only_in : (sort : ℕ) (o : Opening) → Contains (row_of old sort) o ⊎ ((sort ≡ a.sort) × (a.opening ≡ o)) → IsOpening d sort o × Also o.head
+    only_in : (sort : ℕ) (o : Opening) → Contains (openings_of old sort) o ⊎ ((sort ≡ a.sort) × (a.opening ≡ o)) → IsOpening d sort o × Also o.head
     only_in sort o (inl there) = let h = f.only sort o there in (h.0, was_also o.head h.1)
     only_in sort o (inr (e, is)) = (
       subst (λ (s : ℕ). IsOpening d s o) (sym e) (subst (IsOpening d a.sort) is a.is),
       subst Also (sym a.same_head ∙ ap (λ x. x.head) is) now,
     )
 
-    new_cases : (sort : ℕ) (o : Opening) → Contains (row_of new sort) o → Contains (row_of old sort) o ⊎ ((sort ≡ a.sort) × (a.opening ≡ o))
+    new_cases : (sort : ℕ) (o : Opening) → Contains (openings_of new sort) o → Contains (openings_of old sort) o ⊎ ((sort ≡ a.sort) × (a.opening ≡ o))
     new_cases sort o there = ⊎_elim
         (λ same. inl (subst (λ l. Contains l o) same there))
-        (λ e. ⊎_elim (λ was. inl (subst (λ (s : ℕ). Contains (row_of old s) o) (sym e) was)) (λ is. inr (e, is))
-        (Contains-push_cases (row_of old a.sort) a.opening o (subst (λ l. Contains l o) a.row (subst (λ (s : ℕ). Contains (row_of new s) o) e there))))
+        (λ e. ⊎_elim (λ was. inl (subst (λ (s : ℕ). Contains (openings_of old s) o) (sym e) was)) (λ is. inr (e, is))
+        (Contains-push_cases (openings_of old a.sort) a.opening o (subst (λ l. Contains l o) a.row (subst (λ (s : ℕ). Contains (openings_of new s) o) e there))))
         (a.rows sort)
 
-    fresh : Among a.opening.head (map (λ (o : Opening). o.head) (row_of old a.sort)) → ⊥
+    fresh : Among a.opening.head (map (λ (o : Opening). o.head) (openings_of old a.sort)) → ⊥
     fresh h =
-        let k = among_map (λ (o : Opening). o.head) (row_of old a.sort) a.opening.head h in
+        let k = among_map (λ (o : Opening). o.head) (openings_of old a.sort) a.opening.head h in
         apart (subst IsFiled (sym k.2 ∙ a.same_head) (f.only a.sort k.0 k.1).1)
 
-    once_at : EachOnce (map (λ (o : Opening). o.head) (row_of new a.sort))
+    once_at : EachOnce (map (λ (o : Opening). o.head) (openings_of new a.sort))
     once_at = subst (λ l. EachOnce (map (λ (o : Opening). o.head) l)) (sym a.row)
-        (subst EachOnce (sym (map_push (λ (o : Opening). o.head) (row_of old a.sort) a.opening))
-        (once_push (map (λ (o : Opening). o.head) (row_of old a.sort)) a.opening.head (f.once a.sort) fresh))
+        (subst EachOnce (sym (map_push (λ (o : Opening). o.head) (openings_of old a.sort) a.opening))
+        (once_push (map (λ (o : Opening). o.head) (openings_of old a.sort)) a.opening.head (f.once a.sort) fresh))
 
     added_filed : AreFiled d Also new
     added_filed = record {
@@ -98,11 +98,11 @@ module _ (d : GrammarData) (head : Head) (IsFiled Also : Head → Type 0) (old n
           (λ e.
           let sorts : a.sort ≡ sort = sym a.is.same_sort ∙ made_sort (production_of (plain d) a.opening.head) a.is.production sort least a.is.is
           (subst (λ x. IsOfSort (production_of (plain d) x) sort least) (sym (a.same_head ∙ e)) is) in
-          (a.opening, subst (λ (s : ℕ). Contains (row_of new s) a.opening) sorts here, a.same_head ∙ e))
+          (a.opening, subst (λ (s : ℕ). Contains (openings_of new s) a.opening) sorts here, a.same_head ∙ e))
           (also_was h also);
       once = λ sort. ⊎_elim
           (λ same. subst (λ l. EachOnce (map (λ (o : Opening). o.head) l)) (sym same) (f.once sort))
-          (λ e. subst (λ (s : ℕ). EachOnce (map (λ (o : Opening). o.head) (row_of new s))) (sym e) once_at)
+          (λ e. subst (λ (s : ℕ). EachOnce (map (λ (o : Opening). o.head) (openings_of new s))) (sym e) once_at)
           (a.rows sort);
     }
 
@@ -134,9 +134,9 @@ also_sort m n (Labelled label) low = low
 also_sort m n (Bracketed sort) low = omega arith
 
 module _ (d : GrammarData) where
-  pub filed_none : (t : Table Opening) → ((sort : ℕ) → row_of t sort ≡ []) → AreFiled d (IsBelow 0 0) t
+  pub filed_none : (t : Table Opening) → ((sort : ℕ) → openings_of t sort ≡ []) → AreFiled d (IsBelow 0 0) t
   filed_none t none = record {
-    only = λ sort o there. absurd (nothing_in (row_of t sort) o (none sort) there);
+    only = λ sort o there. absurd (nothing_in (openings_of t sort) o (none sort) there);
     every = λ h low. absurd (nothing_below h low);
     once = λ sort. subst (λ l. EachOnce (map (λ (o : Opening). o.head) l)) (sym (none sort)) tt;
   }

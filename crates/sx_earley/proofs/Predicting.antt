@@ -12,9 +12,9 @@ use Rattle.sx_earley.specs.declared.ask.Ask.{Ask}
 use Rattle.sx_earley.specs.declared.opening.Opening.{Opening}
 use Rattle.sx_earley.specs.Growth.{GoesOnFrom, Only}
 use Rattle.sx_earley.specs.Shown.{plain, literal_texts, IsLiteralBelow}
-use Rattle.sx_earley.specs.AskSet.{IsReached, IsOfSortFrom, IsNewLevel}
+use Rattle.sx_earley.specs.AskSet.{IsLevelReached, IsOfSortFrom, IsNewLevel}
 use Rattle.sx_earley.specs.Chart.{IsOfSort, IsPredicted, IsMissed, IsIdle, beginning}
-use Rattle.sx_earley.specs.Counted.{IsCount, IsNew, IsBusy, Begins, unwanted, missed, added, Predicts}
+use Rattle.sx_earley.specs.Counted.{IsCount, IsNewlyAsked, IsBusy, AddsOrCounts, unwanted, missed, added, Predicts}
 use Rattle.sx_earley.specs.Openings.{IsOpening, HasOpenings}
 use Rattle.sx_earley.proofs.Counts.{count_none, count_same, count_more}
 use Rattle.sx_grammar.specs.Tally.{Among, EachOnce}
@@ -28,11 +28,11 @@ use Rattle.sx_earley.proofs.Growth.{extends_self, extends_on, still_there, only_
 pub begins_there : (g : Grammar) (sort least place : ℕ) (i : Item) → IsPredicted g sort least place i → beginning i.head place ≡ i
 begins_there g sort least place i p = λ t. record { head = i.head; dot = sym p.1 t; origin = sym p.2 t; end = sym p.3 t }
 
-from_level : (o : Option Production) (sort : ℕ) (before : Option ℕ) (p : Production) → o ≡ Some p → IsOfSortFrom o sort before → IsReached before p.level
+from_level : (o : Option Production) (sort : ℕ) (before : Option ℕ) (p : Production) → o ≡ Some p → IsOfSortFrom o sort before → IsLevelReached before p.level
 from_level o sort None p e h = absurd h
 from_level o sort (Some m) p e h = let is : IsOfSort (Some p) sort m = subst (λ x. IsOfSort x sort m) e h in is.1
 
-reached_at : (o : Option Production) (sort : ℕ) (before : Option ℕ) (p : Production) → o ≡ Some p → p.sort ≡ sort → IsReached before p.level → IsOfSortFrom o sort before
+reached_at : (o : Option Production) (sort : ℕ) (before : Option ℕ) (p : Production) → o ≡ Some p → p.sort ≡ sort → IsLevelReached before p.level → IsOfSortFrom o sort before
 reached_at o sort None p e s h = absurd h
 reached_at o sort (Some m) p e s h = subst (λ x. IsOfSort x sort m) (sym e) (s, h)
 
@@ -58,7 +58,7 @@ module _ (d : GrammarData) (tokens : List Token) (ask : Ask) (before : Option �
   g = plain d
 
   abbrev Wanted : Item → Type 0
-  Wanted = IsNew g ask before
+  Wanted = IsNewlyAsked g ask before
 
   -- its head is that of an opening of the list
   abbrev pub IsFrom : List Opening → Item → Type 0
@@ -86,7 +86,7 @@ module _ (d : GrammarData) (tokens : List Token) (ask : Ask) (before : Option �
 
   module _ (o : Opening) (is : IsOpening d ask.sort o) where
     -- what begins with the opening is wanted, if its level is
-    pub level_wanted : ask.least ≤ o.level → (IsReached before o.level → ⊥) → Wanted (beginning o.head ask.place)
+    pub level_wanted : ask.least ≤ o.level → (IsLevelReached before o.level → ⊥) → Wanted (beginning o.head ask.place)
     level_wanted high not = (
       (
         subst (λ x. IsOfSort x ask.sort ask.least) (sym is.is) (is.same_sort, (let same = is.same_level in omega arith)),
@@ -94,18 +94,18 @@ module _ (d : GrammarData) (tokens : List Token) (ask : Ask) (before : Option �
         refl,
         refl,
       ),
-      (λ from. not (subst (IsReached before) is.same_level (from_level (production_of g o.head) ask.sort before is.production is.is from))),
+      (λ from. not (subst (IsLevelReached before) is.same_level (from_level (production_of g o.head) ask.sort before is.production is.is from))),
     )
 
     -- what is wanted is of these levels
-    pub wanted_level : (i : Item) → Wanted i → o.head ≡ i.head → (ask.least ≤ o.level) × (IsReached before o.level → ⊥)
+    pub wanted_level : (i : Item) → Wanted i → o.head ≡ i.head → (ask.least ≤ o.level) × (IsLevelReached before o.level → ⊥)
     wanted_level i w e =
         let at = production_of g o.head in
         let fits : IsOfSort at ask.sort ask.least = subst (λ h. IsOfSort (production_of g h) ask.sort ask.least) (sym e) w.0.0 in
         let made : IsOfSort (Some is.production) ask.sort ask.least = subst (λ x. IsOfSort x ask.sort ask.least) is.is fits in (
           (let high = made.1 in let same = is.same_level in omega arith),
           (λ reached. w.1 (subst (λ h. IsOfSortFrom (production_of g h) ask.sort before) e
-              (reached_at at ask.sort before is.production is.is is.same_sort (subst (IsReached before) (sym is.same_level) reached)))),
+              (reached_at at ask.sort before is.production is.is is.same_sort (subst (IsLevelReached before) (sym is.same_level) reached)))),
         )
 
     module _ (front more : List Opening) (step : more ≡ front ++ o ∷ []) where
@@ -121,7 +121,7 @@ module _ (d : GrammarData) (tokens : List Token) (ask : Ask) (before : Option �
 
       module _ (bound : ℕ) (old mid : List Item) (n : ℕ) (so_far : Progress front bound old mid n) where
         -- the opening is of no level that is wanted
-        progress_skip : ((ask.least ≤ o.level) × (IsReached before o.level → ⊥) → ⊥) → Progress more (bound + 1) old mid n
+        progress_skip : ((ask.least ≤ o.level) × (IsLevelReached before o.level → ⊥) → ⊥) → Progress more (bound + 1) old mid n
         progress_skip not = record {
           extends = so_far.extends;
           only = so_far.only;
@@ -135,7 +135,7 @@ module _ (d : GrammarData) (tokens : List Token) (ask : Ask) (before : Option �
           few = (let few = so_far.few in omega arith);
         }
 
-        module _ (high : ask.least ≤ o.level) (not : IsReached before o.level → ⊥) (fresh : (x : Opening) → Contains front x → x.head ≡ o.head → ⊥) where
+        module _ (high : ask.least ≤ o.level) (not : IsLevelReached before o.level → ⊥) (fresh : (x : Opening) → Contains front x → x.head ≡ o.head → ⊥) where
           abbrev x : Item
           x = beginning o.head ask.place
 
@@ -183,7 +183,7 @@ module _ (d : GrammarData) (tokens : List Token) (ask : Ask) (before : Option �
           }
 
         pub progress_on : ((x : Opening) → Contains front x → x.head ≡ o.head → ⊥) → (new : List Item) (b : ℕ) →
-            Begins (IsNewLevel ask before o.level) (IsMissed tokens (option_map (symbol (literal_texts d)) o.first) ask.place) (beginning o.head ask.place) mid new b →
+            AddsOrCounts (IsNewLevel ask before o.level) (IsMissed tokens (option_map (symbol (literal_texts d)) o.first) ask.place) (beginning o.head ask.place) mid new b →
             Progress more (bound + 1) old new (n + b)
         progress_on fresh new b (unwanted not same none) =
             subst (λ (k : ℕ). Progress more (bound + 1) old new k) (omega arith) (subst (λ l. Progress more (bound + 1) old l n) (sym same) (progress_skip not))
@@ -195,7 +195,7 @@ module _ (d : GrammarData) (tokens : List Token) (ask : Ask) (before : Option �
   -- one more opening of the row is passed
   pub progress_at : (row : List Opening) (k : ℕ) (old mid new : List Item) (n b : ℕ) → HasOpenings d ask.sort row → k < length row →
       Progress (take k row) k old mid n →
-      Begins (IsNewLevel ask before (get_or row k no_opening).level) (IsMissed tokens (option_map (symbol (literal_texts d)) (get_or row k no_opening).first) ask.place)
+      AddsOrCounts (IsNewLevel ask before (get_or row k no_opening).level) (IsMissed tokens (option_map (symbol (literal_texts d)) (get_or row k no_opening).first) ask.place)
       (beginning (get_or row k no_opening).head ask.place) mid new b →
       Progress (take (k + 1) row) (k + 1) old new (n + b)
   progress_at row k old mid new n b has low so_far begins =

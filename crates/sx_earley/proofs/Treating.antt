@@ -3,7 +3,7 @@ use Rattle.std.proofs.Common.{◌≡◌, ◌+◌, ℕ, List, Option, length}
 use Rattle.sx_grammar.specs.Grammar.{Grammar, Token}
 use Rattle.sx_grammar.specs.declared.item.Item.{Item}
 use Rattle.sx_earley.specs.Growth.{GoesOnFrom, Only}
-use Rattle.sx_earley.specs.Chart.{Foresees, Follows, by_prediction, by_scanning, by_filling}
+use Rattle.sx_earley.specs.Chart.{Foresees, FollowsFrom, by_prediction, by_scanning, by_filling}
 use Rattle.sx_earley.specs.Chart.{by_waiting, IsJoined, ReadsNext, next_symbol, moved}
 use Rattle.sx_earley.specs.Counted.{IsBusy}
 use Rattle.sx_earley.proofs.Growth.{only_on, only_more}
@@ -13,7 +13,7 @@ use Rattle.sx_earley.proofs.Keying.{keyed_earlier}
 
 module _ (g : Grammar) (tokens : List Token) (filed : Filed) (befores fillings : Option ℕ) (item : Item) (old mid new : List Item) where
   abbrev Next : Item → Type 0
-  Next = Follows g tokens (IsKeyed old filed befores) (IsKeyed old filed fillings) item
+  Next = FollowsFrom g tokens (IsKeyed old filed befores) (IsKeyed old filed fillings) item
 
   pub after_prediction : Only old new (IsBusy g tokens (Foresees g item)) → Only old new Next
   after_prediction h = only_more old new (IsBusy g tokens (Foresees g item)) Next (λ i p. by_prediction p.0 p.1) h

@@ -4,7 +4,7 @@ use Rattle.std.specs.List.{slice_get}
 use Rattle.sx_grammar.specs.Grammar.{Grammar, Token}
 use Rattle.sx_grammar.specs.declared.item.Item.{Item}
 use Rattle.sx_earley.specs.Growth.{GoesOnFrom, Only}
-use Rattle.sx_earley.specs.Chart.{Follows, AllFollow, Treated, AllHold, Joins, IsAsked, IsIdle}
+use Rattle.sx_earley.specs.Chart.{FollowsFrom, AllFollow, Treated, AllHold, Joins, WasAsked, IsIdle}
 use Rattle.sx_earley.specs.declared.ask.Ask.{Ask}
 use Rattle.sx_earley.specs.Keys.{IsKey, IsAddedTo, IsFiled, IsKeyed}
 use Rattle.sx_earley.specs.declared.filed.Filed.{Filed}
@@ -34,12 +34,12 @@ module _ (g : Grammar) (tokens : List Token) (start : ℕ) (items : List Item) (
 
   module _ (new : List Item) where
     -- what is added holds
-    pub turn_holds : Only items new (Follows g tokens (IsKeyed items more before) (IsKeyed items more filling) item) → AllHold g tokens start new
+    pub turn_holds : Only items new (FollowsFrom g tokens (IsKeyed items more before) (IsKeyed items more filling) item) → AllHold g tokens start new
     turn_holds only = more_hold g tokens start items new (IsKeyed items more before) (IsKeyed items more filling) item t.sound (t.sound item here)
         (λ x is. t.sound x (keyed_there items more before x is)) (λ x is. t.sound x (keyed_there items more filling x is)) only
 
     -- and is not idle
-    pub turn_busy : ((i : Item) → Contains items i → IsIdle g tokens i → ⊥) → Only items new (Follows g tokens (IsKeyed items more before) (IsKeyed items more filling) item) →
+    pub turn_busy : ((i : Item) → Contains items i → IsIdle g tokens i → ⊥) → Only items new (FollowsFrom g tokens (IsKeyed items more before) (IsKeyed items more filling) item) →
         (i : Item) → Contains new i → IsIdle g tokens i → ⊥
     turn_busy busy only i there = ⊎_elim (λ was. busy i was)
         (λ f. follows_busy g tokens (IsKeyed items more before) (IsKeyed items more filling) item i f) (only i there)
@@ -48,7 +48,7 @@ module _ (g : Grammar) (tokens : List Token) (start : ℕ) (items : List Item) (
       step : take next items ++ item ∷ [] ≡ take (next + 1) new
       step = front_more items new next item grown t.at
 
-      pub turn_closed : (asked asks : List Ask) → ((i : Item) → IsAsked g asked i → IsAsked g asks i) → Treated g tokens (take next items) asked items →
+      pub turn_closed : (asked asks : List Ask) → ((i : Item) → WasAsked g asked i → WasAsked g asks i) → Treated g tokens (take next items) asked items →
           AllFollow g tokens (IsKeyed items more before) (IsKeyed items more filling) item asks new → Treated g tokens (take (next + 1) new) asks new
       turn_closed asked asks still closed follow = subst (λ l. Treated g tokens l asks new) step
           (treated_more g tokens start (take next items) item asked asks items new (IsKeyed items more before) (IsKeyed items more filling) grown still closed follow

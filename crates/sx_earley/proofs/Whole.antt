@@ -9,8 +9,8 @@ use Rattle.sx_grammar.specs.Tally.{EachOnce}
 use Rattle.sx_grammar.specs.ReadOne.{Holds, MoreHold}
 use Rattle.sx_earley.specs.declared.ask.Ask.{Ask}
 use Rattle.sx_earley.specs.Growth.{Only}
-use Rattle.sx_earley.specs.Chart.{IsPredicted, IsIdle, IsAsked, Foresees, AllHold, Treated}
-use Rattle.sx_earley.specs.Counted.{IsBusy, IsCount, IsCounted, AllAsked, AsksMore, AreItems}
+use Rattle.sx_earley.specs.Chart.{IsPredicted, IsIdle, WasAsked, Foresees, AllHold, Treated}
+use Rattle.sx_earley.specs.Counted.{IsBusy, IsCount, IsIdleAsked, AllAsked, AsksMore, AreItems}
 use Rattle.sx_earley.proofs.Asking.{nothing_asked}
 use Rattle.sx_earley.proofs.Closing.{nothing_in, starts_hold, start_holds, prediction_holds, closed_has}
 use Rattle.sx_earley.proofs.Counting.{no_more_hold}
@@ -20,11 +20,11 @@ use Rattle.sx_earley.proofs.Spanning.{among_there}
 -- what is known of the items that are kept, and of so many that are counted
 pub record SoFar (g : Grammar) (tokens : List Token) (start : ℕ) (asked : List Ask) (keys : List Item) (n : ℕ) : Type 0 where
   pub sound : AllHold g tokens start keys
-  pub right : (i : Item) → IsAsked g asked i → Holds g tokens start i
+  pub right : (i : Item) → WasAsked g asked i → Holds g tokens start i
   pub busy : (i : Item) → Contains keys i → IsIdle g tokens i → ⊥
-  pub starts : (i : Item) → IsPredicted g start 0 0 i → IsAsked g asked i
+  pub starts : (i : Item) → IsPredicted g start 0 0 i → WasAsked g asked i
   pub asked_there : AllAsked g tokens asked keys
-  pub count : IsCount (IsCounted g tokens asked) n
+  pub count : IsCount (IsIdleAsked g tokens asked) n
 
 module _ (g : Grammar) (tokens : List Token) (start : ℕ) where
   -- what begins is predicted
@@ -36,8 +36,8 @@ module _ (g : Grammar) (tokens : List Token) (start : ℕ) where
     busy = λ i there. ⊎_elim (λ was. absurd (nothing_in nothing i no_key was)) (λ p. p.1) (only i there);
     starts = λ i p. (more.asks i).1 (inr p);
     asked_there = asked_there;
-    count = let e : 0 + n ≡ n = omega arith in subst (IsCount (IsCounted g tokens asks)) e
-        (more.idle 0 (count_none (IsCounted g tokens none) (λ i c. nothing_asked g tokens none no_ask i c.1)));
+    count = let e : 0 + n ≡ n = omega arith in subst (IsCount (IsIdleAsked g tokens asks)) e
+        (more.idle 0 (count_none (IsIdleAsked g tokens none) (λ i c. nothing_asked g tokens none no_ask i c.1)));
   }
 
   module _ (asked : List Ask) (keys : List Item) (n : ℕ) (so : SoFar g tokens start asked keys n) where
@@ -72,7 +72,7 @@ module _ (g : Grammar) (tokens : List Token) (start : ℕ) where
     )
 
     module _ (closed : Treated g tokens keys asked keys) where
-      met : (i : Item) → Holds g tokens start i → Contains keys i ⊎ IsCounted g tokens asked i
+      met : (i : Item) → Holds g tokens start i → Contains keys i ⊎ IsIdleAsked g tokens asked i
       met i holds = closed_has g tokens start asked keys so.starts so.asked_there closed holds
 
       -- no more hold

@@ -57,8 +57,8 @@ IsPredicted g sort least place i =
     (i.end ≡ place)
 
 -- the item begins where it was asked for
-abbrev pub IsAsked : Grammar → List Ask → Item → Type 0
-IsAsked g asked i =
+abbrev pub WasAsked : Grammar → List Ask → Item → Type 0
+WasAsked g asked i =
     (ask : Ask) × Contains asked ask × IsPredicted g ask.sort ask.least ask.place i
 
 -- the item that begins a head's production at the place
@@ -66,15 +66,15 @@ abbrev pub beginning : Head → ℕ → Item
 beginning head place = record { head = head; dot = 0; origin = place; end = place }
 
 -- the symbol is that of one token
-abbrev pub IsToken : Symbol → Type 0
-IsToken (literal text) = Unit {0}
-IsToken (lexical kind) = Unit {0}
-IsToken (part sort least) = ⊥
+abbrev pub IsTokenSymbol : Symbol → Type 0
+IsTokenSymbol (literal text) = Unit {0}
+IsTokenSymbol (lexical kind) = Unit {0}
+IsTokenSymbol (part sort least) = ⊥
 
 -- the symbol, if there is one, is that of one token, and does not read the token at the place
 abbrev pub IsMissed : List Token → Option Symbol → ℕ → Type 0
 IsMissed tokens None place = ⊥
-IsMissed tokens (Some symbol) place = IsToken symbol × (ReadsToken tokens symbol place → ⊥)
+IsMissed tokens (Some symbol) place = IsTokenSymbol symbol × (ReadsToken tokens symbol place → ⊥)
 
 -- the item begins with the symbol of a token that does not stand at its place: nothing follows
 abbrev pub IsIdle : Grammar → List Token → Item → Type 0
@@ -113,21 +113,21 @@ pub record Foresees (g : Grammar) (item other : Item) : Type 0 where
 
 -- the item follows from this one, from those that may wait for it, and from those for which it may
 -- wait, and is not idle
-pub data Follows (g : Grammar) (tokens : List Token) (IsBefore IsFilling : Item → Type 0)
+pub data FollowsFrom (g : Grammar) (tokens : List Token) (IsBefore IsFilling : Item → Type 0)
     (item : Item) : Item → Type 0 where
   by_prediction : {i : Item} → Foresees g item i → (IsIdle g tokens i → ⊥) →
-      Follows g tokens IsBefore IsFilling item i
+      FollowsFrom g tokens IsBefore IsFilling item i
   by_scanning : {i : Item} → ReadsNext tokens (next_symbol g item.head item.dot) item.end →
-      i ≡ moved item (item.end + 1) → Follows g tokens IsBefore IsFilling item i
+      i ≡ moved item (item.end + 1) → FollowsFrom g tokens IsBefore IsFilling item i
   by_filling : {i : Item} → IsJoined g IsBefore (λ x. x ≡ item) i →
-      Follows g tokens IsBefore IsFilling item i
+      FollowsFrom g tokens IsBefore IsFilling item i
   by_waiting : {i : Item} → IsJoined g (λ x. x ≡ item) IsFilling i →
-      Follows g tokens IsBefore IsFilling item i
+      FollowsFrom g tokens IsBefore IsFilling item i
 
 -- all that follows so is there, or was asked for
 pub record AllFollow (g : Grammar) (tokens : List Token) (IsBefore IsFilling : Item → Type 0)
     (item : Item) (asked : List Ask) (keys : List Item) : Type 0 where
-  pub predictions : (i : Item) → Foresees g item i → IsAsked g asked i
+  pub predictions : (i : Item) → Foresees g item i → WasAsked g asked i
   pub scanned : ReadsNext tokens (next_symbol g item.head item.dot) item.end →
       Contains keys (moved item (item.end + 1))
   pub filled : (before : Item) → IsBefore before → Joins g before item →
@@ -139,7 +139,7 @@ pub record AllFollow (g : Grammar) (tokens : List Token) (IsBefore IsFilling : I
 pub record Treated (g : Grammar) (tokens : List Token) (done : List Item) (asked : List Ask)
     (keys : List Item) : Type 0 where
   pub predictions : (item : Item) → Contains done item → (i : Item) → Foresees g item i →
-      IsAsked g asked i
+      WasAsked g asked i
   pub scanned : (item : Item) → Contains done item →
       ReadsNext tokens (next_symbol g item.head item.dot) item.end →
       Contains keys (moved item (item.end + 1))

@@ -7,7 +7,7 @@ use Rattle.sx_grammar.specs.Tally.{EachOnce}
 use Rattle.sx_earley.specs.declared.ask.Ask.{Ask}
 use Rattle.sx_earley.specs.Growth.{GoesOnFrom, Only}
 use Rattle.sx_earley.specs.AskSet.{IsOfSortFrom}
-use Rattle.sx_earley.specs.Chart.{IsPredicted, IsIdle, IsAsked}
+use Rattle.sx_earley.specs.Chart.{IsPredicted, IsIdle, WasAsked}
 
 -- so many items have the property
 abbrev pub IsCount : (Item → Type 0) → ℕ → Type 0
@@ -19,25 +19,27 @@ abbrev pub IsBusy : Grammar → List Token → (Item → Type 0) → Item → Ty
 IsBusy g tokens P i = P i × (IsIdle g tokens i → ⊥)
 
 -- the item was asked for, and is idle
-abbrev pub IsCounted : Grammar → List Token → List Ask → Item → Type 0
-IsCounted g tokens asked i = IsIdle g tokens i × IsAsked g asked i
+abbrev pub IsIdleAsked : Grammar → List Token → List Ask → Item → Type 0
+IsIdleAsked g tokens asked i = IsIdle g tokens i × WasAsked g asked i
 
 -- what was asked for is there, or idle
 abbrev pub AllAsked : Grammar → List Token → List Ask → List Item → Type 0
-AllAsked g tokens asked keys = (i : Item) → IsAsked g asked i → Contains keys i ⊎ IsIdle g tokens i
+AllAsked g tokens asked keys = (i : Item) → WasAsked g asked i →
+    Contains keys i ⊎ IsIdle g tokens i
 
 -- the item is what is asked for, and not of the level, if there is one, that was asked for before
-abbrev pub IsNew : Grammar → Ask → Option ℕ → Item → Type 0
-IsNew g ask before i = IsPredicted g ask.sort ask.least ask.place i ×
+abbrev pub IsNewlyAsked : Grammar → Ask → Option ℕ → Item → Type 0
+IsNewlyAsked g ask before i = IsPredicted g ask.sort ask.least ask.place i ×
     (IsOfSortFrom (production_of g i.head) ask.sort before → ⊥)
 
 -- the item is added, or counted, where it is missed, if it is wanted
-pub data Begins (IsWanted IsMissed : Type 0) (item : Item) (old new : List Item) (n : ℕ) : Type 0
-  where
-    unwanted : (IsWanted → ⊥) → new ≡ old → n ≡ 0 → Begins IsWanted IsMissed item old new n
-    missed : IsWanted → IsMissed → new ≡ old → n ≡ 1 → Begins IsWanted IsMissed item old new n
-    added : IsWanted → (IsMissed → ⊥) → GoesOnFrom old new → Only old new (λ i. i ≡ item) →
-        Contains new item → n ≡ 0 → Begins IsWanted IsMissed item old new n
+pub data AddsOrCounts (IsWanted IsMissed : Type 0) (item : Item) (old new : List Item)
+    (n : ℕ) : Type 0 where
+  unwanted : (IsWanted → ⊥) → new ≡ old → n ≡ 0 → AddsOrCounts IsWanted IsMissed item old new n
+  missed : IsWanted → IsMissed → new ≡ old → n ≡ 1 →
+      AddsOrCounts IsWanted IsMissed item old new n
+  added : IsWanted → (IsMissed → ⊥) → GoesOnFrom old new → Only old new (λ i. i ≡ item) →
+      Contains new item → n ≡ 0 → AddsOrCounts IsWanted IsMissed item old new n
 
 -- what is wanted is added, or idle and counted
 pub record Predicts (g : Grammar) (tokens : List Token) (IsWanted : Item → Type 0)
@@ -51,8 +53,9 @@ pub record Predicts (g : Grammar) (tokens : List Token) (IsWanted : Item → Typ
 -- what is wanted is asked for, and so many more idle items are
 pub record AsksMore (g : Grammar) (tokens : List Token) (IsWanted : Item → Type 0)
     (old new : List Ask) (n : ℕ) : Type 0 where
-  pub asks : (i : Item) → IsAsked g new i ↔ (IsAsked g old i ⊎ IsWanted i)
-  pub idle : (m : ℕ) → IsCount (IsCounted g tokens old) m → IsCount (IsCounted g tokens new) (m + n)
+  pub asks : (i : Item) → WasAsked g new i ↔ (WasAsked g old i ⊎ IsWanted i)
+  pub idle : (m : ℕ) → IsCount (IsIdleAsked g tokens old) m →
+      IsCount (IsIdleAsked g tokens new) (m + n)
   pub small : n < 2 ^ 63
 
 -- these items hold, and with idle ones they are all that hold

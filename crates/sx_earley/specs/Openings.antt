@@ -28,21 +28,21 @@ pub record HasOpenings (d : GrammarData) (sort : ℕ) (row : List Opening) : Typ
   pub once : EachOnce (map (λ o. o.head) row)
 
 -- the row of the sort
-abbrev pub row_of : Table Opening → ℕ → List Opening
-row_of t sort = row_at t (record { place = 0; sort = sort })
+abbrev pub openings_of : Table Opening → ℕ → List Opening
+openings_of t sort = row_at t (record { place = 0; sort = sort })
 
 -- the rows have what begins productions
 abbrev pub HasAllOpenings : GrammarData → Table Opening → Type 0
-HasAllOpenings d t = (sort : ℕ) → HasOpenings d sort (row_of t sort)
+HasAllOpenings d t = (sort : ℕ) → HasOpenings d sort (openings_of t sort)
 
 -- the rows have the openings of these heads
 pub record AreFiled (d : GrammarData) (IsFiled : Head → Type 0) (t : Table Opening) : Type 0 where
-  pub only : (sort : ℕ) (o : Opening) → Contains (row_of t sort) o →
+  pub only : (sort : ℕ) (o : Opening) → Contains (openings_of t sort) o →
       IsOpening d sort o × IsFiled o.head
   pub every : (head : Head) → IsFiled head → (sort least : ℕ) →
       IsOfSort (production_of (plain d) head) sort least →
-      (o : Opening) × Contains (row_of t sort) o × (o.head ≡ head)
-  pub once : (sort : ℕ) → EachOnce (map (λ o. o.head) (row_of t sort))
+      (o : Opening) × Contains (openings_of t sort) o × (o.head ≡ head)
+  pub once : (sort : ℕ) → EachOnce (map (λ o. o.head) (openings_of t sort))
 
 -- one of the first so many labels, or of the first so many bracket pairs
 abbrev pub IsBelow : ℕ → ℕ → Head → Type 0
@@ -55,8 +55,8 @@ pub record AddsOpening (d : GrammarData) (head : Head) (old new : Table Opening)
   pub opening : Opening
   pub is : IsOpening d sort opening
   pub same_head : opening.head ≡ head
-  pub row : row_of new sort ≡ row_of old sort ++ opening ∷ []
-  pub rows : (other : ℕ) → (row_of new other ≡ row_of old other) ⊎ (other ≡ sort)
+  pub row : openings_of new sort ≡ openings_of old sort ++ opening ∷ []
+  pub rows : (other : ℕ) → (openings_of new other ≡ openings_of old other) ⊎ (other ≡ sort)
 
 -- so it is if the head makes a sort
 abbrev pub MayAddOpening : GrammarData → Head → Table Opening → Table Opening → Type 0

@@ -1,7 +1,8 @@
 //! What was asked for, found by its hash.
 
-ghost use Rattle.std.specs.Prelude.{◌≡◌, [], ◌∷◌, ◌++◌, ◌↔◌, OnOk, OnErr, IsTrue};
-ghost use Rattle.sx_earley.specs.AskSet.{ask_hash, IsBeside, IsLeast, IsNextLeast, lower};
+ghost use Rattle.std.specs.Prelude.{◌≡◌, ◌≤◌, ◌⊎◌, ◌↔◌, ℕ, [], ◌∷◌, ◌++◌, OnOk, OnErr, IsTrue};
+ghost use Rattle.sx_earley.specs.AskSet.{ask_hash, IsBeside, IsLevelReached};
+ghost use Rattle.sx_earley.specs.AskSet.{IsLeastLevel, IsLeastWithOther};
 
 use crate::ask::Ask;
 use std::alloc::{AllocError, Global};
@@ -46,7 +47,7 @@ fn is_beside(one: Ask, other: Ask) -> bool
 /// The lower one of the levels.
 #[inline(always)]
 fn lower(least: Option<u8>, level: u8) -> u8
-    ensures { result ≡ lower least level }
+    ensures { (m : ℕ) → (result ≤ m) ↔ (IsLevelReached least m ⊎ (level ≤ m)) }
 {
     match least {
         None => level,
@@ -57,7 +58,7 @@ fn lower(least: Option<u8>, level: u8) -> u8
 /// The least level from which this was asked for, where the other was asked for too.
 #[inline(always)]
 fn next_least(ask: Ask, least: Option<u8>, other: Ask) -> Option<u8>
-    ensures { IsNextLeast ask least other result }
+    ensures { IsLeastWithOther ask least other result }
 {
     if is_beside(other, ask) {
         Some(lower(least, other.least))
@@ -82,7 +83,7 @@ impl AskSet {
     #[inline(always)]
     pub(crate) fn least(&self, ask: Ask, hash: u32) -> Option<u8>
         requires { hash ≡ ask_hash ask }
-        ensures { IsLeast self.now ask result }
+        ensures { IsLeastLevel self.now ask result }
     {
         let mut least = None;
         let mut here = self.slots.last(hash);

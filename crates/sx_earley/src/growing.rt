@@ -4,7 +4,7 @@ ghost use Rattle.std.specs.Prelude.{◌≡◌, ◌+◌, ◌≤◌, OnOk, IfOk, C
 ghost use Rattle.std.specs.Prelude.{length, IsTrue, IfSome};
 ghost use Rattle.sx_earley.specs.Growth.{GoesOnFrom, Only};
 ghost use Rattle.sx_earley.specs.Shown.{plain, literal_texts, tokens_of, ShownBelow};
-ghost use Rattle.sx_earley.specs.Chart.{Follows, Foresees};
+ghost use Rattle.sx_earley.specs.Chart.{FollowsFrom, Foresees};
 ghost use Rattle.sx_earley.specs.Chart.{AllFollow, Joins, IsJoined, moved};
 ghost use Rattle.sx_earley.specs.Chart.{next_symbol, ReadsNext};
 ghost use Rattle.sx_earley.specs.Counted.{AllAsked, AsksMore};
@@ -257,7 +257,7 @@ pub(crate) fn treat(
         (λ _. HasEnded (plain given.grammar.now) dotted.item) }
     ensures extends { IfOk result (λ _. GoesOnFrom found.old found.new) }
     ensures only { IfOk result (λ _. Only found.old found.new
-        (Follows (plain given.entry.grammar.now)
+        (FollowsFrom (plain given.entry.grammar.now)
         (tokens_of given.entry.grammar.now given.entry.shown.now)
         (IsKeyed found.old near.entry.filed.now near.entry.before)
         (IsKeyed found.old near.entry.filed.now near.entry.filling) dotted.item)) }

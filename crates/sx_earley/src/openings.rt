@@ -2,7 +2,8 @@
 
 ghost use Rattle.std.specs.Prelude.{◌≡◌, ℕ, [], OnOk, IfOk, length};
 ghost use Rattle.sx_earley.specs.Shown.{plain};
-ghost use Rattle.sx_earley.specs.Openings.{HasAllOpenings, MayAddOpening, AreFiled, IsBelow, row_of};
+ghost use Rattle.sx_earley.specs.Openings.{HasAllOpenings, MayAddOpening, AreFiled, IsBelow};
+ghost use Rattle.sx_earley.specs.Openings.{openings_of};
 
 use crate::opening::Opening;
 use crate::slot::Slot;
@@ -36,7 +37,7 @@ fn file_labelled(
     grammar: &Grammar,
     table: &mut Table<Opening>,
 ) -> Result<(), NoMemory>
-    requires { (sort : ℕ) → row_of table.old sort ≡ [] }
+    requires { (sort : ℕ) → openings_of table.old sort ≡ [] }
     ensures { OnOk result (AreFiled grammar.now
         (IsBelow (length (plain grammar.now).productions) 0) table.new) }
 {

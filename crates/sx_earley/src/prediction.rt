@@ -5,9 +5,10 @@ ghost use Rattle.sx_grammar.specs.Numbered.{symbol};
 ghost use Rattle.sx_earley.specs.Growth.{GoesOnFrom, Only};
 ghost use Rattle.sx_earley.specs.Shown.{plain, literal_texts, tokens_of, ShownBelow};
 ghost use Rattle.sx_earley.specs.Shown.{IsLiteralBelow};
-ghost use Rattle.sx_earley.specs.AskSet.{IsReached, IsNewLevel};
+ghost use Rattle.sx_earley.specs.AskSet.{IsLevelReached, IsNewLevel};
 ghost use Rattle.sx_earley.specs.Chart.{Foresees, IsPredicted, IsMissed, beginning};
-ghost use Rattle.sx_earley.specs.Counted.{IsNew, IsBusy, AllAsked, AsksMore, Begins, Predicts};
+ghost use Rattle.sx_earley.specs.Counted.{IsNewlyAsked, IsBusy, AllAsked, AsksMore};
+ghost use Rattle.sx_earley.specs.Counted.{AddsOrCounts, Predicts};
 ghost use Rattle.sx_earley.specs.Dotted.{WaitsFor};
 ghost use Rattle.sx_earley.specs.Openings.{HasOpenings, HasAllOpenings};
 
@@ -41,7 +42,7 @@ fn is_missed(given: Given, first: Option<NumberedSymbol>, place: u32) -> bool
 /// Whether the level is no lower than the other, if there is one.
 #[inline(always)]
 fn is_reached(least: Option<u8>, level: u8) -> bool
-    ensures { IsTrue result ↔ IsReached least level }
+    ensures { IsTrue result ↔ IsLevelReached least level }
 {
     match least {
         None => false,
@@ -70,7 +71,7 @@ fn predict_opening(
     requires first { IfSome opening.first (IsLiteralBelow
         (length (literal_texts given.grammar.now))) }
     requires shown { ShownBelow (length (literal_texts given.grammar.now)) given.shown.now }
-    ensures { IfOk result (Begins (IsNewLevel ask before opening.level)
+    ensures { IfOk result (AddsOrCounts (IsNewLevel ask before opening.level)
         (IsMissed (tokens_of given.entry.grammar.now given.entry.shown.now) (option_map
         (symbol (literal_texts given.entry.grammar.now)) opening.first) ask.place)
         (beginning opening.head ask.place) found.old found.new) }
@@ -106,7 +107,7 @@ fn predict(
     requires openings { HasOpenings given.grammar.now ask.sort openings.now }
     ensures { IfOk result (Predicts (plain given.entry.grammar.now)
         (tokens_of given.entry.grammar.now given.entry.shown.now)
-        (IsNew (plain given.entry.grammar.now) ask before) found.old found.new) }
+        (IsNewlyAsked (plain given.entry.grammar.now) ask before) found.old found.new) }
 {
     let mut idle = 0;
     for opening in openings {

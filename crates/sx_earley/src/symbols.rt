@@ -7,7 +7,7 @@ ghost use Rattle.sx_grammar.specs.Grammar.{Text, production_of};
 ghost use Rattle.sx_earley.specs.Shown.{plain, literal_texts, pair_symbol, IsLiteralBelow};
 ghost use Rattle.sx_earley.specs.Shown.{LiteralsBelow};
 ghost use Rattle.sx_earley.specs.Chart.{symbol_after, next_symbol, as_part, HasDotAtEnd};
-ghost use Rattle.sx_earley.specs.Chart.{IsOfSort, sort_made, sort_and_level, IsToken};
+ghost use Rattle.sx_earley.specs.Chart.{IsOfSort, sort_made, sort_and_level, IsTokenSymbol};
 ghost use Rattle.sx_earley.specs.Dotted.{IsNextSymbol, HasMade, HasEnded};
 
 use sx_grammar::{Grammar, Head, Item, NumberedProduction, NumberedSymbol};
@@ -74,7 +74,7 @@ pub(crate) fn part_of(next: Option<NumberedSymbol>) -> Option<(u32, u8)>
 /// Whether the symbol is that of one token.
 #[inline(always)]
 pub(crate) fn is_token(next: NumberedSymbol) -> bool
-    ensures { (literals : List Text) → IsTrue result ↔ IsToken (symbol literals next) }
+    ensures { (literals : List Text) → IsTrue result ↔ IsTokenSymbol (symbol literals next) }
 {
     match next {
         NumberedSymbol::Lit(_) => true,

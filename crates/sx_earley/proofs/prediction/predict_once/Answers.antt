@@ -1,7 +1,7 @@
 use Rattle.std.proofs.Common.{sym, subst}
 use Rattle.sx_earley.specs.Shown.{plain, tokens_of}
 use Rattle.sx_earley.specs.Chart.{IsPredicted}
-use Rattle.sx_earley.specs.Counted.{IsBusy, IsNew}
+use Rattle.sx_earley.specs.Counted.{IsBusy, IsNewlyAsked}
 use Rattle.sx_earley.specs.Openings.{HasOpenings}
 use Rattle.sx_earley.proofs.Growth.{only_more}
 use Rattle.sx_earley.proofs.Asking.{asks_none, asks_one, asked_more}
@@ -15,7 +15,7 @@ returns-then-is_reached-clause-asks c =
 pub returns-clause-only : goal.returns-clause-only
 returns-clause-only c =
     let d = c.args.given.grammar.now in let g = plain d in let ts = tokens_of d c.args.given.shown.now in let ask = c.args.ask in
-    only_more c.args.found.now c.predict.new.found (IsBusy g ts (IsNew g ask c.least-before.result)) (IsBusy g ts (IsPredicted g ask.sort ask.least ask.place))
+    only_more c.args.found.now c.predict.new.found (IsBusy g ts (IsNewlyAsked g ask c.least-before.result)) (IsBusy g ts (IsPredicted g ask.sort ask.least ask.place))
     (λ i p. (p.0.0, p.1)) c.in_ok-idle.ensures.only
 
 pub returns-clause-asked : goal.returns-clause-asked

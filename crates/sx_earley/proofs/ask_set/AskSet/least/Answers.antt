@@ -1,7 +1,7 @@
 use Rattle.std.proofs.Common.{◌<◌, ℕ, List, Option, sym, subst}
 use Rattle.sx_slots.proofs.Seeking.{left_of, goes_back}
 use Rattle.sx_earley.specs.declared.ask.Ask.{Ask}
-use Rattle.sx_earley.specs.AskSet.{IsLeast}
+use Rattle.sx_earley.specs.AskSet.{IsLeastLevel}
 use Rattle.sx_earley.proofs.Leasts.{IsLeastSo, least_first, least_next, least_all}
 use Rattle.sx_earley.proofs.ask_set.AskSet.least.Goals as goal
 
@@ -23,6 +23,6 @@ loop-here-preserved c =
 pub returns : goal.returns
 returns c =
     let asks = c.self.inside.asks.items in
-    subst (λ (l : List Ask). IsLeast l c.args.ask c.loop-here.least) c.self.view_is
+    subst (λ (l : List Ask). IsLeastLevel l c.args.ask c.loop-here.least) c.self.view_is
     (least_all asks c.self.inside.slots c.self.invariant c.args.ask c.args.hash c.requires c.loop-here.least
     (subst (λ (o : Option ℕ). IsLeastSo asks c.self.inside.slots c.args.ask c.args.hash c.loop-here.least o) c.in_default.is c.loop-here.invariant))
