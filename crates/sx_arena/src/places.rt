@@ -101,9 +101,6 @@ pub fn fit_places(
         (match_all (patterns_of side.now) (map (tree_at (trees arena.now)) terms.now)
         (env_at (envs (trees arena.now) binds.old) env)) r) }
 {
-    if !may_fit(arena, side, terms) {
-        return Ok(None);
-    }
     let Side {
         roles,
         outputs,
