@@ -22,7 +22,7 @@ use Rattle.sx_derive.proofs.Sound.{given-append, given-when, given-when_matched,
 
 -- a variable's value is no deeper than the instance
 mutual
-  depth-instance : (s : ℕ → Tree) (t : Tree) (v : ℕ) → Stands v t → depth_of (s v) ≤ depth_of (instance s t)
+  pub depth-instance : (s : ℕ → Tree) (t : Tree) (v : ℕ) → Stands v t → depth_of (s v) ≤ depth_of (instance s t)
   depth-instance s (node l ts) v h = let k = depth-instances s ts v h in omega arith
   depth-instance s (lexeme x y) v h = absurd h
   depth-instance s (hole w) v h = subst (λ (x : ℕ). depth_of (s v) ≤ depth_of (s x)) h (let r : depth_of (s v) ≤ depth_of (s v) = omega arith in r)

@@ -28,6 +28,7 @@ pub mod Silent
 pub mod Opened
 pub mod Opening
 pub mod FirstFound
+pub mod FoundEach
 pub mod Descending
 pub mod Asked
 pub mod Waying

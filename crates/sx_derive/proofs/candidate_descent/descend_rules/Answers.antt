@@ -1,5 +1,5 @@
 use Rattle.sx_derive.proofs.Stored.{grows_then}
-use Rattle.std.proofs.Common.{length, subst, sym}
+use Rattle.std.proofs.Common.{length, Some, subst, sym}
 use Rattle.sx_arena.specs.Views.{rules_of, set_modes, rule_of}
 use Rattle.sx_arena.proofs.Patterns.{ok_weaker}
 use Rattle.sx_arena.specs.Arena.{AreBelow}
@@ -11,80 +11,43 @@ use Rattle.sx_derive.proofs.Descended.{hyps_stay, spot_stays}
 use Rattle.sx_derive.proofs.Led.{sought_none, sought_env, sought_within, sought_quiet, sought_leads}
 use Rattle.sx_derive.proofs.Resumed.{shallow_at}
 use Rattle.sx_derive.proofs.candidate_descent.descend_rules.Goals as goal
+use Rattle.sx_derive.proofs.candidate_descent.descend_rules.Goals.{In-Some}
+
+-- the rule that was found is the first for the goal
+found : (c : In-Some) → IsFirstRule (set_modes c.args.given.now.rules.now) c.first_rule.new.store (spot_goal c.args.store.now c.args.spot) 0 (rules_of c.args.given.now.rules.now) (Some (c.in-Some.number, c.in-Some.env))
+found c =
+    subst (λ o. IsFirstRule (set_modes c.args.given.now.rules.now) c.first_rule.new.store (spot_goal c.args.store.now c.args.spot) 0 (rules_of c.args.given.now.rules.now) o) c.in-Some.is
+    (subst (λ is. IsFirstRule (set_modes c.args.given.now.rules.now) c.first_rule.new.store (goal_in c.args.store.now c.args.spot.form is) 0 (rules_of c.args.given.now.rules.now) c.in_ok-first_rule.field-0) c.deref.ensures.value c.in_ok-first_rule.ensures.first)
 
 pub rule_at-rule-requires : goal.rule_at-rule-requires
 rule_at-rule-requires c =
-    let m = set_modes c.args.given.now.rules.now in
-    let su = subject_modes c.args.given.now.rules.now in
-    let rs = rules_of c.args.given.now.rules.now in
-    let s = c.args.store.now in
-    let t = c.first_rule.new.store in
-    let g = c.in_ok-first_rule.ensures.grows in
-    let f0 = subst (λ is. IsFirstRule m t (goal_in s c.args.spot.form is) 0 rs c.in_ok-first_rule.field-0) c.deref.ensures.value c.in_ok-first_rule.ensures.first in
-    let f = subst (λ o. IsFirstRule m t (spot_goal s c.args.spot) 0 rs o) c.in-Some.is f0 in
-    sought_within m su rs c.requires.quiet.0 c.args.known c.args.bounds.budget c.args.bounds.levels s t c.args.given.now.facts.now c.args.given.now.pairs.now c.args.spot c.requires.quiet.1 c.requires.terms g c.in-Some.number c.in-Some.env f
+    sought_within (set_modes c.args.given.now.rules.now) (subject_modes c.args.given.now.rules.now) (rules_of c.args.given.now.rules.now) c.requires.quiet.0 c.args.known c.args.bounds.budget c.args.bounds.levels c.args.store.now c.first_rule.new.store c.args.given.now.facts.now c.args.given.now.pairs.now c.args.spot c.requires.quiet.1 c.requires.terms c.in_ok-first_rule.ensures.grows c.in-Some.number c.in-Some.env (found (goal.at.rule_at-rule-requires c).In-Some)
 
 pub descend_premises-requires-clause-shallow : goal.descend_premises-requires-clause-shallow
 descend_premises-requires-clause-shallow c =
-    let rs = rules_of c.args.given.now.rules.now in
-    shallow_at rs c.in-Some.number _ c.facts.ensures.shallow c.rule_at-rule.ensures
+    shallow_at (rules_of c.args.given.now.rules.now) c.in-Some.number _ c.facts.ensures.shallow c.rule_at-rule.ensures
 
 pub descend_premises-requires-clause-env : goal.descend_premises-requires-clause-env
 descend_premises-requires-clause-env c =
-    let m = set_modes c.args.given.now.rules.now in
-    let su = subject_modes c.args.given.now.rules.now in
-    let rs = rules_of c.args.given.now.rules.now in
-    let s = c.args.store.now in
-    let t = c.first_rule.new.store in
-    let g = c.in_ok-first_rule.ensures.grows in
-    let f0 = subst (λ is. IsFirstRule m t (goal_in s c.args.spot.form is) 0 rs c.in_ok-first_rule.field-0) c.deref.ensures.value c.in_ok-first_rule.ensures.first in
-    let f = subst (λ o. IsFirstRule m t (spot_goal s c.args.spot) 0 rs o) c.in-Some.is f0 in
-    sought_env m su rs c.requires.quiet.0 c.args.known c.args.bounds.budget c.args.bounds.levels s t c.args.given.now.facts.now c.args.given.now.pairs.now c.args.spot c.requires.quiet.1 c.requires.terms g c.in-Some.number c.in-Some.env f
+    sought_env (set_modes c.args.given.now.rules.now) (subject_modes c.args.given.now.rules.now) (rules_of c.args.given.now.rules.now) c.requires.quiet.0 c.args.known c.args.bounds.budget c.args.bounds.levels c.args.store.now c.first_rule.new.store c.args.given.now.facts.now c.args.given.now.pairs.now c.args.spot c.requires.quiet.1 c.requires.terms c.in_ok-first_rule.ensures.grows c.in-Some.number c.in-Some.env (found (goal.at.descend_premises-requires-clause-env c).In-Some)
 
 pub descend_premises-requires-clause-terms : goal.descend_premises-requires-clause-terms
 descend_premises-requires-clause-terms c =
-    let m = set_modes c.args.given.now.rules.now in
-    let rs = rules_of c.args.given.now.rules.now in
-    let s = c.args.store.now in
-    let t = c.first_rule.new.store in
-    let g = c.in_ok-first_rule.ensures.grows in
-    (spot_stays m rs s t c.args.spot g c.requires.terms).0
+    (spot_stays (set_modes c.args.given.now.rules.now) (rules_of c.args.given.now.rules.now) c.args.store.now c.first_rule.new.store c.args.spot c.in_ok-first_rule.ensures.grows c.requires.terms).0
 
 pub descend_premises-requires-clause-quiet : goal.descend_premises-requires-clause-quiet
 descend_premises-requires-clause-quiet c =
-    let m = set_modes c.args.given.now.rules.now in
-    let su = subject_modes c.args.given.now.rules.now in
-    let rs = rules_of c.args.given.now.rules.now in
-    let s = c.args.store.now in
-    let t = c.first_rule.new.store in
-    let g = c.in_ok-first_rule.ensures.grows in
-    let f0 = subst (λ is. IsFirstRule m t (goal_in s c.args.spot.form is) 0 rs c.in_ok-first_rule.field-0) c.deref.ensures.value c.in_ok-first_rule.ensures.first in
-    let f = subst (λ o. IsFirstRule m t (spot_goal s c.args.spot) 0 rs o) c.in-Some.is f0 in
-    sought_quiet m su rs c.requires.quiet.0 c.args.known c.args.bounds.budget c.args.bounds.levels s t c.args.given.now.facts.now c.args.given.now.pairs.now c.args.spot c.requires.quiet.1 c.requires.terms g c.in-Some.number c.in-Some.env f (rule_of c.rule_at-rule.result.now) c.rule_at-rule.ensures c.requires.quiet.2
+    sought_quiet (set_modes c.args.given.now.rules.now) (subject_modes c.args.given.now.rules.now) (rules_of c.args.given.now.rules.now) c.requires.quiet.0 c.args.known c.args.bounds.budget c.args.bounds.levels c.args.store.now c.first_rule.new.store c.args.given.now.facts.now c.args.given.now.pairs.now c.args.spot c.requires.quiet.1 c.requires.terms c.in_ok-first_rule.ensures.grows c.in-Some.number c.in-Some.env (found (goal.at.descend_premises-requires-clause-quiet c).In-Some) (rule_of c.rule_at-rule.result.now) c.rule_at-rule.ensures c.requires.quiet.2
 
 pub returns-in-None-clause-descent : goal.returns-in-None-clause-descent
 returns-in-None-clause-descent c =
-    let m = set_modes c.args.given.now.rules.now in
-    let su = subject_modes c.args.given.now.rules.now in
-    let rs = rules_of c.args.given.now.rules.now in
-    let s = c.args.store.now in
-    let t = c.first_rule.new.store in
-    let g = c.in_ok-first_rule.ensures.grows in
-    let f0 = subst (λ is. IsFirstRule m t (goal_in s c.args.spot.form is) 0 rs c.in_ok-first_rule.field-0) c.deref.ensures.value c.in_ok-first_rule.ensures.first in
-    let f = subst (λ o. IsFirstRule m t (spot_goal s c.args.spot) 0 rs o) c.in-None.is f0 in
-    λ hyps are. sought_none m su rs hyps c.args.known c.args.bounds.budget c.args.bounds.levels s t c.args.given.now.facts.now c.args.given.now.pairs.now c.args.spot are c.requires.terms g f
+    let f0 = subst (λ is. IsFirstRule (set_modes c.args.given.now.rules.now) c.first_rule.new.store (goal_in c.args.store.now c.args.spot.form is) 0 (rules_of c.args.given.now.rules.now) c.in_ok-first_rule.field-0) c.deref.ensures.value c.in_ok-first_rule.ensures.first in
+    let f = subst (λ o. IsFirstRule (set_modes c.args.given.now.rules.now) c.first_rule.new.store (spot_goal c.args.store.now c.args.spot) 0 (rules_of c.args.given.now.rules.now) o) c.in-None.is f0 in
+    λ hyps are. sought_none (set_modes c.args.given.now.rules.now) (subject_modes c.args.given.now.rules.now) (rules_of c.args.given.now.rules.now) hyps c.args.known c.args.bounds.budget c.args.bounds.levels c.args.store.now c.first_rule.new.store c.args.given.now.facts.now c.args.given.now.pairs.now c.args.spot are c.requires.terms c.in_ok-first_rule.ensures.grows f
 
 pub returns-in-Some-clause-descent : goal.returns-in-Some-clause-descent
 returns-in-Some-clause-descent c =
-    let m = set_modes c.args.given.now.rules.now in
-    let su = subject_modes c.args.given.now.rules.now in
-    let rs = rules_of c.args.given.now.rules.now in
-    let s = c.args.store.now in
-    let t = c.first_rule.new.store in
-    let g = c.in_ok-first_rule.ensures.grows in
-    let f0 = subst (λ is. IsFirstRule m t (goal_in s c.args.spot.form is) 0 rs c.in_ok-first_rule.field-0) c.deref.ensures.value c.in_ok-first_rule.ensures.first in
-    let f = subst (λ o. IsFirstRule m t (spot_goal s c.args.spot) 0 rs o) c.in-Some.is f0 in
-    ok_weaker _ _ (λ d h hyps are. sought_leads m su rs hyps c.args.known c.args.bounds.budget c.args.bounds.levels s t c.args.given.now.facts.now c.args.given.now.pairs.now c.args.spot are c.requires.terms g c.in-Some.number c.in-Some.env f (rule_of c.rule_at-rule.result.now) c.rule_at-rule.ensures c.descend_premises.new.store d (h hyps (hyps_stay m rs s t c.args.given.now.facts.now c.args.given.now.pairs.now hyps g are))) c.descend_premises.result c.descend_premises.ensures.descent
+    ok_weaker _ _ (λ d h hyps are. sought_leads (set_modes c.args.given.now.rules.now) (subject_modes c.args.given.now.rules.now) (rules_of c.args.given.now.rules.now) hyps c.args.known c.args.bounds.budget c.args.bounds.levels c.args.store.now c.first_rule.new.store c.args.given.now.facts.now c.args.given.now.pairs.now c.args.spot are c.requires.terms c.in_ok-first_rule.ensures.grows c.in-Some.number c.in-Some.env (found (goal.at.returns-in-Some-clause-descent c).In-Some) (rule_of c.rule_at-rule.result.now) c.rule_at-rule.ensures c.descend_premises.new.store d (h hyps (hyps_stay (set_modes c.args.given.now.rules.now) (rules_of c.args.given.now.rules.now) c.args.store.now c.first_rule.new.store c.args.given.now.facts.now c.args.given.now.pairs.now hyps c.in_ok-first_rule.ensures.grows are))) c.descend_premises.result c.descend_premises.ensures.descent
 
 pub first_rule-requires-clause-terms : goal.first_rule-requires-clause-terms
 first_rule-requires-clause-terms c = subst (AreBelow (length (store_trees c.args.store.now))) (sym c.deref.ensures.value) c.requires.terms
@@ -100,6 +63,4 @@ returns-in-None-clause-grows c = c.in_ok-first_rule.ensures.grows
 
 pub returns-in-Some-clause-grows : goal.returns-in-Some-clause-grows
 returns-in-Some-clause-grows c =
-    let m = set_modes c.args.given.now.rules.now in
-    let rs = rules_of c.args.given.now.rules.now in
-    ok_weaker _ _ (λ d h. grows_then m rs c.args.store.now c.first_rule.new.store c.descend_premises.new.store c.in_ok-first_rule.ensures.grows h) c.descend_premises.result c.descend_premises.ensures.grows
+    ok_weaker _ _ (λ d h. grows_then (set_modes c.args.given.now.rules.now) (rules_of c.args.given.now.rules.now) c.args.store.now c.first_rule.new.store c.descend_premises.new.store c.in_ok-first_rule.ensures.grows h) c.descend_premises.result c.descend_premises.ensures.grows

@@ -1,6 +1,7 @@
-use Rattle.std.proofs.Common.{[], refl, sym, ◌∙◌, subst, length, ◌+◌, ◌<◌, arith}
+use Rattle.std.proofs.Common.{◌≡◌, [], ◌∷◌, map, drop, refl, sym, ◌∙◌, subst, length, ◌+◌, ◌<◌, arith}
+use Rattle.sx_rules.specs.declared.rule.Premise.{Premise as PremiseOf}
 use Rattle.sx_arena.specs.Binds.{env_at}
-use Rattle.sx_arena.specs.Views.{rule_of, rules_of, set_modes, judgement_of}
+use Rattle.sx_arena.specs.Views.{rule_of, premise_of, rules_of, set_modes, judgement_of}
 use Rattle.sx_arena.proofs.Sameness.{nat_same}
 use Rattle.sx_derive.specs.Asking.{asked_events, IsAnswered}
 use Rattle.sx_derive.specs.Descents.{spot_goal, PremisesLead, IsDescent}
@@ -11,20 +12,26 @@ use Rattle.sx_derive.specs.declared.descent.Descent.TheVariants.{Below}
 use Rattle.sx_derive.specs.Ways.{subject_modes}
 use Rattle.sx_derive.proofs.Stored.{grows_same, grows_then}
 use Rattle.sx_derive.proofs.Premised.{IsShallowPremise, shallow_premise_at, drop_premise, drop_premises_end}
-use Rattle.sx_derive.proofs.Descended.{hyps_stay, for_hyps, descending_as, descending_at, apart_grown, apart_fails, apart_holds, ask_facts, ask_quiet, ask_silent, answered_below, answered_differs, answered_matched, end_grown, end_stuck}
+use Rattle.sx_derive.proofs.Descended.{Descending, hyps_stay, for_hyps, descending_as, descending_at, apart_grown, apart_fails, apart_holds, ask_facts, ask_quiet, ask_silent, answered_below, answered_differs, answered_matched, end_grown, end_stuck}
 use Rattle.sx_derive.proofs.premise_descent.descend_premises.Goals as goal
-use Rattle.sx_derive.proofs.premise_descent.descend_premises.Goals.{then-known, else-known, in-Apart+in_ok-instances_apart-in-Apart+else-not-branch, in-Holds+in_ok-next-in-Holds+in-Matched}
+use Rattle.sx_derive.proofs.premise_descent.descend_premises.Goals.{After-index, then-known, else-known, in-Apart+in_ok-instances_apart-in-Apart+else-not-branch, in-Holds+in_ok-next-in-Holds+in-Matched}
+
+-- the premise is there
+there : (c : After-index) → c.loop-k.k < length c.args.candidate.now.rule.now.premises.items
+there c = let a = c.loop-k-test.true in let b = c.len-k-end.ensures in let e = c.args.candidate.now.rule.now.premises.ok in omega arith
+
+-- what holds before it, where it is known
+before : (c : After-index) (p : PremiseOf) → c.index.result.now ≡ p → Descending (set_modes c.args.given.now.rules.now) (subject_modes c.args.given.now.rules.now) (rules_of c.args.given.now.rules.now) c.loop-k.invariant.0 c.args.known c.args.bounds.budget c.args.bounds.levels c.args.candidate.now.number (rule_of c.args.candidate.now.rule.now) c.args.store.now c.args.given.now.facts.now c.args.given.now.pairs.now c.args.candidate.now.env c.args.spot c.loop-k.store c.loop-k.k (premise_of p ∷ drop (c.loop-k.k + 1) (map premise_of c.args.candidate.now.rule.now.premises.items)) c.loop-k.env
+before c p e = descending_as (set_modes c.args.given.now.rules.now) (subject_modes c.args.given.now.rules.now) (rules_of c.args.given.now.rules.now) c.loop-k.invariant.0 c.facts.ensures.moded c.args.known c.args.bounds.budget c.args.bounds.levels c.args.candidate.now.number (rule_of c.args.candidate.now.rule.now) c.args.store.now c.args.given.now.facts.now c.args.given.now.pairs.now c.args.candidate.now.env c.args.spot c.requires.terms c.loop-k.store c.loop-k.k c.loop-k.env _ _ (drop_premise c.args.candidate.now.rule.now.premises.items c.loop-k.k _ p (there c) c.index.ensures e) c.loop-k.invariant.1
 
 pub instances_apart-requires-clause-first : goal.instances_apart-requires-clause-first
 instances_apart-requires-clause-first c =
-    let l : c.loop-k.k < length c.args.candidate.now.rule.now.premises.items = (let a = c.loop-k-test.true in let b = c.len-k-end.ensures in let e = c.args.candidate.now.rule.now.premises.ok in omega arith) in
-    let h = subst IsShallowPremise c.in-Apart.is (shallow_premise_at _ c.requires.shallow.1 c.loop-k.k _ l c.index.ensures) in
+    let h = subst IsShallowPremise c.in-Apart.is (shallow_premise_at _ c.requires.shallow.1 c.loop-k.k _ (there (goal.at.instances_apart-requires-clause-first c).After-index) c.index.ensures) in
     h.0
 
 pub instances_apart-requires-clause-second : goal.instances_apart-requires-clause-second
 instances_apart-requires-clause-second c =
-    let l : c.loop-k.k < length c.args.candidate.now.rule.now.premises.items = (let a = c.loop-k-test.true in let b = c.len-k-end.ensures in let e = c.args.candidate.now.rule.now.premises.ok in omega arith) in
-    let h = subst IsShallowPremise c.in-Apart.is (shallow_premise_at _ c.requires.shallow.1 c.loop-k.k _ l c.index.ensures) in
+    let h = subst IsShallowPremise c.in-Apart.is (shallow_premise_at _ c.requires.shallow.1 c.loop-k.k _ (there (goal.at.instances_apart-requires-clause-second c).After-index) c.index.ensures) in
     h.1
 
 pub instances_apart-requires-clause-pairs : goal.instances_apart-requires-clause-pairs
@@ -44,9 +51,7 @@ returns-then-not-branch-clause-grows c =
     let r = rule_of c.args.candidate.now.rule.now in
     let s = c.args.store.now in
     let x = c.loop-k.invariant.0 in
-    let d = c.loop-k.invariant.1 in
-    let l : c.loop-k.k < length c.args.candidate.now.rule.now.premises.items = (let a = c.loop-k-test.true in let b = c.len-k-end.ensures in let e = c.args.candidate.now.rule.now.premises.ok in omega arith) in
-    apart_grown m su rs x c.facts.ensures.moded c.args.known c.args.bounds.budget c.args.bounds.levels c.args.candidate.now.number r s c.args.given.now.facts.now c.args.given.now.pairs.now c.args.candidate.now.env c.args.spot c.requires.terms c.loop-k.store (record { arena = c.instances_apart.new.arena; binds = c.loop-k.store.binds; kids = c.loop-k.store.kids; frames = c.loop-k.store.frames }) c.loop-k.k c.loop-k.env _ _ _ (descending_as m su rs x c.facts.ensures.moded c.args.known c.args.bounds.budget c.args.bounds.levels c.args.candidate.now.number r s c.args.given.now.facts.now c.args.given.now.pairs.now c.args.candidate.now.env c.args.spot c.requires.terms c.loop-k.store c.loop-k.k c.loop-k.env _ _ (drop_premise _ c.loop-k.k _ _ l c.index.ensures c.in-Apart.is) d) _ c.in_ok-instances_apart-in-Apart.ensures refl refl refl
+    apart_grown m su rs x c.facts.ensures.moded c.args.known c.args.bounds.budget c.args.bounds.levels c.args.candidate.now.number r s c.args.given.now.facts.now c.args.given.now.pairs.now c.args.candidate.now.env c.args.spot c.requires.terms c.loop-k.store (record { arena = c.instances_apart.new.arena; binds = c.loop-k.store.binds; kids = c.loop-k.store.kids; frames = c.loop-k.store.frames }) c.loop-k.k c.loop-k.env _ _ _ (before (goal.at.returns-then-not-branch-clause-grows c).After-index _ c.in-Apart.is) _ c.in_ok-instances_apart-in-Apart.ensures refl refl refl
 
 pub returns-then-not-branch-clause-descent : goal.returns-then-not-branch-clause-descent
 returns-then-not-branch-clause-descent c =
@@ -57,11 +62,10 @@ returns-then-not-branch-clause-descent c =
     let s = c.args.store.now in
     let x = c.loop-k.invariant.0 in
     let d = c.loop-k.invariant.1 in
-    let l : c.loop-k.k < length c.args.candidate.now.rule.now.premises.items = (let a = c.loop-k-test.true in let b = c.len-k-end.ensures in let e = c.args.candidate.now.rule.now.premises.ok in omega arith) in
     λ hyps are. for_hyps m s c.args.given.now.facts.now c.args.given.now.pairs.now x hyps d.are are
     (λ hs. IsDescent m su rs hs c.args.bounds.budget c.args.bounds.levels (record { arena = c.instances_apart.new.arena; binds = c.loop-k.store.binds; kids = c.loop-k.store.kids; frames = c.loop-k.store.frames }) (PremisesLead m su rs hs c.args.bounds.budget c.args.bounds.levels c.args.candidate.now.number r (spot_goal s c.args.spot) c.args.spot.path.items 0 r.premises (env_at (store_envs s) c.args.candidate.now.env)) c.equal.result)
     (subst (λ (q : Descent). IsDescent m su rs x c.args.bounds.budget c.args.bounds.levels (record { arena = c.instances_apart.new.arena; binds = c.loop-k.store.binds; kids = c.loop-k.store.kids; frames = c.loop-k.store.frames }) (PremisesLead m su rs x c.args.bounds.budget c.args.bounds.levels c.args.candidate.now.number r (spot_goal s c.args.spot) c.args.spot.path.items 0 r.premises (env_at (store_envs s) c.args.candidate.now.env)) q) (sym c.equal.ensures)
-    (apart_fails m su rs x c.facts.ensures.moded c.args.known c.args.bounds.budget c.args.bounds.levels c.args.candidate.now.number r s c.args.given.now.facts.now c.args.given.now.pairs.now c.args.candidate.now.env c.args.spot c.requires.terms c.loop-k.store (record { arena = c.instances_apart.new.arena; binds = c.loop-k.store.binds; kids = c.loop-k.store.kids; frames = c.loop-k.store.frames }) c.loop-k.k c.loop-k.env _ _ _ (descending_as m su rs x c.facts.ensures.moded c.args.known c.args.bounds.budget c.args.bounds.levels c.args.candidate.now.number r s c.args.given.now.facts.now c.args.given.now.pairs.now c.args.candidate.now.env c.args.spot c.requires.terms c.loop-k.store c.loop-k.k c.loop-k.env _ _ (drop_premise _ c.loop-k.k _ _ l c.index.ensures c.in-Apart.is) d) _ c.in_ok-instances_apart-in-Apart.ensures refl refl refl c.if-not-branch.true))
+    (apart_fails m su rs x c.facts.ensures.moded c.args.known c.args.bounds.budget c.args.bounds.levels c.args.candidate.now.number r s c.args.given.now.facts.now c.args.given.now.pairs.now c.args.candidate.now.env c.args.spot c.requires.terms c.loop-k.store (record { arena = c.instances_apart.new.arena; binds = c.loop-k.store.binds; kids = c.loop-k.store.kids; frames = c.loop-k.store.frames }) c.loop-k.k c.loop-k.env _ _ _ (before (goal.at.returns-then-not-branch-clause-descent c).After-index _ c.in-Apart.is) _ c.in_ok-instances_apart-in-Apart.ensures refl refl refl c.if-not-branch.true))
 
 pub ask_known-requires-clause-facts : goal.ask_known-requires-clause-facts
 ask_known-requires-clause-facts c =
@@ -71,9 +75,7 @@ ask_known-requires-clause-facts c =
     let r = rule_of c.args.candidate.now.rule.now in
     let s = c.args.store.now in
     let x = c.loop-k.invariant.0 in
-    let d = c.loop-k.invariant.1 in
-    let l : c.loop-k.k < length c.args.candidate.now.rule.now.premises.items = (let a = c.loop-k-test.true in let b = c.len-k-end.ensures in let e = c.args.candidate.now.rule.now.premises.ok in omega arith) in
-    ask_facts m su rs x c.facts.ensures.moded c.args.known c.args.bounds.budget c.args.bounds.levels c.args.candidate.now.number r s c.args.given.now.facts.now c.args.given.now.pairs.now c.args.candidate.now.env c.args.spot c.requires.terms c.loop-k.store s c.loop-k.k c.loop-k.env _ _ (descending_as m su rs x c.facts.ensures.moded c.args.known c.args.bounds.budget c.args.bounds.levels c.args.candidate.now.number r s c.args.given.now.facts.now c.args.given.now.pairs.now c.args.candidate.now.env c.args.spot c.requires.terms c.loop-k.store c.loop-k.k c.loop-k.env _ _ (drop_premise _ c.loop-k.k _ _ l c.index.ensures c.in-Holds.is) d)
+    ask_facts m su rs x c.facts.ensures.moded c.args.known c.args.bounds.budget c.args.bounds.levels c.args.candidate.now.number r s c.args.given.now.facts.now c.args.given.now.pairs.now c.args.candidate.now.env c.args.spot c.requires.terms c.loop-k.store s c.loop-k.k c.loop-k.env _ _ (before (goal.at.ask_known-requires-clause-facts c).After-index _ c.in-Holds.is)
 
 pub ask_known-requires-clause-pairs : goal.ask_known-requires-clause-pairs
 ask_known-requires-clause-pairs c =
@@ -86,8 +88,7 @@ ask_known-requires-clause-pairs c =
 
 pub ask_known-requires-clause-shallow : goal.ask_known-requires-clause-shallow
 ask_known-requires-clause-shallow c =
-    let l : c.loop-k.k < length c.args.candidate.now.rule.now.premises.items = (let a = c.loop-k-test.true in let b = c.len-k-end.ensures in let e = c.args.candidate.now.rule.now.premises.ok in omega arith) in
-    let h = subst IsShallowPremise c.in-Holds.is (shallow_premise_at _ c.requires.shallow.1 c.loop-k.k _ l c.index.ensures) in
+    let h = subst IsShallowPremise c.in-Holds.is (shallow_premise_at _ c.requires.shallow.1 c.loop-k.k _ (there (goal.at.ask_known-requires-clause-shallow c).After-index) c.index.ensures) in
     h
 
 pub ask_known-requires-clause-quiet : goal.ask_known-requires-clause-quiet
@@ -98,9 +99,7 @@ ask_known-requires-clause-quiet c =
     let r = rule_of c.args.candidate.now.rule.now in
     let s = c.args.store.now in
     let x = c.loop-k.invariant.0 in
-    let d = c.loop-k.invariant.1 in
-    let l : c.loop-k.k < length c.args.candidate.now.rule.now.premises.items = (let a = c.loop-k-test.true in let b = c.len-k-end.ensures in let e = c.args.candidate.now.rule.now.premises.ok in omega arith) in
-    ask_quiet m su rs x c.facts.ensures.moded c.args.known c.args.bounds.budget c.args.bounds.levels c.args.candidate.now.number r s c.args.given.now.facts.now c.args.given.now.pairs.now c.args.candidate.now.env c.args.spot c.requires.terms c.loop-k.store s c.loop-k.k c.loop-k.env _ _ (descending_as m su rs x c.facts.ensures.moded c.args.known c.args.bounds.budget c.args.bounds.levels c.args.candidate.now.number r s c.args.given.now.facts.now c.args.given.now.pairs.now c.args.candidate.now.env c.args.spot c.requires.terms c.loop-k.store c.loop-k.k c.loop-k.env _ _ (drop_premise _ c.loop-k.k _ _ l c.index.ensures c.in-Holds.is) d)
+    ask_quiet m su rs x c.facts.ensures.moded c.args.known c.args.bounds.budget c.args.bounds.levels c.args.candidate.now.number r s c.args.given.now.facts.now c.args.given.now.pairs.now c.args.candidate.now.env c.args.spot c.requires.terms c.loop-k.store s c.loop-k.k c.loop-k.env _ _ (before (goal.at.ask_known-requires-clause-quiet c).After-index _ c.in-Holds.is)
 
 pub ask_known-requires-clause-silent : goal.ask_known-requires-clause-silent
 ask_known-requires-clause-silent c =
@@ -110,11 +109,9 @@ ask_known-requires-clause-silent c =
     let r = rule_of c.args.candidate.now.rule.now in
     let s = c.args.store.now in
     let x = c.loop-k.invariant.0 in
-    let d = c.loop-k.invariant.1 in
-    let l : c.loop-k.k < length c.args.candidate.now.rule.now.premises.items = (let a = c.loop-k-test.true in let b = c.len-k-end.ensures in let e = c.args.candidate.now.rule.now.premises.ok in omega arith) in
     elim c.if-known.branch [
       | then-known w ↦ λ last js are. (let n = nat_same (c.loop-k.k + 1) w.len.result (sym w.last-is ∙ last) in let q = w.len.ensures in
-          ask_silent m su rs x c.facts.ensures.moded c.args.known c.args.bounds.budget c.args.bounds.levels c.args.candidate.now.number r s c.args.given.now.facts.now c.args.given.now.pairs.now c.args.candidate.now.env c.args.spot c.requires.terms c.loop-k.store s c.loop-k.k c.loop-k.env _ _ (descending_as m su rs x c.facts.ensures.moded c.args.known c.args.bounds.budget c.args.bounds.levels c.args.candidate.now.number r s c.args.given.now.facts.now c.args.given.now.pairs.now c.args.candidate.now.env c.args.spot c.requires.terms c.loop-k.store c.loop-k.k c.loop-k.env _ _ (drop_premise _ c.loop-k.k _ _ l c.index.ensures c.in-Holds.is) d)
+          ask_silent m su rs x c.facts.ensures.moded c.args.known c.args.bounds.budget c.args.bounds.levels c.args.candidate.now.number r s c.args.given.now.facts.now c.args.given.now.pairs.now c.args.candidate.now.env c.args.spot c.requires.terms c.loop-k.store s c.loop-k.k c.loop-k.env _ _ (before (goal.at.ask_known-requires-clause-silent c).After-index _ c.in-Holds.is)
           w.if-known.true (drop_premises_end c.args.candidate.now.rule.now.premises.items (c.loop-k.k + 1) (omega arith)) js are)
       | else-known w ↦ λ last js are. (let f = w.last-is in let z : ⊥ = cc in absurd z)
     ]
@@ -128,10 +125,9 @@ returns-in-Unanswered-clause-descent c =
     let s = c.args.store.now in
     let x = c.loop-k.invariant.0 in
     let d = c.loop-k.invariant.1 in
-    let l : c.loop-k.k < length c.args.candidate.now.rule.now.premises.items = (let a = c.loop-k-test.true in let b = c.len-k-end.ensures in let e = c.args.candidate.now.rule.now.premises.ok in omega arith) in
     λ hyps are. for_hyps m s c.args.given.now.facts.now c.args.given.now.pairs.now x hyps d.are are
     (λ hs. IsDescent m su rs hs c.args.bounds.budget c.args.bounds.levels c.ask_known.new.store (PremisesLead m su rs hs c.args.bounds.budget c.args.bounds.levels c.args.candidate.now.number r (spot_goal s c.args.spot) c.args.spot.path.items 0 r.premises (env_at (store_envs s) c.args.candidate.now.env)) (Below c.in_ok-kid-in-Unanswered.kid))
-    (answered_below m su rs x c.facts.ensures.moded c.args.known c.args.bounds.budget c.args.bounds.levels c.args.candidate.now.number r s c.args.given.now.facts.now c.args.given.now.pairs.now c.args.candidate.now.env c.args.spot c.requires.terms c.loop-k.store c.ask_known.new.store c.loop-k.k c.loop-k.env _ (judgement_of c.in-Holds.judgement) (descending_as m su rs x c.facts.ensures.moded c.args.known c.args.bounds.budget c.args.bounds.levels c.args.candidate.now.number r s c.args.given.now.facts.now c.args.given.now.pairs.now c.args.candidate.now.env c.args.spot c.requires.terms c.loop-k.store c.loop-k.k c.loop-k.env _ _ (drop_premise _ c.loop-k.k _ _ l c.index.ensures c.in-Holds.is) d) c.in_ok-next-in-Holds.ensures.grows c.in-Unanswered.terms c.in_ok-kid-in-Unanswered.kid (subst (λ a. IsAnswered m c.loop-k.store c.ask_known.new.store c.loop-k.env (judgement_of c.in-Holds.judgement) (first_given (asked_events m rs c.args.given.now.pairs.now x.judgements c.loop-k.store c.loop-k.env c.args.bounds.levels (judgement_of c.in-Holds.judgement))) a) c.in-Unanswered.is (c.in_ok-next-in-Holds.ensures.answered x.judgements (hyps_stay m rs s c.loop-k.store c.args.given.now.facts.now c.args.given.now.pairs.now x d.grows d.are).facts_are)) c.in_ok-kid-in-Unanswered.ensures)
+    (answered_below m su rs x c.facts.ensures.moded c.args.known c.args.bounds.budget c.args.bounds.levels c.args.candidate.now.number r s c.args.given.now.facts.now c.args.given.now.pairs.now c.args.candidate.now.env c.args.spot c.requires.terms c.loop-k.store c.ask_known.new.store c.loop-k.k c.loop-k.env _ (judgement_of c.in-Holds.judgement) (before (goal.at.returns-in-Unanswered-clause-descent c).After-index _ c.in-Holds.is) c.in_ok-next-in-Holds.ensures.grows c.in-Unanswered.terms c.in_ok-kid-in-Unanswered.kid (subst (λ a. IsAnswered m c.loop-k.store c.ask_known.new.store c.loop-k.env (judgement_of c.in-Holds.judgement) (first_given (asked_events m rs c.args.given.now.pairs.now x.judgements c.loop-k.store c.loop-k.env c.args.bounds.levels (judgement_of c.in-Holds.judgement))) a) c.in-Unanswered.is (c.in_ok-next-in-Holds.ensures.answered x.judgements (hyps_stay m rs s c.loop-k.store c.args.given.now.facts.now c.args.given.now.pairs.now x d.grows d.are).facts_are)) c.in_ok-kid-in-Unanswered.ensures)
 
 pub returns-in-Differs-clause-descent : goal.returns-in-Differs-clause-descent
 returns-in-Differs-clause-descent c =
@@ -142,11 +138,10 @@ returns-in-Differs-clause-descent c =
     let s = c.args.store.now in
     let x = c.loop-k.invariant.0 in
     let d = c.loop-k.invariant.1 in
-    let l : c.loop-k.k < length c.args.candidate.now.rule.now.premises.items = (let a = c.loop-k-test.true in let b = c.len-k-end.ensures in let e = c.args.candidate.now.rule.now.premises.ok in omega arith) in
     λ hyps are. for_hyps m s c.args.given.now.facts.now c.args.given.now.pairs.now x hyps d.are are
     (λ hs. IsDescent m su rs hs c.args.bounds.budget c.args.bounds.levels c.ask_known.new.store (PremisesLead m su rs hs c.args.bounds.budget c.args.bounds.levels c.args.candidate.now.number r (spot_goal s c.args.spot) c.args.spot.path.items 0 r.premises (env_at (store_envs s) c.args.candidate.now.env)) c.differs.result)
     (subst (λ (q : Descent). IsDescent m su rs x c.args.bounds.budget c.args.bounds.levels c.ask_known.new.store (PremisesLead m su rs x c.args.bounds.budget c.args.bounds.levels c.args.candidate.now.number r (spot_goal s c.args.spot) c.args.spot.path.items 0 r.premises (env_at (store_envs s) c.args.candidate.now.env)) q) (sym c.differs.ensures)
-    (answered_differs m su rs x c.facts.ensures.moded c.args.known c.args.bounds.budget c.args.bounds.levels c.args.candidate.now.number r s c.args.given.now.facts.now c.args.given.now.pairs.now c.args.candidate.now.env c.args.spot c.requires.terms c.loop-k.store c.ask_known.new.store c.loop-k.k c.loop-k.env _ (judgement_of c.in-Holds.judgement) (descending_as m su rs x c.facts.ensures.moded c.args.known c.args.bounds.budget c.args.bounds.levels c.args.candidate.now.number r s c.args.given.now.facts.now c.args.given.now.pairs.now c.args.candidate.now.env c.args.spot c.requires.terms c.loop-k.store c.loop-k.k c.loop-k.env _ _ (drop_premise _ c.loop-k.k _ _ l c.index.ensures c.in-Holds.is) d) c.in_ok-next-in-Holds.ensures.grows c.in-Differs.terms c.in-Differs.got c.in_ok-kid-in-Differs.kid (subst (λ a. IsAnswered m c.loop-k.store c.ask_known.new.store c.loop-k.env (judgement_of c.in-Holds.judgement) (first_given (asked_events m rs c.args.given.now.pairs.now x.judgements c.loop-k.store c.loop-k.env c.args.bounds.levels (judgement_of c.in-Holds.judgement))) a) c.in-Differs.is (c.in_ok-next-in-Holds.ensures.answered x.judgements (hyps_stay m rs s c.loop-k.store c.args.given.now.facts.now c.args.given.now.pairs.now x d.grows d.are).facts_are)) c.in_ok-kid-in-Differs.ensures))
+    (answered_differs m su rs x c.facts.ensures.moded c.args.known c.args.bounds.budget c.args.bounds.levels c.args.candidate.now.number r s c.args.given.now.facts.now c.args.given.now.pairs.now c.args.candidate.now.env c.args.spot c.requires.terms c.loop-k.store c.ask_known.new.store c.loop-k.k c.loop-k.env _ (judgement_of c.in-Holds.judgement) (before (goal.at.returns-in-Differs-clause-descent c).After-index _ c.in-Holds.is) c.in_ok-next-in-Holds.ensures.grows c.in-Differs.terms c.in-Differs.got c.in_ok-kid-in-Differs.kid (subst (λ a. IsAnswered m c.loop-k.store c.ask_known.new.store c.loop-k.env (judgement_of c.in-Holds.judgement) (first_given (asked_events m rs c.args.given.now.pairs.now x.judgements c.loop-k.store c.loop-k.env c.args.bounds.levels (judgement_of c.in-Holds.judgement))) a) c.in-Differs.is (c.in_ok-next-in-Holds.ensures.answered x.judgements (hyps_stay m rs s c.loop-k.store c.args.given.now.facts.now c.args.given.now.pairs.now x d.grows d.are).facts_are)) c.in_ok-kid-in-Differs.ensures))
 
 pub loop-k-preserved : goal.loop-k-preserved
 loop-k-preserved c =
@@ -157,10 +152,9 @@ loop-k-preserved c =
     let s = c.args.store.now in
     let x = c.loop-k.invariant.0 in
     let d = c.loop-k.invariant.1 in
-    let l : c.loop-k.k < length c.args.candidate.now.rule.now.premises.items = (let a = c.loop-k-test.true in let b = c.len-k-end.ensures in let e = c.args.candidate.now.rule.now.premises.ok in omega arith) in
     elim c.match-index.branch [
-      | in-Apart+in_ok-instances_apart-in-Apart+else-not-branch w ↦ (x, descending_at m su rs x c.facts.ensures.moded c.args.known c.args.bounds.budget c.args.bounds.levels c.args.candidate.now.number r s c.args.given.now.facts.now c.args.given.now.pairs.now c.args.candidate.now.env c.args.spot c.requires.terms _ _ (c.loop-k.k + 1) _ _ _ w.store-is w.env-is (apart_holds m su rs x c.facts.ensures.moded c.args.known c.args.bounds.budget c.args.bounds.levels c.args.candidate.now.number r s c.args.given.now.facts.now c.args.given.now.pairs.now c.args.candidate.now.env c.args.spot c.requires.terms c.loop-k.store (record { arena = w.instances_apart.new.arena; binds = c.loop-k.store.binds; kids = c.loop-k.store.kids; frames = c.loop-k.store.frames }) c.loop-k.k c.loop-k.env _ _ _ (descending_as m su rs x c.facts.ensures.moded c.args.known c.args.bounds.budget c.args.bounds.levels c.args.candidate.now.number r s c.args.given.now.facts.now c.args.given.now.pairs.now c.args.candidate.now.env c.args.spot c.requires.terms c.loop-k.store c.loop-k.k c.loop-k.env _ _ (drop_premise _ c.loop-k.k _ _ l c.index.ensures w.in-Apart.is) d) _ w.in_ok-instances_apart-in-Apart.ensures refl refl refl w.if-not-branch.false))
-      | in-Holds+in_ok-next-in-Holds+in-Matched w ↦ (x, descending_at m su rs x c.facts.ensures.moded c.args.known c.args.bounds.budget c.args.bounds.levels c.args.candidate.now.number r s c.args.given.now.facts.now c.args.given.now.pairs.now c.args.candidate.now.env c.args.spot c.requires.terms _ _ (c.loop-k.k + 1) _ _ _ w.store-is w.env-is (answered_matched m su rs x c.facts.ensures.moded c.args.known c.args.bounds.budget c.args.bounds.levels c.args.candidate.now.number r s c.args.given.now.facts.now c.args.given.now.pairs.now c.args.candidate.now.env c.args.spot c.requires.terms c.loop-k.store w.ask_known.new.store c.loop-k.k c.loop-k.env _ (judgement_of w.in-Holds.judgement) (descending_as m su rs x c.facts.ensures.moded c.args.known c.args.bounds.budget c.args.bounds.levels c.args.candidate.now.number r s c.args.given.now.facts.now c.args.given.now.pairs.now c.args.candidate.now.env c.args.spot c.requires.terms c.loop-k.store c.loop-k.k c.loop-k.env _ _ (drop_premise _ c.loop-k.k _ _ l c.index.ensures w.in-Holds.is) d) w.in_ok-next-in-Holds.ensures.grows w.in-Matched.next (subst (λ a. IsAnswered m c.loop-k.store w.ask_known.new.store c.loop-k.env (judgement_of w.in-Holds.judgement) (first_given (asked_events m rs c.args.given.now.pairs.now x.judgements c.loop-k.store c.loop-k.env c.args.bounds.levels (judgement_of w.in-Holds.judgement))) a) w.in-Matched.is (w.in_ok-next-in-Holds.ensures.answered x.judgements (hyps_stay m rs s c.loop-k.store c.args.given.now.facts.now c.args.given.now.pairs.now x d.grows d.are).facts_are))))
+      | in-Apart+in_ok-instances_apart-in-Apart+else-not-branch w ↦ (x, descending_at m su rs x c.facts.ensures.moded c.args.known c.args.bounds.budget c.args.bounds.levels c.args.candidate.now.number r s c.args.given.now.facts.now c.args.given.now.pairs.now c.args.candidate.now.env c.args.spot c.requires.terms _ _ (c.loop-k.k + 1) _ _ _ w.store-is w.env-is (apart_holds m su rs x c.facts.ensures.moded c.args.known c.args.bounds.budget c.args.bounds.levels c.args.candidate.now.number r s c.args.given.now.facts.now c.args.given.now.pairs.now c.args.candidate.now.env c.args.spot c.requires.terms c.loop-k.store (record { arena = w.instances_apart.new.arena; binds = c.loop-k.store.binds; kids = c.loop-k.store.kids; frames = c.loop-k.store.frames }) c.loop-k.k c.loop-k.env _ _ _ (before (goal.at.loop-k-preserved c).After-index _ w.in-Apart.is) _ w.in_ok-instances_apart-in-Apart.ensures refl refl refl w.if-not-branch.false))
+      | in-Holds+in_ok-next-in-Holds+in-Matched w ↦ (x, descending_at m su rs x c.facts.ensures.moded c.args.known c.args.bounds.budget c.args.bounds.levels c.args.candidate.now.number r s c.args.given.now.facts.now c.args.given.now.pairs.now c.args.candidate.now.env c.args.spot c.requires.terms _ _ (c.loop-k.k + 1) _ _ _ w.store-is w.env-is (answered_matched m su rs x c.facts.ensures.moded c.args.known c.args.bounds.budget c.args.bounds.levels c.args.candidate.now.number r s c.args.given.now.facts.now c.args.given.now.pairs.now c.args.candidate.now.env c.args.spot c.requires.terms c.loop-k.store w.ask_known.new.store c.loop-k.k c.loop-k.env _ (judgement_of w.in-Holds.judgement) (before (goal.at.loop-k-preserved c).After-index _ w.in-Holds.is) w.in_ok-next-in-Holds.ensures.grows w.in-Matched.next (subst (λ a. IsAnswered m c.loop-k.store w.ask_known.new.store c.loop-k.env (judgement_of w.in-Holds.judgement) (first_given (asked_events m rs c.args.given.now.pairs.now x.judgements c.loop-k.store c.loop-k.env c.args.bounds.levels (judgement_of w.in-Holds.judgement))) a) w.in-Matched.is (w.in_ok-next-in-Holds.ensures.answered x.judgements (hyps_stay m rs s c.loop-k.store c.args.given.now.facts.now c.args.given.now.pairs.now x d.grows d.are).facts_are))))
     ]
 
 pub returns-clause-grows : goal.returns-clause-grows

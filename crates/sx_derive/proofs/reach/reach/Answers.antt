@@ -1,11 +1,10 @@
-use Rattle.std.proofs.Common.{◌≡◌, ◌+◌, ◌-◌, ◌≤◌, length, ap, ◌∙◌, arith, subst}
+use Rattle.std.proofs.Common.{◌≡◌, ◌+◌, ◌-◌, length, arith, subst}
 use Rattle.std.specs.Prelude.{Ok}
 use Rattle.sx_arena.specs.Views.{rules_of, set_modes}
 use Rattle.sx_arena.proofs.Growing.{extends-length}
 use Rattle.sx_arena.proofs.Parted.{pairs_more_terms}
 use Rattle.sx_derive.specs.Resumable.{IsReached}
 use Rattle.sx_derive.specs.Tasks.{events_left}
-use Rattle.sx_derive.specs.declared.reach.Reached.{Reached}
 use Rattle.sx_derive.specs.declared.tasks.Ending.TheVariants.{Spent}
 use Rattle.sx_derive.proofs.Resuming.{Reaching, reaching_first, last_less, facts_then, reaching_settled, reaching_end, reaching_spent, rest_fits, task_fits, reaching_failed, reaching_more, reaching_ends}
 use Rattle.sx_derive.proofs.reach.reach.Goals as goal

@@ -5,6 +5,11 @@ use Rattle.sx_derive.specs.Ways.{subject_modes}
 use Rattle.sx_derive.specs.declared.descent.Descent.TheVariants.{Stuck}
 use Rattle.sx_derive.proofs.Sunk.{sinking_first, sink_quiet, sink_descent, sink_ends, sink_goes, sunk, From}
 use Rattle.sx_derive.proofs.stuck_goal.stuck_below.Goals as goal
+use Rattle.sx_derive.proofs.stuck_goal.stuck_below.Goals.{In-Stuck}
+
+-- the descent is to a stuck goal
+ended : (c : In-Stuck) → From (set_modes c.args.given.now.rules.now) (subject_modes c.args.given.now.rules.now) (rules_of c.args.given.now.rules.now) c.loop-left.invariant.0 c.args.bounds.budget c.args.bounds.levels c.args.store.now c.args.given.now.facts.now c.args.given.now.pairs.now c.args.first c.loop-left.store c.loop-left.left c.loop-left.known c.loop-left.here c.loop-left-test.true c.loop-left.invariant.1 c.descend.new.store (Stuck c.in-Stuck.spot c.in-Stuck.reason)
+ended c = subst (λ d. From (set_modes c.args.given.now.rules.now) (subject_modes c.args.given.now.rules.now) (rules_of c.args.given.now.rules.now) c.loop-left.invariant.0 c.args.bounds.budget c.args.bounds.levels c.args.store.now c.args.given.now.facts.now c.args.given.now.pairs.now c.args.first c.loop-left.store c.loop-left.left c.loop-left.known c.loop-left.here c.loop-left-test.true c.loop-left.invariant.1 c.descend.new.store d) c.in-Stuck.is c.in_ok-spot.ensures.descent
 
 pub loop-left-init : goal.loop-left-init
 loop-left-init c =
@@ -18,31 +23,16 @@ descend-requires-clause-quiet c =
 
 pub export_blame-requires-clause-terms : goal.export_blame-requires-clause-terms
 export_blame-requires-clause-terms c =
-    let m = set_modes c.args.given.now.rules.now in
-    let su = subject_modes c.args.given.now.rules.now in
-    let rs = rules_of c.args.given.now.rules.now in
-    let x = c.loop-left.invariant.0 in
-    let f = subst (λ d. From m su rs x c.args.bounds.budget c.args.bounds.levels c.args.store.now c.args.given.now.facts.now c.args.given.now.pairs.now c.args.first c.loop-left.store c.loop-left.left c.loop-left.known c.loop-left.here c.loop-left-test.true c.loop-left.invariant.1 c.descend.new.store d) c.in-Stuck.is c.in_ok-spot.ensures.descent in
-    (sink_descent m su rs x c.args.bounds.budget c.args.bounds.levels c.args.store.now c.args.given.now.facts.now c.args.given.now.pairs.now c.args.first c.loop-left.store c.loop-left.left c.loop-left.known c.loop-left.here c.loop-left-test.true c.loop-left.invariant.1 c.descend.new.store (Stuck c.in-Stuck.spot c.in-Stuck.reason) f).0
+    (sink_descent (set_modes c.args.given.now.rules.now) (subject_modes c.args.given.now.rules.now) (rules_of c.args.given.now.rules.now) c.loop-left.invariant.0 c.args.bounds.budget c.args.bounds.levels c.args.store.now c.args.given.now.facts.now c.args.given.now.pairs.now c.args.first c.loop-left.store c.loop-left.left c.loop-left.known c.loop-left.here c.loop-left-test.true c.loop-left.invariant.1 c.descend.new.store (Stuck c.in-Stuck.spot c.in-Stuck.reason) (ended (goal.at.export_blame-requires-clause-terms c).In-Stuck)).0
 
 pub export_blame-requires-clause-reason : goal.export_blame-requires-clause-reason
 export_blame-requires-clause-reason c =
-    let m = set_modes c.args.given.now.rules.now in
-    let su = subject_modes c.args.given.now.rules.now in
-    let rs = rules_of c.args.given.now.rules.now in
-    let x = c.loop-left.invariant.0 in
-    let f = subst (λ d. From m su rs x c.args.bounds.budget c.args.bounds.levels c.args.store.now c.args.given.now.facts.now c.args.given.now.pairs.now c.args.first c.loop-left.store c.loop-left.left c.loop-left.known c.loop-left.here c.loop-left-test.true c.loop-left.invariant.1 c.descend.new.store d) c.in-Stuck.is c.in_ok-spot.ensures.descent in
-    (sink_descent m su rs x c.args.bounds.budget c.args.bounds.levels c.args.store.now c.args.given.now.facts.now c.args.given.now.pairs.now c.args.first c.loop-left.store c.loop-left.left c.loop-left.known c.loop-left.here c.loop-left-test.true c.loop-left.invariant.1 c.descend.new.store (Stuck c.in-Stuck.spot c.in-Stuck.reason) f).1
+    (sink_descent (set_modes c.args.given.now.rules.now) (subject_modes c.args.given.now.rules.now) (rules_of c.args.given.now.rules.now) c.loop-left.invariant.0 c.args.bounds.budget c.args.bounds.levels c.args.store.now c.args.given.now.facts.now c.args.given.now.pairs.now c.args.first c.loop-left.store c.loop-left.left c.loop-left.known c.loop-left.here c.loop-left-test.true c.loop-left.invariant.1 c.descend.new.store (Stuck c.in-Stuck.spot c.in-Stuck.reason) (ended (goal.at.export_blame-requires-clause-reason c).In-Stuck)).1
 
 pub returns-in-Stuck : goal.returns-in-Stuck
 returns-in-Stuck c =
-    let m = set_modes c.args.given.now.rules.now in
-    let su = subject_modes c.args.given.now.rules.now in
-    let rs = rules_of c.args.given.now.rules.now in
-    let x = c.loop-left.invariant.0 in
-    let f = subst (λ d. From m su rs x c.args.bounds.budget c.args.bounds.levels c.args.store.now c.args.given.now.facts.now c.args.given.now.pairs.now c.args.first c.loop-left.store c.loop-left.left c.loop-left.known c.loop-left.here c.loop-left-test.true c.loop-left.invariant.1 c.descend.new.store d) c.in-Stuck.is c.in_ok-spot.ensures.descent in
-    ok_weaker _ _ (λ b e. sink_ends m su rs x c.args.bounds.budget c.args.bounds.levels c.args.store.now c.args.given.now.facts.now c.args.given.now.pairs.now c.args.first c.loop-left.store c.loop-left.left c.loop-left.known c.loop-left.here c.loop-left-test.true c.loop-left.invariant.1 c.descend.new.store
-    c.in-Stuck.spot c.in-Stuck.reason b f e) c.export_blame.result c.export_blame.ensures
+    ok_weaker _ _ (λ b e. sink_ends (set_modes c.args.given.now.rules.now) (subject_modes c.args.given.now.rules.now) (rules_of c.args.given.now.rules.now) c.loop-left.invariant.0 c.args.bounds.budget c.args.bounds.levels c.args.store.now c.args.given.now.facts.now c.args.given.now.pairs.now c.args.first c.loop-left.store c.loop-left.left c.loop-left.known c.loop-left.here c.loop-left-test.true c.loop-left.invariant.1 c.descend.new.store
+    c.in-Stuck.spot c.in-Stuck.reason b (ended (goal.at.returns-in-Stuck c).In-Stuck) e) c.export_blame.result c.export_blame.ensures
 
 pub loop-left-preserved : goal.loop-left-preserved
 loop-left-preserved c =

@@ -51,7 +51,7 @@ same_after c js a =
 
 pub pass_over-requires-clause-terms : goal.pass_over-requires-clause-terms
 pass_over-requires-clause-terms c =
-    (fits_pop (set_modes c.args.given.now.rules.now) (rules_of c.args.given.now.rules.now) (length c.args.given.now.facts.now + length (rules_of c.args.given.now.rules.now)) c.args.store.now c.pop.new.self.items c.in-Some.popped 
+    (fits_pop (set_modes c.args.given.now.rules.now) (rules_of c.args.given.now.rules.now) (length c.args.given.now.facts.now + length (rules_of c.args.given.now.rules.now)) c.args.store.now c.pop.new.self.items c.in-Some.popped
     (subst (λ (xs : List Task). TasksFit (set_modes c.args.given.now.rules.now) (rules_of c.args.given.now.rules.now) c.args.store.now (length c.args.given.now.facts.now + length (rules_of c.args.given.now.rules.now)) xs) c.in-Some.ensures.items c.loop-popped.invariant.fits)).1.terms
 
 pub returns-then-is_candidate-clause-popped : goal.returns-then-is_candidate-clause-popped

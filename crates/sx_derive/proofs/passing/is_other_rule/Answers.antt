@@ -1,0 +1,18 @@
+use Rattle.std.proofs.Common.{◌≡◌, Bool, true, false, not, map, refl, subst}
+use Rattle.sx_term.specs.Term.{tree}
+use Rattle.sx_rules.specs.Modes.{inputs}
+use Rattle.sx_arena.specs.Arena.{tree_at}
+use Rattle.sx_arena.specs.Places.{NeverFit}
+use Rattle.sx_arena.specs.Views.{mask_of}
+use Rattle.sx_derive.specs.Store.{store_trees}
+use Rattle.sx_derive.proofs.passing.is_other_rule.Goals as goal
+
+not_true : (b : Bool) → not b ≡ true → b ≡ false
+not_true false h = refl
+not_true true h = cc
+
+pub returns : goal.returns
+returns c = λ e same_form.
+    subst (λ ps. NeverFit (inputs (mask_of c.args.places.now) (map tree ps)) (map (tree_at (store_trees c.args.store.now)) c.args.task.now.terms.items)) c.deref.ensures.value
+    (subst (λ is. NeverFit (inputs (mask_of c.args.places.now) (map tree c.deref.result.now)) (map (tree_at (store_trees c.args.store.now)) is)) c.deref-2.ensures.value
+    (c.may_fit.ensures (not_true _ e)))
