@@ -1,5 +1,5 @@
 -- What a walk finds is replayed within the limits: the walk measured each term that its derivation makes.
-use Rattle.std.proofs.Common.{◌≡◌, ℕ, zero, suc, ◌+◌, ◌-◌, ◌<◌, ◌&&◌, Bool, true, false, List, [], ◌∷◌, ◌++◌, ◌⊎◌, inl, inr, length, Option, Some, None, refl, sym, ap, ◌∙◌, subst, arith}
+use Rattle.std.proofs.Common.{◌≡◌, ℕ, zero, suc, ◌+◌, ◌-◌, ◌<◌, ◌&&◌, Bool, true, false, List, [], ◌∷◌, ◌++◌, ◌⊎◌, inl, inr, length, Option, Some, None, refl, sym, ap, ◌∙◌, arith}
 use Rattle.std.specs.Prelude.{slice_get, nat_eq, nat_lt}
 use Rattle.sx_term.specs.Tree.{Tree, depth_of, size_of}
 use Rattle.sx_rules.specs.Instances.{instance, StandsAmong, bound_by}
@@ -15,8 +15,7 @@ use Rattle.sx_derive.specs.Walk.{term_limit, first_cause, limit_passed, unless_p
 use Rattle.sx_derive.specs.Walk.{put_first, after_kid, premise_events, first_values, conclude}
 use Rattle.sx_derive.specs.Walk.{after_match, rule_events, rules_events, given_event, given_events}
 use Rattle.sx_derive.specs.Walk.{goal_events, events}
-use Rattle.sx_derive.specs.Search.{DerivesGoal, EachGiven, Ending, found, are_wanted, found_when}
-use Rattle.sx_derive.specs.Search.{walk}
+use Rattle.sx_derive.specs.Search.{DerivesGoal, EachGiven}
 use Rattle.sx_replay.specs.Limits.{first_of, first_deep, first_big}
 use Rattle.sx_replay.specs.Fronts.{asked_of, concluded_of, made_in, made_below}
 use Rattle.sx_arena.proofs.Matchings.{match_all-matches, stays-bound, stays-agreed}
@@ -25,6 +24,7 @@ use Rattle.sx_arena.specs.Matching.{value_or}
 use Rattle.sx_rules.proofs.Moded.{moded-at}
 use Rattle.sx_derive.proofs.Sound.{given-append, given-when, given-when_matched, given-then_each, events_sound}
 use Rattle.sx_derive.proofs.Bounded.{IsBoundedAnswer, events_bounded}
+use Rattle.sx_derive.proofs.FoundEach.{found_each}
 use Rattle.sx_top.specs.VerifyLaws.{FoundIsWithin}
 
 -- ---- limits
@@ -185,32 +185,12 @@ module _ (modes : Modes) (rules : List Rule) (hyps : Hypotheses) where
       (givens_quiet zero hyps.judgements goal)
       (rules_quiet (goal_events modes rules hyps levels) (events_quiet moded levels) moded zero rules goal (λ k m x e is. same_place rules k m x e (omega arith)))
 
--- ---- what is found is given
-
-found_same : (x a : Answer) → found x ≡ found a → x ≡ a
-found_same x a e = cc
-
-found_here : (P : Answer → Type 0) (b : Bool) (x a : Answer) (rest : Ending) → P x → (rest ≡ found a → P a) → found_when b x rest ≡ found a → P a
-found_here P true x a rest h k e = subst P (found_same x a e) h
-found_here P false x a rest h k e = k e
-
-found_given : (P : Answer → Type 0) (wanted : Option (List Tree)) (budget : ℕ) (es : List (Event Answer)) (a : Answer) → EachGiven P es → walk wanted budget es ≡ found a → P a
-found_given P wanted zero [] a h e = cc
-found_given P wanted (suc budget) [] a h e = cc
-found_given P wanted zero (try ∷ es) a h e = cc
-found_given P wanted (suc budget) (try ∷ es) a h e = found_given P wanted budget es a h e
-found_given P wanted zero (stop c ∷ es) a h e = cc
-found_given P wanted (suc budget) (stop c ∷ es) a h e = cc
-found_given P wanted zero (give x ∷ es) a h e = found_here P (are_wanted wanted x.1) x a (walk wanted zero es) h.0 (found_given P wanted zero es a h.1) e
-found_given P wanted (suc budget) (give x ∷ es) a h e =
-    found_here P (are_wanted wanted x.1) x a (walk wanted (suc budget) es) h.0 (found_given P wanted (suc budget) es a h.1) e
-
 pub found_within : FoundIsWithin
 unfolding events
 found_within modes rules hyps moded hyps_shallow goal goal_shallow wanted budget a e =
     let es = goal_events modes rules hyps (3001 - 1) goal in
-    let d = found_given (DerivesGoal modes rules hyps goal) wanted budget es a (events_sound modes rules hyps moded (3001 - 1) goal) e in
-    let q = found_given (IsQuietAnswer modes rules hyps) wanted budget es a (events_quiet modes rules hyps moded (3001 - 1) goal) e in
-    let b = found_given (IsBoundedAnswer (3001 - 1)) wanted budget es a (events_bounded modes rules hyps hyps_shallow (3001 - 1) goal goal_shallow) e in
+    let d = found_each (DerivesGoal modes rules hyps goal) wanted budget es a (events_sound modes rules hyps moded (3001 - 1) goal) e in
+    let q = found_each (IsQuietAnswer modes rules hyps) wanted budget es a (events_quiet modes rules hyps moded (3001 - 1) goal) e in
+    let b = found_each (IsBoundedAnswer (3001 - 1)) wanted budget es a (events_bounded modes rules hyps hyps_shallow (3001 - 1) goal goal_shallow) e in
     let n = none_first (made_in modes rules a.0) q in
     record { terms = made_in modes rules a.0; depth = height_of a.0; front = (a.0, d, refl, refl, refl); shallow = n.0; small = n.1; level = b.0 }

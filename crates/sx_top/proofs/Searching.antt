@@ -10,7 +10,7 @@ use Rattle.sx_rules.proofs.Texts.{outputs_have_texts}
 use Rattle.sx_core.specs.Problem.{Problem, problem}
 use Rattle.sx_core.specs.declared.problem.CoreProblem.{CoreProblem}
 use Rattle.sx_derive.specs.Walk.{Event, try, give, stop, events}
-use Rattle.sx_derive.specs.Search.{Ending, found, exhausted, EachGiven, walk, tries_of}
+use Rattle.sx_derive.specs.Search.{Ending, found, exhausted, walk, tries_of}
 use Rattle.sx_derive.specs.Search.{tries_unless, are_wanted}
 use Rattle.sx_derive.specs.Stuck.{Blame}
 use Rattle.sx_derive.specs.Blames.{blame_of}
@@ -23,6 +23,7 @@ use Rattle.sx_derive.specs.declared.derive_error.DeriveError.TheVariants.{Memory
 use Rattle.sx_derive.specs.declared.derive_error.DeriveError.TheVariants.{BudgetSpent, DepthSpent}
 use Rattle.sx_derive.specs.declared.derive_error.DeriveError.TheVariants.{TooDeep, TooBig}
 use Rattle.sx_derive.proofs.Bounded.{answers_are_bounded}
+use Rattle.sx_derive.proofs.FoundEach.{found_each}
 use Rattle.sx_derive.proofs.Blamed.{exhausted_has_no_stop}
 use Rattle.sx_derive.proofs.BlameTexts.{stuck_goal_has_texts}
 use Rattle.sx_derive.proofs.BlameDepths.{stuck_goal_is_shallow}
@@ -87,19 +88,11 @@ module _ (file : List ℕ) (p : Problem) (budget : ℕ) where
 
 -- ---- what the walk gives
 
--- what a walk finds is given among the events
-found_given : (P : Answer → Type 0) (budget : ℕ) (es : List (Event Answer)) (a : Answer) → walk None budget es ≡ found a → EachGiven P es → P a
-found_given P budget [] a e each = absurd cc
-found_given P zero (try ∷ es) a e each = absurd cc
-found_given P (suc budget) (try ∷ es) a e each = found_given P budget es a e each
-found_given P budget (stop c ∷ es) a e each = absurd cc
-found_given P budget (give x ∷ es) a e each = let same : x ≡ a = cc in subst P same each.0
-
 module _ (p : Problem) (proper : IsProper p) where
   pub searches_given : (file : List ℕ) (budget : ℕ) (a : Answer) → walk None budget (goal_events p) ≡ found a → IsGiven p a
   searches_given file budget a is =
       let first = searches_first file budget p a proper.moded (comes_answer file p budget (walk None budget (goal_events p)) a is) in
-      let bounds = found_given _ budget (goal_events p) a is (answers_are_bounded (modes_of p.forms) (problem_rules p) no_hypotheses tt p.goal 1 proper.shallow) in
+      let bounds = found_each _ None budget (goal_events p) a (answers_are_bounded (modes_of p.forms) (problem_rules p) no_hypotheses tt p.goal 1 proper.shallow) is in
       let texts = outputs_have_texts (modes_of p.forms) (problem_rules p) no_hypotheses proper.moded proper.rules tt p.goal a proper.texts first.derives in
       record { derives = first.derives; height = bounds.0; outputs = terms_of a.1 texts bounds.2 }
 

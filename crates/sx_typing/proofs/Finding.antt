@@ -1,6 +1,6 @@
 -- What a search tells, where no hypotheses are given.
-use Rattle.std.proofs.Common.{◌≡◌, ◌≤◌, ℕ, zero, suc, Bool, true, false, List, [], ◌∷◌, map, Option}
-use Rattle.std.proofs.Common.{None, subst, arith}
+use Rattle.std.proofs.Common.{◌≡◌, ◌≤◌, ℕ, List, [], map}
+use Rattle.std.proofs.Common.{None, arith}
 use Rattle.sx_term.specs.declared.sort.Sort.{Sort}
 use Rattle.sx_term.specs.Sorts.{Shape}
 use Rattle.sx_term.specs.Tree.{Tree}
@@ -12,11 +12,12 @@ use Rattle.sx_rules.specs.Modes.{Goal}
 use Rattle.sx_rules.specs.Views.{FormData, NamedRule, judgement, pair, hypotheses, modes_of}
 use Rattle.sx_rules.specs.Views.{subjects_in}
 use Rattle.sx_rules.proofs.Refusals.{good_moded}
-use Rattle.sx_derive.specs.Walk.{Event, try, give, stop, events}
-use Rattle.sx_derive.specs.Search.{EachGiven, Ending, found, are_wanted, found_when, walk}
+use Rattle.sx_derive.specs.Walk.{events}
+use Rattle.sx_derive.specs.Search.{found, walk}
 use Rattle.sx_derive.proofs.Blamed.{exhausted_has_no_stop}
 use Rattle.sx_derive.proofs.BlameDepths.{stuck_goal_is_shallow}
 use Rattle.sx_derive.proofs.Bounded.{answers_are_bounded}
+use Rattle.sx_derive.proofs.FoundEach.{found_each}
 use Rattle.sx_derive.proofs.Walked.{found_is_first}
 use Rattle.sx_typing.specs.Outcomes.{nameless}
 use Rattle.sx_rules.specs.Rules.{no_hypotheses}
@@ -29,27 +30,6 @@ pub none_given : (given : Hyps) → given.holds.items ≡ [] → given.apart.ite
     hypotheses given ≡ no_hypotheses
 none_given given holds apart =
     λ i. record { judgements = map judgement (holds i); pairs = map pair (apart i) }
-
--- what holds of all that is given holds of what is found
-module _ (P : Answer → Type 0) (wanted : Option (List Tree)) where
-  found_one : (b : Bool) (x a : Answer) (rest : Ending) → P x → (rest ≡ found a → P a) →
-      found_when b x rest ≡ found a → P a
-  found_one true x a rest p later e = let same : x ≡ a = cc in subst P same p
-  found_one false x a rest p later e = later e
-
-  found_each : (budget : ℕ) (es : List (Event Answer)) (a : Answer) → EachGiven P es →
-      walk wanted budget es ≡ found a → P a
-  found_each budget [] a each e = cc
-  found_each zero (try ∷ es) a each e = cc
-  found_each (suc budget) (try ∷ es) a each e = found_each budget es a each e
-  found_each zero (stop c ∷ es) a each e = cc
-  found_each (suc budget) (stop c ∷ es) a each e = cc
-  found_each zero (give x ∷ es) a each e =
-      found_one (are_wanted wanted x.1) x a (walk wanted zero es) each.0
-      (found_each zero es a each.1) e
-  found_each (suc budget) (give x ∷ es) a each e =
-      found_one (are_wanted wanted x.1) x a (walk wanted (suc budget) es) each.0
-      (found_each (suc budget) es a each.1) e
 
 pub found_outputs_fit : FoundOutputsFit
 found_outputs_fit literals shapes forms rules set have vars top goal good wanted budget a e =

@@ -3,7 +3,7 @@ use Rattle.std.proofs.Common.{◌≡◌, ℕ, zero, suc, ◌≤◌, ◌-◌, Boo
 use Rattle.std.proofs.Common.{◌⊎◌, inl, inr, map, length, Option, Some, None, refl, sym, ap, ◌∙◌}
 use Rattle.std.proofs.Common.{subst, arith}
 use Rattle.std.specs.Prelude.{nat_eq, nat_lt}
-use Rattle.sx_term.specs.Tree.{Tree, Trees, node, lexeme, hole, none, ◌▹◌, depth_of, greatest_depth}
+use Rattle.sx_term.specs.Tree.{Tree, Trees, node, lexeme, hole, none, ◌▹◌, depth_of}
 use Rattle.sx_term.specs.Tree.{size_of, total_size}
 use Rattle.sx_rules.specs.Instances.{instance, instances, Stands, StandsInKids, StandsAmong}
 use Rattle.sx_rules.specs.Instances.{bound_by}
@@ -19,8 +19,10 @@ use Rattle.sx_derive.specs.Walk.{Cause, Event, try, give, stop, Answer, then_eac
 use Rattle.sx_derive.specs.Walk.{limit_passed, unless_passed, are_apart, put_first, after_kid}
 use Rattle.sx_derive.specs.Walk.{premise_events, first_values, conclude, after_match, rule_events}
 use Rattle.sx_derive.specs.Walk.{rules_events, goal_events, events, term_limit, first_cause}
-use Rattle.sx_derive.specs.Search.{DerivesGoal, EachGiven, Ending, found, are_wanted, found_when}
+use Rattle.sx_derive.specs.Search.{DerivesGoal, EachGiven, found}
 use Rattle.sx_derive.specs.Search.{walk}
+use Rattle.sx_derive.proofs.Bounded.{depth-instance}
+use Rattle.sx_derive.proofs.FoundEach.{found_each}
 use Rattle.sx_derive.proofs.Sound.{given-append, given-when, given-when_matched, given-then_each}
 use Rattle.sx_derive.proofs.Sound.{events_sound}
 use Rattle.sx_rewrite.specs.Measured.{node_terms}
@@ -33,29 +35,27 @@ use Rattle.sx_unit.proofs.BaseAlone.{small_both}
 
 -- a variable's value is no bigger than the instance
 mutual
-  value_within : (s : ℕ → Tree) (t : Tree) (v : ℕ) → Stands v t →
-      (depth_of (s v) ≤ depth_of (instance s t)) × (size_of (s v) ≤ size_of (instance s t))
-  value_within s (node label ts) v h =
-      let k = value_within_each s ts v h in (omega (arith, k.0), omega (arith, k.1))
-  value_within s (lexeme kind text) v h = absurd h
-  value_within s (hole w) v h =
+  value_smaller : (s : ℕ → Tree) (t : Tree) (v : ℕ) → Stands v t →
+      size_of (s v) ≤ size_of (instance s t)
+  value_smaller s (node label ts) v h = let k = value_smaller_each s ts v h in omega arith
+  value_smaller s (lexeme kind text) v h = absurd h
+  value_smaller s (hole w) v h =
       let same : s v ≡ s w = ap s h in
-      (omega (arith, ap depth_of same), omega (arith, ap size_of same))
+      omega (arith, ap size_of same)
 
-  value_within_each : (s : ℕ → Tree) (ts : Trees) (v : ℕ) → StandsInKids v ts →
-      (depth_of (s v) ≤ greatest_depth (instances s ts))
-      × (size_of (s v) ≤ total_size (instances s ts))
-  value_within_each s none v h = absurd h
-  value_within_each s (t ▹ ts) v (inl h) =
-      let k = value_within s t v h in (omega (arith, k.0), omega (arith, k.1))
-  value_within_each s (t ▹ ts) v (inr h) =
-      let k = value_within_each s ts v h in (omega (arith, k.0), omega (arith, k.1))
+  value_smaller_each : (s : ℕ → Tree) (ts : Trees) (v : ℕ) → StandsInKids v ts →
+      size_of (s v) ≤ total_size (instances s ts)
+  value_smaller_each s none v h = absurd h
+  value_smaller_each s (t ▹ ts) v (inl h) = let k = value_smaller s t v h in omega arith
+  value_smaller_each s (t ▹ ts) v (inr h) = let k = value_smaller_each s ts v h in omega arith
 
 value_small : (s : ℕ → Tree) (ts : List Tree) (v : ℕ) → StandsAmong v ts →
     AllSmall (map (instance s) ts) → IsSmallTerm (s v)
 value_small s [] v h k = absurd h
 value_small s (t ∷ ts) v (inl h) k =
-    let w = value_within s t v h in (omega (arith, w.0, k.0.0), omega (arith, w.1, k.0.1))
+    let d = depth-instance s t v h in
+    let z = value_smaller s t v h in
+    (omega (arith, d, k.0.0), omega (arith, z, k.0.1))
 value_small s (t ∷ ts) v (inr h) k = value_small s ts v h k.1
 
 -- the places are small where the inputs and the outputs are
@@ -230,31 +230,10 @@ module _ (modes : Modes) (rules : List Rule) (moded : AllModed modes rules) wher
       (rules_small (goal_events modes rules no_hypotheses levels) (events_small levels) zero rules
       goal h)
 
-  -- ---- what is found is given
-
-  found_here : (b : Bool) (x a : Answer) (rest : Ending) → IsSmallAnswer x →
-      (rest ≡ found a → IsSmallAnswer a) → found_when b x rest ≡ found a → IsSmallAnswer a
-  found_here true x a rest p later e = let same : x ≡ a = cc in subst IsSmallAnswer same p
-  found_here false x a rest p later e = later e
-
-  found_given : (budget : ℕ) (es : List (Event Answer)) (a : Answer) → EachGiven IsSmallAnswer es →
-      walk None budget es ≡ found a → IsSmallAnswer a
-  found_given budget [] a each e = cc
-  found_given zero (try ∷ es) a each e = cc
-  found_given (suc budget) (try ∷ es) a each e = found_given budget es a each e
-  found_given zero (stop c ∷ es) a each e = cc
-  found_given (suc budget) (stop c ∷ es) a each e = cc
-  found_given zero (give x ∷ es) a each e =
-      found_here (are_wanted None x.1) x a (walk None zero es) each.0
-      (found_given zero es a each.1) e
-  found_given (suc budget) (give x ∷ es) a each e =
-      found_here (are_wanted None x.1) x a (walk None (suc budget) es) each.0
-      (found_given (suc budget) es a each.1) e
-
   pub found_small : (goal : Goal) → AllSmall goal.terms → (budget : ℕ) (a : Answer) →
       walk None budget (events modes rules no_hypotheses goal 1) ≡ found a →
       IsSmallProof rules a.0
   unfolding events
   found_small goal h budget a e =
-      (found_given budget (goal_events modes rules no_hypotheses (3001 - 1) goal) a
+      (found_each IsSmallAnswer None budget (goal_events modes rules no_hypotheses (3001 - 1) goal) a
       (events_small (3001 - 1) goal h) e).0

@@ -1,5 +1,5 @@
 -- What is found of a goal, and the answers that are compared.
-use Rattle.std.proofs.Common.{◌≡◌, arith, ℕ, zero, suc, ◌-◌, ◌≤◌, length, Bool, true, false, List, [], ◌∷◌, map, Option, None, sym, ap, ◌∙◌, subst}
+use Rattle.std.proofs.Common.{◌≡◌, arith, ℕ, ◌-◌, ◌≤◌, length, Bool, true, List, [], map, None, sym, ap, ◌∙◌, subst}
 use Rattle.std.specs.Prelude.{Result, Ok, IfOk}
 use Rattle.sx_term.specs.Term.{tree}
 use Rattle.sx_term.specs.Tree.{Tree}
@@ -30,9 +30,10 @@ use Rattle.sx_derive.specs.declared.derived.Derived.{Derived}
 use Rattle.sx_derive.specs.declared.listed.Listed.{Listed}
 use Rattle.sx_derive.specs.Deriving.{answer_of, IsDerived}
 use Rattle.sx_derive.specs.Listing.{ListsFirst}
-use Rattle.sx_derive.specs.Search.{EachGiven, Ending, found, are_wanted, found_when, walk}
-use Rattle.sx_derive.specs.Walk.{Event, try, give, stop, events}
+use Rattle.sx_derive.specs.Search.{found, walk}
+use Rattle.sx_derive.specs.Walk.{events}
 use Rattle.sx_derive.proofs.Bounded.{answers_are_bounded}
+use Rattle.sx_derive.proofs.FoundEach.{found_each}
 use Rattle.sx_derive.proofs.Walked.{found_is_first}
 use Rattle.sx_rewrite.specs.declared.accepted.Accepted.{Accepted as AcceptedOf}
 use Rattle.sx_rewrite.specs.declared.lowered.Lowered.{Lowered}
@@ -49,21 +50,6 @@ use Rattle.sx_expand.specs.Expansions.{HasOneSubject, IsListedAnswer, IsExpandin
 -- hypotheses without entries
 pub none_given : (given : Hyps) → given.holds.items ≡ [] → given.apart.items ≡ [] → hypotheses given ≡ no_hypotheses
 none_given given holds apart = λ i. record { judgements = map judgement (holds i); pairs = map pair (apart i) }
-
--- what holds of all that is given holds of what is found
-module _ (P : Answer → Type 0) (wanted : Option (List Tree)) where
-  found_one : (b : Bool) (x a : Answer) (rest : Ending) → P x → (rest ≡ found a → P a) → found_when b x rest ≡ found a → P a
-  found_one true x a rest p later e = let same : x ≡ a = cc in subst P same p
-  found_one false x a rest p later e = later e
-
-  pub found_each : (budget : ℕ) (es : List (Event Answer)) (a : Answer) → EachGiven P es → walk wanted budget es ≡ found a → P a
-  found_each budget [] a each e = cc
-  found_each zero (try ∷ es) a each e = cc
-  found_each (suc budget) (try ∷ es) a each e = found_each budget es a each e
-  found_each zero (stop c ∷ es) a each e = cc
-  found_each (suc budget) (stop c ∷ es) a each e = cc
-  found_each zero (give x ∷ es) a each e = found_one (are_wanted wanted x.1) x a (walk wanted zero es) each.0 (found_each zero es a each.1) e
-  found_each (suc budget) (give x ∷ es) a each e = found_one (are_wanted wanted x.1) x a (walk wanted (suc budget) es) each.0 (found_each (suc budget) es a each.1) e
 
 module _ (sig : Signature) (base shapes : List Shape) (a : Accepted) (ok : IsAccepted sig base shapes a) (goal : Goal) (sorted : GoalIsSorted shapes sig.forms sig.modes [] goal) where
   -- what is found is an answer with a list

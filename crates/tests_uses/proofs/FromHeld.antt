@@ -55,7 +55,7 @@ use Rattle.sx_expand.specs.Boxes.{HasList}
 use Rattle.sx_expand.specs.Expansions.{IsListedFrom, IsExpanding}
 use Rattle.sx_expand.specs.Readings.{AllSmall, IsGiven, AreGiven}
 use Rattle.tests_uses.specs.Held.{IsHypothesisHeld, FitPlaces, FitsForm}
-use Rattle.tests_uses.proofs.Compared.{found_each}
+use Rattle.sx_derive.proofs.FoundEach.{found_each}
 
 -- hypotheses whose terms fit the places of their forms
 same-many : (shapes : List Shape) (ts : List Tree) (ps : List Place) → HaveSorts shapes [] ts (map (λ p. p.sort) ps) → length ts ≡ length ps
