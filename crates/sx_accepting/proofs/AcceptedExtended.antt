@@ -19,7 +19,7 @@ use Rattle.sx_rewrite.specs.declared.ext_rule.ExtRule.{ExtRule as ExtRuleOf}
 use Rattle.sx_rewrite.specs.Accepted.{ExtRule, Checked, basic, checked, rule_in, extended_rules}
 use Rattle.sx_rewrite.specs.Accepted.{Signature, IsAccepted}
 use Rattle.sx_rewrite.specs.Accepting.{AreStored}
-use Rattle.sx_rewrite.specs.Extensions.{Extension as Added, FitsRules, with_table}
+use Rattle.sx_rewrite.specs.Extensions.{StoredExtension as Added, FitsRules, with_table}
 use Rattle.sx_rewrite.specs.ExtensionView.{ext_rule}
 use Rattle.sx_rewrite.specs.PlainRules.{plain_of}
 use Rattle.sx_rewrite.specs.Sound.{AreSoundBy}

@@ -25,7 +25,7 @@ use Rattle.sx_rewrite.specs.Kinds.{IsSortFor, HaveSortsFor}
 use Rattle.sx_notation.specs.declared.language.Language.{Language}
 use Rattle.sx_notation.specs.Language.{PlaceFits, FormFits, IsLanguage, language_data}
 use Rattle.sx_language.specs.States.{IsLanguageIn}
-use Rattle.sx_extension.specs.Grounds.{Ground, HasRoomFor, IsBefore}
+use Rattle.sx_extension.specs.Grounds.{Ground, HasRoomFor, IsGroundBefore}
 use Rattle.sx_extension.specs.Laws.{first_ground, LanguagesBegin}
 use Rattle.sx_accepting.specs.ExtendedLanguages.{base_of, extended_data, unextended, ground_of}
 use Rattle.sx_accepting.specs.ExtendedLanguages.{CanExtend}
@@ -119,7 +119,7 @@ module _ (l : Language) (is : IsLanguage l) where
   first_can law name bytes states short files few = record {
     rules = refl;
     shapes = refl;
-    before = subst IsBefore first_is (law.before name bytes l states is short);
+    before = subst IsGroundBefore first_is (law.before name bytes l states is short);
     room = subst (λ (g : Ground). HasRoomFor g (suc files)) first_is
         (law.room name bytes l (suc files) states short (omega arith));
   }

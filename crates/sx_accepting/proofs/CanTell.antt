@@ -44,7 +44,7 @@ use Rattle.sx_extcheck.specs.Checks.{Check, IsRefusedFor}
 use Rattle.sx_extcheck.specs.CheckView.{check_with, CanCheck}
 use Rattle.sx_extcheck.specs.FlatTerms.{listed_term}
 use Rattle.sx_extension.specs.declared.extension.ReadExtension.{ReadExtension}
-use Rattle.sx_extension.specs.Grounds.{Ground, IsBefore}
+use Rattle.sx_extension.specs.Grounds.{Ground, IsGroundBefore}
 use Rattle.sx_extension.specs.Readings.{with_own}
 use Rattle.sx_extension.specs.States.{IsExtensionIn}
 use Rattle.sx_extension.proofs.Grounding.{same_sorts, sorts_kept, forms_kept}
@@ -53,7 +53,7 @@ use Rattle.sx_stuck.specs.StuckText.{CanTell}
 use Rattle.sx_stuck.specs.ToldGoals.{IsReadBy}
 use Rattle.sx_stuck.proofs.CanTell.{sorted_blames_can_be_told}
 use Rattle.sx_accepting.specs.AcceptanceStops.{Refusing, vars_named, telling_with}
-use Rattle.sx_accepting.specs.Refusals.{IsAcceptedSet, AreNamed, refusing_in}
+use Rattle.sx_accepting.specs.Refusals.{IsAcceptedSet, AreRulesNamed, refusing_in}
 use Rattle.sx_accepting.specs.Refusals.{RefusedExtensionsCanBeTold}
 use Rattle.sx_accepting.proofs.NamedVars.{vars-here, vars-later}
 use Rattle.sx_accepting.proofs.Rejected.{rejected_goals_are_sorted}
@@ -69,7 +69,7 @@ as-many stems names sorts h =
     let c = length-map sorts (λ (sort : Sort). Some sort) in omega (arith, a, b, c)
 
 rules-named : (r : Reader) (ls : List RuleData) (ns : List (List Text)) (qs : List NamedRule)
-    (bs : List (Option Tree)) → AreRules r ls ns qs bs → AreNamed qs ns
+    (bs : List (Option Tree)) → AreRules r ls ns qs bs → AreRulesNamed qs ns
 rules-named r [] [] [] [] h = tt
 rules-named r [] [] [] (b ∷ bs) h = absurd h
 rules-named r [] [] (q ∷ qs) bs h = absurd h
@@ -80,12 +80,12 @@ rules-named r (l ∷ ls) (n ∷ ns) (q ∷ qs) [] h = absurd h
 rules-named r (l ∷ ls) (n ∷ ns) (q ∷ qs) (b ∷ bs) h =
     (as-many r.stems n q.rule.sorts h.0.sorts, rules-named r ls ns qs bs h.1)
 
-module _ (g : Ground) (bytes : Text) (x : ReadExtension) (before : IsBefore g)
+module _ (g : Ground) (bytes : Text) (x : ReadExtension) (before : IsGroundBefore g)
     (st : IsExtensionIn g bytes x) where
-  read-named : AreNamed (named_rules x.extension) x.names.items
+  read-named : AreRulesNamed (named_rules x.extension) x.names.items
   read-named =
-      subst (λ (qs : List NamedRule). AreNamed qs x.names.items) (sym st.rules)
-      (subst (λ (ns : List (List Text)). AreNamed st.texts.rules ns) (sym st.names)
+      subst (λ (qs : List NamedRule). AreRulesNamed qs x.names.items) (sym st.rules)
+      (subst (λ (ns : List (List Text)). AreRulesNamed st.texts.rules ns) (sym st.names)
       (rules-named st.read.reader st.outline.rules st.texts.names st.texts.rules st.texts.bodies
       st.read.read.rules))
 
@@ -159,7 +159,7 @@ module _ (set : AcceptedOf) (k : IsAcceptedSet set) (plain : PlainTable) (budget
       (blame_of b)) all x.0)) x.1
 
   tell-rule : (es : List ExtRuleOf) (vs : List (List Text)) (names : List Text) (count : ℕ)
-      (name : Text) (b : BlameOf) → AreNamed (map (λ e. named e.rule) es) vs →
+      (name : Text) (b : BlameOf) → AreRulesNamed (map (λ e. named e.rule) es) vs →
       AllGood (shapes_of p) (forms_in set.base) names (map (λ e. named e.rule) es) →
       RulesAreSorted (shapes_of p) (signature set).forms (map (λ e. e.rule) (map ext_rule es))
       →

@@ -21,7 +21,7 @@ use Rattle.sx_extcheck.specs.FlatTerms.{listed_term}
 use Rattle.sx_notation.specs.declared.language.Language.{Language}
 use Rattle.sx_extension.specs.declared.extension.ReadExtension.{ReadExtension}
 use Rattle.sx_extension.specs.Fitting.{FitsAfter}
-use Rattle.sx_extension.specs.Grounds.{Ground, HasRoomFor, IsBefore}
+use Rattle.sx_extension.specs.Grounds.{Ground, HasRoomFor, IsGroundBefore}
 use Rattle.sx_extension.specs.Laws.{next_ground, ExtensionsGoOn}
 use Rattle.sx_extension.specs.States.{IsExtensionIn}
 use Rattle.sx_accepting.specs.declared.extended.Extended.{Extended}
@@ -60,7 +60,7 @@ module _ (law : ExtensionsGoOn) (l : BaseLanguage) (x : ExtendedData) (read : Re
       record {
         rules = can.rules;
         shapes = can.shapes;
-        before = subst IsBefore (next_is can.before.rule_forms)
+        before = subst IsGroundBefore (next_is can.before.rule_forms)
             (law.before g bytes read can.before states fits one);
         room = subst (λ (y : Ground). HasRoomFor y (suc files)) (next_is can.before.rule_forms)
             (law.room g read (suc files) (suc (suc files)) fits (omega arith) can.room);
@@ -80,7 +80,7 @@ bodies_shallow (e ∷ es) h = (body_shallow (option_map tree e.body) h.0, bodies
 
 -- the extension can be accepted after the set
 pub can_accept : (l : Language) (s : Extended) (read : ReadExtension) → IsAcceptedSet s.accepted →
-    IsBefore (ground_after l s) → shapes_in s.accepted.base ≡ shapes_of l.grammar.parts →
+    IsGroundBefore (ground_after l s) → shapes_in s.accepted.base ≡ shapes_of l.grammar.parts →
     FitsAfter (ground_after l s) read → CanAccept s.accepted (shapes_of read.grammar.parts)
     read.extension
 can_accept l s read k before base fits =

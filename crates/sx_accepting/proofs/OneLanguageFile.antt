@@ -17,7 +17,7 @@ use Rattle.sx_accepting.specs.Alike.{IsOfLine, StopsAtLanguage, SameButReadings}
 use Rattle.sx_accepting.specs.LanguageFiles.{language_file}
 use Rattle.sx_accepting.specs.LanguageStops.{language_stop}
 use Rattle.sx_accepting.specs.Laws.{LanguagesAgree}
-use Rattle.sx_accepting.specs.ReadLanguage.{Stated, IsLanguageStated, IsStopped, StatesLanguage}
+use Rattle.sx_accepting.specs.ReadLanguage.{Stated, IsLanguageStated, IsLanguageStopped, StatesLanguage}
 use Rattle.sx_accepting.specs.ReadLanguage.{ReadsLanguage}
 use Rattle.sx_accepting.proofs.SameRefusals.{not_lacking, same_lines, same_so}
 
@@ -42,7 +42,7 @@ module _ (name : List ℕ) (files : Files) where
   Related = SameButReadings (StopsAtLanguage name files)
 
   module _ (bytes : List ℕ) (held : Held most_bytes (language_file name) files (Ok bytes)) where
-    refused : (s t : Stop) → IsStopped name bytes s → IsStopped name bytes t → Related s t
+    refused : (s t : Stop) → IsLanguageStopped name bytes s → IsLanguageStopped name bytes t → Related s t
     refused s t r q =
         same_so (IsOfLine (language_file name) (LanguageHasThree name bytes))
         (StopsAtLanguage name files) s t

@@ -4,7 +4,7 @@ use Rattle.std.specs.Prelude.{Option, Some, None}
 use Rattle.sx_notation.specs.declared.unread.Unread.TheVariants as unread
 use Rattle.sx_notation.specs.declared.notation_error.NotationError.{NotationError}
 use Rattle.sx_notation.specs.declared.notation_error.NotationError.TheVariants as notation_error
-use Rattle.sx_language.specs.Alike.{ShowOthers}
+use Rattle.sx_language.specs.Alike.{LineShowsOthers}
 use Rattle.sx_steps.specs.declared.stop.Stop.{Stop}
 use Rattle.sx_steps.specs.Agree.{AreReadings}
 use Rattle.sx_steps.proofs.Ones.{some_same, none_some}
@@ -28,7 +28,7 @@ readings_as a b s t are h k =
 
 -- the stops of two refusals of a language that show other readings
 line_readings : (file : List ℕ) (HasMore : ℕ → Type 0) (e d : NotationError) (s t : Stop) →
-    ShowOthers HasMore e d → language_stop file e ≡ Some s → language_stop file d ≡ Some t →
+    LineShowsOthers HasMore e d → language_stop file e ≡ Some s → language_stop file d ≡ Some t →
     AreReadings s t
 line_readings file HasMore e d s t show h k =
     readings_as (unread_line file show.line (unread.Ambiguous show.one show.other))
@@ -38,7 +38,7 @@ line_readings file HasMore e d s t show h k =
 
 -- they are about the line
 line_is : (file : List ℕ) (HasMore : ℕ → Type 0) (e d : NotationError) (s : Stop) →
-    ShowOthers HasMore e d → language_stop file e ≡ Some s → IsOfLine file HasMore s
+    LineShowsOthers HasMore e d → language_stop file e ≡ Some s → IsOfLine file HasMore s
 line_is file HasMore e d s show h =
     let told = unread_line file show.line (unread.Ambiguous show.one show.other) in
     let here : IsOfLine file HasMore told = record {
@@ -51,7 +51,7 @@ line_is file HasMore e d s show h =
     (some_same told s (sym (ap (language_stop file) show.first) ∙ h)) here
 
 pub same_lines : (file : List ℕ) (HasMore : ℕ → Type 0) (e d : NotationError) (s t : Stop) →
-    (e ≡ d) ⊎ ShowOthers HasMore e d → language_stop file e ≡ Some s →
+    (e ≡ d) ⊎ LineShowsOthers HasMore e d → language_stop file e ≡ Some s →
     language_stop file d ≡ Some t → SameButReadings (IsOfLine file HasMore) s t
 same_lines file HasMore e d s t (inl same) h k =
     inl (same_refusal (language_stop file) notation_error.Memory refl e d s t same h k)

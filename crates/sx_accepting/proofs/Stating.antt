@@ -10,7 +10,7 @@ use Rattle.sx_language.specs.States.{IsLanguageIn, IsLanguageTextRefused}
 use Rattle.sx_steps.specs.declared.stop.Stop.{Stop}
 use Rattle.sx_accepting.specs.LanguageFiles.{language_file}
 use Rattle.sx_accepting.specs.LanguageStops.{language_stop}
-use Rattle.sx_accepting.specs.ReadLanguage.{Stated, IsLanguageStated, IsStopped}
+use Rattle.sx_accepting.specs.ReadLanguage.{Stated, IsLanguageStated, IsLanguageStopped}
 
 pub stated : (name bytes : List ℕ) (l : Language) (d : Digest) → IsLanguageIn name bytes l →
     IsLanguage l → d.bytes ≡ sha256 bytes →
@@ -29,7 +29,7 @@ stated name bytes l d states fit digest =
 
 pub stopped : (file name bytes : List ℕ) (e : NotationError) (stop : Stop) →
     file ≡ language_file name → IsLanguageTextRefused name bytes e → language_stop file e ≡ Some stop →
-    IsStopped name bytes stop
+    IsLanguageStopped name bytes stop
 stopped file name bytes e stop same refused is =
     record {
       error = e;

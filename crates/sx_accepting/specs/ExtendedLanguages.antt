@@ -13,7 +13,7 @@ use Rattle.sx_rewrite.specs.AcceptedView.{accepted}
 use Rattle.sx_rewrite.specs.Extensions.{without_extensions}
 use Rattle.sx_notation.specs.declared.language.Language.{Language}
 use Rattle.sx_notation.specs.Language.{LanguageData, language_data}
-use Rattle.sx_extension.specs.Grounds.{Ground, HasRoomFor, IsBefore}
+use Rattle.sx_extension.specs.Grounds.{Ground, HasRoomFor, IsGroundBefore}
 use Rattle.sx_accepting.specs.declared.own_grammars.OwnGrammars.{OwnGrammars}
 use Rattle.sx_accepting.specs.declared.extended.Extended.{Extended}
 
@@ -117,7 +117,7 @@ ground_of l x = record {
 pub record CanExtend (l : BaseLanguage) (x : ExtendedData) (files : ℕ) : Type 0 where
   pub rules : x.set.base_rules ≡ l.content.rules
   pub shapes : x.set.base_shapes ≡ shapes_of l.content.parts
-  pub before : IsBefore (ground_of l x)
+  pub before : IsGroundBefore (ground_of l x)
   pub room : HasRoomFor (ground_of l x) (suc files)
 
 -- what the next extension is read after, of a language with extensions in memory

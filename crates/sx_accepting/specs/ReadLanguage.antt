@@ -44,7 +44,7 @@ pub record IsLanguageStated (name bytes : List ℕ) (l : Stated) : Type 0 where
   pub digest : l.digest ≡ sha256 bytes
 
 -- the bytes are refused under this name
-pub record IsStopped (name bytes : List ℕ) (stop : Stop) : Type 0 where
+pub record IsLanguageStopped (name bytes : List ℕ) (stop : Stop) : Type 0 where
   pub error : NotationError
   pub refused : IsLanguageTextRefused name bytes error
   pub is : language_stop (language_file name) error ≡ Some stop
@@ -52,7 +52,7 @@ pub record IsStopped (name bytes : List ℕ) (stop : Stop) : Type 0 where
 -- the language that the bytes state, or their refusal
 abbrev pub StatesLanguage : List ℕ → List ℕ → Result Stated Stop → Type 0
 StatesLanguage name bytes (Ok l) = IsLanguageStated name bytes l
-StatesLanguage name bytes (Err stop) = IsStopped name bytes stop
+StatesLanguage name bytes (Err stop) = IsLanguageStopped name bytes stop
 
 -- the language in the file
 abbrev pub ReadsLanguage : List ℕ → Files → Result Stated Stop → Type 0

@@ -35,7 +35,7 @@ use Rattle.sx_extcheck.specs.Checks.{IsRefusedFor}
 use Rattle.sx_extcheck.specs.CheckView.{check_with, CanCheck}
 use Rattle.sx_extcheck.specs.FlatTerms.{listed_term}
 use Rattle.sx_extension.specs.declared.extension.ReadExtension.{ReadExtension}
-use Rattle.sx_extension.specs.Grounds.{Ground, IsBefore}
+use Rattle.sx_extension.specs.Grounds.{Ground, IsGroundBefore}
 use Rattle.sx_extension.specs.States.{IsExtensionIn}
 use Rattle.sx_stuck.specs.StuckGoals.{IsSortedBlame}
 use Rattle.sx_accepting.specs.AcceptanceStops.{Refusing, CanTellError, acceptance_stop}
@@ -78,10 +78,10 @@ RejectedGoalsAreSorted =
     × BlameIsShallow (blame_of b)
 
 -- each rule has as many names as it has variables, or more
-abbrev pub AreNamed : List NamedRule → List (List Text) → Type 0
-AreNamed [] vars = Unit {0}
-AreNamed (q ∷ qs) [] = ⊥
-AreNamed (q ∷ qs) (v ∷ vars) = (length q.rule.sorts ≤ length v) × AreNamed qs vars
+abbrev pub AreRulesNamed : List NamedRule → List (List Text) → Type 0
+AreRulesNamed [] vars = Unit {0}
+AreRulesNamed (q ∷ qs) [] = ⊥
+AreRulesNamed (q ∷ qs) (v ∷ vars) = (length q.rule.sorts ≤ length v) × AreRulesNamed qs vars
 
 -- what the refused rules of an extension are told by that was read after the set
 abbrev pub refusing_in : Ground → AcceptedOf → ReadExtension → Refusing
@@ -97,7 +97,7 @@ refusing_in g set x = record {
 abbrev pub RefusedExtensionsCanBeTold : Type 0
 RefusedExtensionsCanBeTold =
     (set : AcceptedOf) → IsAcceptedSet set →
-    (g : Ground) (bytes : Text) (x : ReadExtension) → IsBefore g → IsExtensionIn g bytes x →
+    (g : Ground) (bytes : Text) (x : ReadExtension) → IsGroundBefore g → IsExtensionIn g bytes x →
     g.forms ≡ forms_in set.base → CanAccept set (shapes_of x.grammar.parts) x.extension →
     (budgets : Budgets) (count : ℕ) (error : AcceptError) →
     AreRulesChecked (check_for set x.extension budgets) x.extension.rules.items count (Err error) →

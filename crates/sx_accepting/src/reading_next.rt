@@ -2,7 +2,7 @@
 
 ghost use Rattle.std.specs.Prelude.{◌≡◌, ◌≤◌, IfOk, length};
 ghost use Rattle.sx_extension.specs.Fitting.{FitsAfter};
-ghost use Rattle.sx_extension.specs.Grounds.{IsBefore};
+ghost use Rattle.sx_extension.specs.Grounds.{IsGroundBefore};
 ghost use Rattle.sx_extension.specs.States.{IsExtensionIn};
 ghost use Rattle.sx_steps.specs.Stop.{Gives, IsNoFault};
 ghost use Rattle.sx_uses.specs.ExtensionFile.{extension_of, extension_file};
@@ -27,7 +27,7 @@ pub(crate) fn read_next(
     name: &Text,
 ) -> Result<ReadExtension, StepError>
     requires name { name.now ≡ extension_file file.now.header.name }
-    requires before { IsBefore (ground_after given.now.language.now so_far.now) }
+    requires before { IsGroundBefore (ground_after given.now.language.now so_far.now) }
     requires short { length file.now.bytes.items ≤ most_bytes }
     ensures step { Gives read_data (ReadsAfter (base_of given.now.language.now)
         (extended_data given.now.language.now so_far.now) (extension_of file.now)) result }

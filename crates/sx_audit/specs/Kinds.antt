@@ -6,7 +6,7 @@ use Rattle.std.specs.List.{list_all, list_any, flat_map, slice_split, zip}
 use Rattle.std.specs.Str.{bytes_eq}
 use Rattle.std.specs.Fmt.{decimal}
 use Rattle.sx_lines.specs.Words.{is_name, number_within}
-use Rattle.sx_audit.specs.Meaning.{State, Kind}
+use Rattle.sx_audit.specs.Meaning.{AuditState, Kind}
 use Rattle.sx_rules.specs.Limits.{most_levels}
 use Rattle.sx_term.specs.Limits.{most_budget}
 
@@ -46,23 +46,23 @@ abbrev pub limit_in : ℕ → List ℕ → Option ℕ
 limit_in most setting = option_and_then positive (number_within most setting)
 
 -- the state of `deny`: its names
-abbrev pub of_names : List (List ℕ) → State
+abbrev pub of_names : List (List ℕ) → AuditState
 of_names names = record { numbers = []; texts = names }
 
 -- the state of `depth` and of `nodes`: the limit, and the greatest depth or the nodes seen so far
-abbrev pub of_limit : ℕ → ℕ → State
+abbrev pub of_limit : ℕ → ℕ → AuditState
 of_limit limit so_far = record { numbers = limit ∷ so_far ∷ []; texts = [] }
 
 -- the limit of such a state
-abbrev pub limit_of : State → ℕ
+abbrev pub limit_of : AuditState → ℕ
 limit_of s = slice_index s.numbers 0
 
 -- what was seen so far
-abbrev pub so_far_of : State → ℕ
+abbrev pub so_far_of : AuditState → ℕ
 so_far_of s = slice_index s.numbers 1
 
 -- the state of `tally`: its names with their counts
-abbrev pub of_counts : List (List ℕ) → List ℕ → State
+abbrev pub of_counts : List (List ℕ) → List ℕ → AuditState
 of_counts names counts = record { numbers = counts; texts = names }
 
 -- the counts of the names after a node by this rule
@@ -75,7 +75,7 @@ abbrev pub after_blank : List ℕ → List ℕ
 after_blank word = 32 ∷ word
 
 -- the text of a limit, after the kind's word
-abbrev pub limit_text : List ℕ → State → List ℕ
+abbrev pub limit_text : List ℕ → AuditState → List ℕ
 limit_text word s = word ++ after_blank (decimal (so_far_of s)) ++ codes " of"
     ++ after_blank (decimal (limit_of s))
 

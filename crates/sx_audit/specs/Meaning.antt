@@ -13,7 +13,7 @@ abbrev pub node : List ℕ → ℕ → Node
 node rule depth = record { rule = rule; depth = depth }
 
 -- the state of an auditor
-pub record State : Type 0 where
+pub record AuditState : Type 0 where
   pub numbers : List ℕ
   pub texts : List (List ℕ)
 
@@ -21,14 +21,14 @@ pub record State : Type 0 where
 -- objects, the state that a setting gives where it is taken, and the text for a state
 pub record Kind : Type 0 where
   pub name : List ℕ
-  pub step : State → Node → State × Bool
-  pub takes : List ℕ → Option State
-  pub text : State → List ℕ
+  pub step : AuditState → Node → AuditState × Bool
+  pub takes : List ℕ → Option AuditState
+  pub text : AuditState → List ℕ
 
 -- an auditor as plain data
 pub record Meaning : Type 0 where
   pub kind : Kind
-  pub state : State
+  pub state : AuditState
 
 -- the auditor after a node
 abbrev pub after_node : Meaning → Node → Meaning

@@ -10,7 +10,7 @@ use Rattle.sx_words.specs.Commands.{AuditWord, has_kind}
 use Rattle.sx_steps.specs.declared.stop.Stop.{Stop}
 use Rattle.sx_steps.specs.Refusal.{bad_word}
 use Rattle.sx_audit.specs.Kinds.{listed_names, of_names, deny_kind}
-use Rattle.sx_audit.specs.Meaning.{State, Kind, Meaning}
+use Rattle.sx_audit.specs.Meaning.{AuditState, Kind, Meaning}
 use Rattle.sx_auditing.specs.Laws.{first_named, IsAuditorKept, denying}
 use Rattle.sx_auditing.proofs.Sets.{mapped, sets-this, sets-later}
 use Rattle.sx_auditing.specs.Naming.{Slot, unset, set_to, set_first, Sets, set_ones, Names}
@@ -64,7 +64,7 @@ module _ (name : List ℕ) (s : Slot) (slots : List Slot) where
 
 -- what a setting makes of a slot
 record SetTo (setting : List ℕ) (s t : Slot) : Type 0 where
-  state : State
+  state : AuditState
   takes : s.auditor.kind.takes setting ≡ Some state
   auditor : t.auditor ≡ record { kind = s.auditor.kind; state = state }
   is_set : t.is_set ≡ true
@@ -316,7 +316,7 @@ module _ (handed kept : List Meaning) (before : List AuditWord) (a : AuditWord)
         subst (λ (x : Meaning). Contains kept x)
             (ap (λ (k : Kind). let x : Meaning = record { kind = k; state = word-kept.state } in x)
             kind
-            ∙ ap (λ (s : State).
+            ∙ ap (λ (s : AuditState).
             let x : Meaning = record { kind = deny_kind a.kind; state = s } in x)
             (sym m.gives)) word-kept.stands,
       )

@@ -8,7 +8,7 @@ use Rattle.sx_rules.specs.Orders.{Entry, of_rule, of_given}
 use Rattle.sx_rules.specs.Views.{NamedRule, rule_name}
 use Rattle.sx_steps.specs.declared.stop.Stop.{Stop}
 use Rattle.sx_audit.specs.Kinds.{is_among, listed_names, of_names, deny_kind}
-use Rattle.sx_audit.specs.Meaning.{State, Meaning}
+use Rattle.sx_audit.specs.Meaning.{AuditState, Meaning}
 use Rattle.sx_auditing.specs.Naming.{Names}
 use Rattle.sx_auditing.specs.Shows.{Shows}
 
@@ -36,7 +36,7 @@ first_named name (m ∷ auditors) = if bytes_eq m.kind.name name then Some m
 
 -- the auditor is among those that are kept, in the state that the setting gives
 pub record IsAuditorKept (kept : List Meaning) (one : Meaning) (setting : List ℕ) : Type 0 where
-  pub state : State
+  pub state : AuditState
   pub takes : one.kind.takes setting ≡ Some state
   pub stands : Contains kept (record { kind = one.kind; state = state })
 

@@ -31,17 +31,17 @@ use Rattle.sx_closure.specs.Closures.{HaveLanguage}
 use Rattle.sx_headers.specs.ModuleFiles.{module_file}
 use Rattle.sx_closure.specs.ReadModules.{ReadsModules}
 use Rattle.sx_closure.proofs.Agreeing.{modules_alike}
-use Rattle.sx_build.specs.BuildModules.{Progress, none_made, grown, ShowsUnit, MakesWith}
+use Rattle.sx_build.specs.BuildModules.{BuildProgress, none_made, grown, ShowsUnit, MakesWith}
 use Rattle.sx_build.specs.BuildModules.{MakesNext, MakesAfter, whole_plan, language_in, BuildsOver}
 use Rattle.sx_build.specs.BuildModules.{BuildsRead, BuildsModule}
-use Rattle.sx_build.specs.Laws.{IsClosureFound, IsTurnOf, given_at, SameButShown, BuildsAgree}
+use Rattle.sx_build.specs.Laws.{IsClosureFound, IsTurnOf, given_at, BuildsAlikeButShown, BuildsAgree}
 use Rattle.sx_build.specs.MadeModules.{with_made}
 use Rattle.sx_build.proofs.Languages.{HasBytes, have_language, has_bytes, given_language}
 use Rattle.sx_build.proofs.Turns.{IsAt, at_begin, at_next, turn_of}
 
 -- ---- steps
 
-shows_one : ShowsOnce → (l : Stated) (before : Progress) (m : Module) (unit : UnitData) →
+shows_one : ShowsOnce → (l : Stated) (before : BuildProgress) (m : Module) (unit : UnitData) →
     IsOne (ShowsUnit l before m unit)
 shows_one once l before m unit =
     then_one (Shows (module_file m.header.name) l.language.rules before.auditors unit.list)
@@ -72,7 +72,7 @@ module _ (name : List ℕ) (files : Files) where
 module _ (units : UnitsAgree) (once : ShowsOnce) (name : List ℕ) (budgets : Budgets)
     (auditors : List Meaning) (files : Files) where
   abbrev Related : Stop → Stop → Type 0
-  Related = SameButShown name budgets auditors files
+  Related = BuildsAlikeButShown name budgets auditors files
 
   same_alike : (s r : Stop) → s ≡ r → Related s r
   same_alike s r e = inl (record { status = ap status_of e; line = ap line_of e })
@@ -102,7 +102,7 @@ module _ (units : UnitsAgree) (once : ShowsOnce) (name : List ℕ) (budgets : Bu
     bytes : HasBytes (language_in f.modules) f.language
     bytes = has_bytes (language_in f.modules) files f.language f.states
 
-    next_by : (m : Module) (ms : List Module) (progress : Progress) →
+    next_by : (m : Module) (ms : List Module) (progress : BuildProgress) →
         m.header.language ≡ language_in f.modules →
         IsAt name budgets auditors files f (m ∷ ms) progress →
         IsOneBy Related (MakesNext budgets files f.language progress m)
@@ -117,7 +117,7 @@ module _ (units : UnitsAgree) (once : ShowsOnce) (name : List ℕ) (budgets : Bu
         (turn_of name budgets auditors files f m ms progress at imports h.0)
         (given_language (language_in f.modules) f.language bytes m same imports))
 
-    after_by : (ms : List Module) (progress : Progress) →
+    after_by : (ms : List Module) (progress : BuildProgress) →
         HaveLanguage (language_in f.modules) ms →
         IsAt name budgets auditors files f ms progress →
         IsOneBy Related (MakesAfter budgets files f.language progress ms)

@@ -18,7 +18,7 @@ use Rattle.sx_compiling.proofs.StepTries.{Most, trying_most, untried_most, most_
 use Rattle.sx_closure.specs.Closures.{HaveLanguage}
 use Rattle.sx_closure.specs.ReadModules.{ReadsModules}
 use Rattle.sx_closure.proofs.Closing.{are_closure}
-use Rattle.sx_build.specs.BuildModules.{Progress, none_made, given_in, ShowsUnit, MakesWith}
+use Rattle.sx_build.specs.BuildModules.{BuildProgress, none_made, given_in, ShowsUnit, MakesWith}
 use Rattle.sx_build.specs.BuildModules.{MakesNext}
 use Rattle.sx_build.specs.BuildModules.{MakesAfter, whole_plan, language_in, BuildsOver, BuildsRead}
 use Rattle.sx_build.specs.BuildModules.{BuildsModule}
@@ -73,7 +73,7 @@ module _ (units : UnitsWithin) (name : List ℕ) (budgets : Budgets) (auditors :
     bytes : HasBytes (language_in f.modules) f.language
     bytes = has_bytes (language_in f.modules) files f.language f.states
 
-    next_most : (m : Module) (progress : Progress) →
+    next_most : (m : Module) (progress : BuildProgress) →
         m.header.language ≡ language_in f.modules →
         Most (MakesNext budgets files f.language progress m) most
     next_most m progress same =
@@ -85,7 +85,7 @@ module _ (units : UnitsWithin) (name : List ℕ) (budgets : Budgets) (auditors :
         (λ result tries h. units.all budgets files (given_in f.language m imports) result tries
         (given_language (language_in f.modules) f.language bytes m same imports) h))
 
-    after_most : (ms : List Module) (progress : Progress) →
+    after_most : (ms : List Module) (progress : BuildProgress) →
         HaveLanguage (language_in f.modules) ms →
         Most (MakesAfter budgets files f.language progress ms) (length ms * most)
     after_most [] progress same =

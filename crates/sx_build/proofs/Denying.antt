@@ -9,13 +9,13 @@ use Rattle.sx_headers.specs.ModuleFiles.{module_file}
 use Rattle.sx_audit.specs.Meaning.{Meaning}
 use Rattle.sx_auditing.specs.Laws.{denying, DeniedAreUnlisted, DenyingStays}
 use Rattle.sx_build.specs.MadeModules.{Made}
-use Rattle.sx_build.specs.BuiltModules.{AreBuilt}
+use Rattle.sx_build.specs.BuiltModules.{AreModulesBuilt}
 use Rattle.sx_build.specs.Denied.{AreWithout, DeniedAreUnbuilt}
 
 module _ (unlisted : DeniedAreUnlisted) (stays : DenyingStays) (word : List ℕ)
     (names : List (List ℕ)) (budgets : Budgets) (old new : Files) (l : Stated) where
   each_without : (from to : List Meaning) (ms : List Module) (made : List Made)
-      (built : AreBuilt budgets old new l from to ms made) →
+      (built : AreModulesBuilt budgets old new l from to ms made) →
       Contains from (denying word names) →
       AreWithout names budgets old new l from to ms made built
   each_without from to [] [] built there = tt

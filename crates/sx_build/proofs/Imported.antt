@@ -20,7 +20,7 @@ use Rattle.sx_interface.specs.InterfaceView.{interface_view}
 use Rattle.sx_interface.specs.declared.import.Import.{Import}
 use Rattle.sx_environment.specs.SeenFrom.{IsShort, interfaces_of}
 use Rattle.sx_accepting.specs.ReadLanguage.{Stated}
-use Rattle.sx_compiling.specs.Given.{Given}
+use Rattle.sx_compiling.specs.Given.{GivenModule}
 use Rattle.sx_importing.specs.Each.{GivesNext}
 use Rattle.sx_importing.specs.ReadImports.{ImportData, import_of, ReadsImport}
 
@@ -105,7 +105,7 @@ next_given Step name before after import is step = record {
 }
 
 -- what a module with this file is made from
-abbrev pub given_with : List ℕ → Module → Stated → List ImportData → Given
+abbrev pub given_with : List ℕ → Module → Stated → List ImportData → GivenModule
 given_with file m l imports = record {
   file = file;
   read = m;

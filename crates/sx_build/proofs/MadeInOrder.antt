@@ -20,7 +20,7 @@ use Rattle.sx_compiling.proofs.MadeUnits.{units_keep_promise}
 use Rattle.sx_closure.specs.Closures.{HaveLanguage}
 use Rattle.sx_headers.specs.ModuleFiles.{module_file}
 use Rattle.sx_closure.specs.ReadModules.{module_name}
-use Rattle.sx_build.specs.BuildModules.{Progress, grown, given_in, ShowsUnit, MakesWith, MakesNext}
+use Rattle.sx_build.specs.BuildModules.{BuildProgress, grown, given_in, ShowsUnit, MakesWith, MakesNext}
 use Rattle.sx_build.specs.BuildModules.{MakesAfter}
 use Rattle.sx_build.specs.MadeModules.{Made, made_of, with_made}
 use Rattle.sx_build.proofs.Languages.{HasBytes, given_language}
@@ -49,12 +49,12 @@ AreMade budgets old l before from to [] (x ∷ made) = ⊥
 module _ (budgets : Budgets) (old : Files) (language : List ℕ) (l : Stated)
     (bytes : HasBytes language l) where
   -- one module more is made
-  record OneMore (before : Progress) (m : Module) (next : Progress) : Type 0 where
+  record OneMore (before : BuildProgress) (m : Module) (next : BuildProgress) : Type 0 where
     own : Made
     built : IsMade budgets old l before.made before.auditors next.auditors m own
     is : next.made ≡ before.made ++ own ∷ []
 
-  one_more : (before : Progress) (m : Module) (next : Progress) (tries : ℕ) →
+  one_more : (before : BuildProgress) (m : Module) (next : BuildProgress) (tries : ℕ) →
       m.header.language ≡ language → MakesNext budgets old l before m (Ok next) tries →
       OneMore before m next
   one_more before m next tries same makes =
@@ -80,27 +80,27 @@ module _ (budgets : Budgets) (old : Files) (language : List ℕ) (l : Stated)
               (given_language language l bytes m same imports) made.begins;
           is = refl;
           shown = subst
-              (λ (p : Progress). Shows (module_file m.header.name) l.language.rules
+              (λ (p : BuildProgress). Shows (module_file m.header.name) l.language.rules
               before.auditors unit.list (Ok p.auditors)) (sym is) shown.begins;
         };
-        is = ap (λ (p : Progress). p.made) is;
+        is = ap (λ (p : BuildProgress). p.made) is;
       }
 
   -- more modules are made in order
-  pub record AllMore (before : Progress) (ms : List Module) (end : Progress) : Type 0 where
+  pub record AllMore (before : BuildProgress) (ms : List Module) (end : BuildProgress) : Type 0 where
     pub made : List Made
     pub built : AreMade budgets old l before.made before.auditors end.auditors ms made
     pub is : end.made ≡ before.made ++ made
 
-  pub all_more : (before : Progress) (ms : List Module) (end : Progress) (tries : ℕ) →
+  pub all_more : (before : BuildProgress) (ms : List Module) (end : BuildProgress) (tries : ℕ) →
       HaveLanguage language ms → MakesAfter budgets old l before ms (Ok end) tries →
       AllMore before ms end
   all_more before [] end tries same makes =
       let is : end ≡ before = ok_same end before makes.0 in
       record {
         made = [];
-        built = ap (λ (p : Progress). p.auditors) is;
-        is = ap (λ (p : Progress). p.made) is ∙ sym (append-nil before.made);
+        built = ap (λ (p : BuildProgress). p.auditors) is;
+        is = ap (λ (p : BuildProgress). p.made) is ∙ sym (append-nil before.made);
       }
   all_more before (m ∷ ms) end tries same makes =
       let first = went_on (MakesNext budgets old l before m)

@@ -9,26 +9,26 @@ use Rattle.sx_accepting.specs.ReadLanguage.{Stated}
 use Rattle.sx_headers.specs.ReadModule.{Module}
 use Rattle.std.proofs.lemmas.List.{drop_all}
 use Rattle.sx_importing.proofs.EachLoops.{left_next}
-use Rattle.sx_build.specs.BuildModules.{Progress, MakesNext, MakesAfter}
+use Rattle.sx_build.specs.BuildModules.{BuildProgress, MakesNext, MakesAfter}
 
-module _ (budgets : Budgets) (files : Files) (l : Stated) (start : Progress) (ms : List Module) where
+module _ (budgets : Budgets) (files : Files) (l : Stated) (start : BuildProgress) (ms : List Module) where
   -- what comes of the modules that are left, after so many tries, comes of all
-  abbrev pub GoesOn : Progress → ℕ → ℕ → Type 0
+  abbrev pub GoesOn : BuildProgress → ℕ → ℕ → Type 0
   GoesOn now i tries =
-      (r : Result Progress StepError) (more : ℕ) →
+      (r : Result BuildProgress StepError) (more : ℕ) →
       MakesAfter budgets files l now (drop i ms) r more →
       MakesAfter budgets files l start ms r (tries + more)
 
-  module _ (now : Progress) (i tries : ℕ) (m : Module) (below : i < length ms)
+  module _ (now : BuildProgress) (i tries : ℕ) (m : Module) (below : i < length ms)
       (is : m ≡ get_or ms i m) (goes : GoesOn now i tries) where
-    step : (r : Result Progress StepError) (more : ℕ) →
+    step : (r : Result BuildProgress StepError) (more : ℕ) →
         MakesAfter budgets files l now (m ∷ drop (i + 1) ms) r more →
         MakesAfter budgets files l start ms r (tries + more)
     step r more h = goes r more
         (subst (λ (ys : List Module). MakesAfter budgets files l now ys r more)
         (sym (left_next ms i m below is)) h)
 
-    pub goes_on : (next : Progress) (one : ℕ) →
+    pub goes_on : (next : BuildProgress) (one : ℕ) →
         MakesNext budgets files l now m (Ok next) one → GoesOn next (i + 1) (tries + one)
     goes_on next one h r more later =
         subst (λ (n : ℕ). MakesAfter budgets files l start ms r n) (omega arith)
@@ -52,7 +52,7 @@ module _ (budgets : Budgets) (files : Files) (l : Stated) (start : Progress) (ms
       sum = omega arith;
     })
 
-  pub goes_end : (now : Progress) (i tries : ℕ) → length ms ≤ i → GoesOn now i tries →
+  pub goes_end : (now : BuildProgress) (i tries : ℕ) → length ms ≤ i → GoesOn now i tries →
       MakesAfter budgets files l start ms (Ok now) tries
   goes_end now i tries le goes =
       subst (λ (n : ℕ). MakesAfter budgets files l start ms (Ok now) n) (omega arith)

@@ -18,7 +18,7 @@ use Rattle.sx_walking.specs.Reached.{Found, uses_in, AreVisitsFound, IsWalkTold}
 use Rattle.sx_walking.proofs.Coming.{names_are}
 use Rattle.sx_headers.specs.ModuleFiles.{module_file}
 use Rattle.sx_headers.specs.ReadModule.{Module, StatesModule}
-use Rattle.sx_closure.specs.ReadImport.{ReadsNamed, ReadsImport}
+use Rattle.sx_closure.specs.ReadImport.{ReadsNamed, ReadsImportedModule}
 use Rattle.sx_closure.specs.ReadModules.{module_name, imports_of, ReachesModules, ReadsModules}
 use Rattle.sx_closure.proofs.Walks.{import_read, import_named}
 use Rattle.sx_compiling.proofs.Members.{contains_map, all_at}
@@ -47,7 +47,7 @@ user_of None lines e = absurd (none_some lines e)
 module _ (language : List ℕ) (files : Files) (root : Name)
     (is_a_name : is_name false root ≡ true) where
   -- so have those that are reached
-  reached_named : (found : Found Module) → AreVisitsFound (ReadsImport language files) found →
+  reached_named : (found : Found Module) → AreVisitsFound (ReadsImportedModule language files) found →
       {name : Name} → Reached (uses_in imports_of found) (root ∷ []) name →
       is_name false name ≡ true
   reached_named found visited {name = name} (is_root (zero, below, same)) =
@@ -63,12 +63,12 @@ module _ (language : List ℕ) (files : Files) (root : Name)
 
   module _ (ms : List Module) (m : Module) (among : Contains ms m) where
     told_named : (file : List ℕ) (found : Found Module) →
-        AreVisitsFound (ReadsImport language files) found → (end : End) →
+        AreVisitsFound (ReadsImportedModule language files) found → (end : End) →
         Walks (uses_in imports_of found) 256 (root ∷ []) end →
-        IsWalkTold (ReadsImport language files) file found end (Ok ms) →
+        IsWalkTold (ReadsImportedModule language files) file found end (Ok ms) →
         is_name false (module_name m) ≡ true
     told_named file found visited (Ok order) walks told =
-        let same = names_are module_name imports_of (ReadsImport language files)
+        let same = names_are module_name imports_of (ReadsImportedModule language files)
         (λ n x h. import_named language files n x h) found visited order ms told in
         reached_named found visited
         (((order_is_whole (uses_in imports_of found) 256 (root ∷ []) order walks).1 (module_name m)).0

@@ -19,9 +19,9 @@ use Rattle.sx_auditing.proofs.Once.{all-front}
 use Rattle.sx_headers.specs.ReadModule.{Module}
 use Rattle.sx_closure.specs.ReadModules.{module_name, imports_of, ReadsModules}
 use Rattle.sx_closure.proofs.Closing.{are_closure}
-use Rattle.sx_build.specs.BuildModules.{Progress, none_made, MakesAfter, whole_plan, language_in}
+use Rattle.sx_build.specs.BuildModules.{BuildProgress, none_made, MakesAfter, whole_plan, language_in}
 use Rattle.sx_build.specs.BuildModules.{BuildsOver, BuildsRead}
-use Rattle.sx_build.specs.BuiltModules.{AreBuilt, HoldsTexts, IsNoFileOf, BuiltModules}
+use Rattle.sx_build.specs.BuiltModules.{AreModulesBuilt, HoldsTexts, IsNoFileOf, BuiltModules}
 use Rattle.sx_build.specs.BuiltModules.{BuildsKeepPromise}
 use Rattle.sx_build.specs.MadeModules.{Made, with_made}
 use Rattle.sx_build.proofs.Languages.{HasBytes, have_language, has_bytes}
@@ -111,7 +111,7 @@ module _ (budgets : Budgets) (old new : Files) (l : Stated) (whole : List Module
 
   built_by : (done ms : List Module) (before made : List Made) (from to : List Meaning) →
       AreLeft done ms before made → AreMade budgets old l before from to ms made →
-      AreBuilt budgets old new l from to ms made
+      AreModulesBuilt budgets old new l from to ms made
   built_by done [] before [] from to left h = h
   built_by done (m ∷ ms) before (x ∷ made) from to left (next, one, rest) = (
     next,
@@ -140,7 +140,7 @@ module _ (name : List ℕ) (budgets : Budgets) (auditors : List Meaning) (old ne
   bytes = has_bytes (language_in ms) old l states
 
   -- what was made so far, as the end
-  abbrev end_of : List Made → List Meaning → Progress
+  abbrev end_of : List Made → List Meaning → BuildProgress
   end_of made left = record { made = made; auditors = left }
 
   -- where these were built, and the plan is theirs
@@ -171,7 +171,7 @@ module _ (name : List ℕ) (budgets : Budgets) (auditors : List Meaning) (old ne
       }
 
   -- where all were made so
-  made_by : (end : Progress) (plan : Plan) (tries : ℕ) →
+  made_by : (end : BuildProgress) (plan : Plan) (tries : ℕ) →
       MakesAfter budgets old l (none_made auditors) ms (Ok end) tries → plan ≡ whole_plan end →
       new ≡ after plan.files old → BuiltModules name budgets auditors old new plan.lines
   made_by end plan tries makes planned files_are =

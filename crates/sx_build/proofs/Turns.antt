@@ -11,18 +11,18 @@ use Rattle.sx_steps.proofs.Ones.{ok_same, ok_no_err}
 use Rattle.sx_accepting.specs.ReadLanguage.{Stated}
 use Rattle.sx_headers.specs.ReadModule.{Module}
 use Rattle.sx_importing.specs.ReadImports.{ImportData, ReadsImports}
-use Rattle.sx_build.specs.BuildModules.{Progress, none_made, MakesNext, MakesAfter}
+use Rattle.sx_build.specs.BuildModules.{BuildProgress, none_made, MakesNext, MakesAfter}
 use Rattle.sx_build.specs.Laws.{IsClosureFound, IsTurnOf}
 use Rattle.sx_build.specs.MadeModules.{with_made}
 
-module _ (budgets : Budgets) (files : Files) (l : Stated) (m : Module) (before next : Progress)
+module _ (budgets : Budgets) (files : Files) (l : Stated) (m : Module) (before next : BuildProgress)
     (one : ℕ) where
   -- after those that were made from there it is one more
   abbrev More : List Module → Type 0
-  More ms = (start : Progress) (tries : ℕ) → MakesAfter budgets files l start ms (Ok before) tries →
+  More ms = (start : BuildProgress) (tries : ℕ) → MakesAfter budgets files l start ms (Ok before) tries →
       MakesAfter budgets files l start (ms ++ m ∷ []) (Ok next) (tries + one)
 
-  more_from : (n : Module) (ms : List Module) (start : Progress) (given : Result Progress StepError)
+  more_from : (n : Module) (ms : List Module) (start : BuildProgress) (given : Result BuildProgress StepError)
       (a b tries : ℕ) → More ms → MakesNext budgets files l start n given a →
       GoesOn (λ p. MakesAfter budgets files l p ms) given (Ok before) b → tries ≡ a + b →
       MakesAfter budgets files l start (n ∷ (ms ++ m ∷ [])) (Ok next) (tries + one)
@@ -43,7 +43,7 @@ module _ (budgets : Budgets) (files : Files) (l : Stated) (m : Module) (before n
         given = Ok next;
         before = one;
         after = 0;
-        begins = subst (λ (p : Progress). MakesNext budgets files l p m (Ok next) one)
+        begins = subst (λ (p : BuildProgress). MakesNext budgets files l p m (Ok next) one)
             (ok_same before start h.0) makes;
         goes = (refl, refl);
         sum = omega (arith, none);
@@ -53,7 +53,7 @@ module _ (budgets : Budgets) (files : Files) (l : Stated) (m : Module) (before n
 
 -- so many of the modules were made, and these are left
 pub record IsAt (name : List ℕ) (budgets : Budgets) (auditors : List Meaning) (files : Files)
-    (f : IsClosureFound name files) (ms : List Module) (progress : Progress) : Type 0 where
+    (f : IsClosureFound name files) (ms : List Module) (progress : BuildProgress) : Type 0 where
   pub before : List Module
   pub stands : f.modules ≡ before ++ ms
   pub tries : ℕ
@@ -64,7 +64,7 @@ module _ (name : List ℕ) (budgets : Budgets) (auditors : List Meaning) (files 
   pub at_begin : IsAt name budgets auditors files f f.modules (none_made auditors)
   at_begin = record { before = []; stands = refl; tries = 0; makes = (refl, refl) }
 
-  pub at_next : (m : Module) (ms : List Module) (progress next : Progress) (one : ℕ) →
+  pub at_next : (m : Module) (ms : List Module) (progress next : BuildProgress) (one : ℕ) →
       IsAt name budgets auditors files f (m ∷ ms) progress →
       MakesNext budgets files f.language progress m (Ok next) one →
       IsAt name budgets auditors files f ms next
@@ -77,7 +77,7 @@ module _ (name : List ℕ) (budgets : Budgets) (auditors : List Meaning) (files 
   }
 
   -- it is the turn of the next one
-  abbrev pub turn_of : (m : Module) (ms : List Module) (progress : Progress) →
+  abbrev pub turn_of : (m : Module) (ms : List Module) (progress : BuildProgress) →
       IsAt name budgets auditors files f (m ∷ ms) progress → (imports : List ImportData) →
       ReadsImports (with_made progress.made files) m.header.imports (Ok imports) →
       IsTurnOf name budgets auditors files

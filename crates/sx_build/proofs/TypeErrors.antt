@@ -21,7 +21,7 @@ use Rattle.sx_walking.proofs.TypeErrors.{reaches_final}
 use Rattle.sx_accepting.specs.ReadLanguage.{Stated, ReadsLanguage}
 use Rattle.sx_accepting.proofs.TypeErrors.{reads_language_final}
 use Rattle.sx_auditing.specs.Shows.{Shows, objection}
-use Rattle.sx_headers.specs.HeaderStops.{bad_header, other_version}
+use Rattle.sx_headers.specs.HeaderStops.{bad_header, version_stop}
 use Rattle.sx_headers.specs.ReadInterface.{HeldInterface, StatesParts, ReadsInterface}
 use Rattle.sx_headers.specs.ReadModule.{Module, StatesModule}
 use Rattle.sx_importing.specs.Each.{GivesNext, GivesAfter}
@@ -32,10 +32,10 @@ use Rattle.sx_compiling.specs.MakeUnit.{MakesUnit}
 use Rattle.sx_compiling.specs.Reached.{HasNamedLanguage}
 use Rattle.sx_closure.specs.Closures.{HaveLanguage}
 use Rattle.sx_headers.specs.ModuleFiles.{module_file}
-use Rattle.sx_closure.specs.ReadImport.{language_differs, ReadsNamed, ReadsImport as ReadsOther}
+use Rattle.sx_closure.specs.ReadImport.{language_differs, ReadsNamed, ReadsImportedModule as ReadsOther}
 use Rattle.sx_closure.specs.ReadImport.{HasSameLanguage as HasSame}
 use Rattle.sx_closure.specs.ReadModules.{imports_of, ReachesModules, ReadsModules}
-use Rattle.sx_build.specs.BuildModules.{Progress, none_made, grown, ShowsUnit, MakesWith}
+use Rattle.sx_build.specs.BuildModules.{BuildProgress, none_made, grown, ShowsUnit, MakesWith}
 use Rattle.sx_build.specs.BuildModules.{MakesNext, MakesAfter, whole_plan, language_in, BuildsOver}
 use Rattle.sx_build.specs.BuildModules.{BuildsRead}
 use Rattle.sx_build.specs.Laws.{IsClosureFound, IsTurnOf, given_at, BuildTypeErrorsAreFinal}
@@ -76,7 +76,7 @@ module _ (Q : Stop → Type 0) where
   parts_final file name bytes stop (inl h) =
       no_type_error Q (not_utf8 file (utf8_valid_len bytes)) stop (λ h. h) h.1
   parts_final file name bytes stop (inr (utf8, inl h)) =
-      no_type_error Q (other_version file h.0) stop (λ h. h) h.2
+      no_type_error Q (version_stop file h.0) stop (λ h. h) h.2
   parts_final file name bytes stop (inr (utf8, inr h)) =
       no_type_error Q (bad_header file h.1.0) stop (λ h. h) h.1.2
 
@@ -102,7 +102,7 @@ module _ (Q : Stop → Type 0) where
       (λ i read stop h. absurd (ok_no_err (given ++ i ∷ []) stop (sym h))))
       (λ next read. imports_final files next names)
 
-  shows_final : (l : Stated) (before : Progress) (m : Module) (unit : UnitData) →
+  shows_final : (l : Stated) (before : BuildProgress) (m : Module) (unit : UnitData) →
       Final Q (ShowsUnit l before m unit)
   shows_final l before m unit =
       then_final Q
@@ -137,7 +137,7 @@ module _ (units : UnitsFinal) (name : List ℕ) (budgets : Budgets) (auditors : 
     bytes : HasBytes (language_in f.modules) f.language
     bytes = has_bytes (language_in f.modules) files f.language f.states
 
-    next_final : (m : Module) (ms : List Module) (progress : Progress) →
+    next_final : (m : Module) (ms : List Module) (progress : BuildProgress) →
         m.header.language ≡ language_in f.modules →
         IsAt name budgets auditors files f (m ∷ ms) progress →
         FinalTrying Q (MakesNext budgets files f.language progress m)
@@ -150,7 +150,7 @@ module _ (units : UnitsFinal) (name : List ℕ) (budgets : Budgets) (auditors : 
         (turn_of name budgets auditors files f m ms progress at imports h.0)
         (given_language (language_in f.modules) f.language bytes m same imports))
 
-    after_final : (ms : List Module) (progress : Progress) →
+    after_final : (ms : List Module) (progress : BuildProgress) →
         HaveLanguage (language_in f.modules) ms →
         IsAt name budgets auditors files f ms progress →
         FinalTrying Q (MakesAfter budgets files f.language progress ms)

@@ -12,7 +12,7 @@ use Rattle.sx_steps.specs.Work.{Plan}
 use Rattle.sx_accepting.specs.ReadLanguage.{Stated, ReadsLanguage}
 use Rattle.sx_headers.specs.ReadModule.{Module}
 use Rattle.sx_importing.specs.ReadImports.{ImportData, ReadsImports}
-use Rattle.sx_compiling.specs.Given.{Given}
+use Rattle.sx_compiling.specs.Given.{GivenModule}
 use Rattle.sx_compiling.specs.MakeUnit.{MakesUnit}
 use Rattle.sx_auditing.specs.Shows.{Shows}
 use Rattle.sx_auditing.specs.Texts.{texts_of}
@@ -23,21 +23,21 @@ use Rattle.sx_build.specs.MadeModules.{Made, made_of, made_plan, made_files, wit
 -- ---- what is made
 
 -- the modules that were made so far, in order, and the auditors as they were left
-pub record Progress : Type 0 where
+pub record BuildProgress : Type 0 where
   pub made : List Made
   pub auditors : List Meaning
 
 -- none was made
-abbrev pub none_made : List Meaning → Progress
+abbrev pub none_made : List Meaning → BuildProgress
 none_made auditors = record { made = []; auditors = auditors }
 
 -- the unit of one module more, and the auditors after they were shown it
-abbrev pub grown : Progress → Module → UnitData → List Meaning → Progress
+abbrev pub grown : BuildProgress → Module → UnitData → List Meaning → BuildProgress
 grown before m unit auditors =
     record { made = before.made ++ made_of m.header.name unit ∷ []; auditors = auditors }
 
 -- the module, in this language, with these imports
-abbrev pub given_in : Stated → Module → List ImportData → Given
+abbrev pub given_in : Stated → Module → List ImportData → GivenModule
 given_in l m imports = record {
   file = module_file m.header.name;
   read = m;
@@ -48,21 +48,23 @@ given_in l m imports = record {
 -- ---- one module
 
 -- the unit is shown to the auditors
-abbrev pub ShowsUnit : Stated → Progress → Module → UnitData → Result Progress Stop → Type 0
+abbrev pub ShowsUnit : Stated → BuildProgress → Module → UnitData →
+    Result BuildProgress Stop → Type 0
 ShowsUnit l before m unit =
     Then (Shows (module_file m.header.name) l.language.rules before.auditors unit.list)
     (λ auditors result. result ≡ Ok (grown before m unit auditors))
 
 -- the module's unit is made with these imports, and shown
-abbrev pub MakesWith : Budgets → Files → Stated → Progress → Module → List ImportData →
-    Result Progress StepError → ℕ → Type 0
+abbrev pub MakesWith : Budgets → Files → Stated → BuildProgress → Module → List ImportData →
+    Result BuildProgress StepError → ℕ → Type 0
 MakesWith budgets files l before m imports =
     AndThen (MakesUnit budgets files (given_in l m imports))
     (λ unit. Untried (ShowsUnit l before m unit))
 
 -- one module more, with the interfaces of its imports, as they are once the files of those made
 -- before it were written
-abbrev pub MakesNext : Budgets → Files → Stated → Progress → Module → Result Progress StepError →
+abbrev pub MakesNext : Budgets → Files → Stated → BuildProgress → Module →
+    Result BuildProgress StepError →
     ℕ → Type 0
 MakesNext budgets files l before m =
     AndThen (Untried (ReadsImports (with_made before.made files) m.header.imports))
@@ -71,14 +73,14 @@ MakesNext budgets files l before m =
 -- ---- all modules
 
 -- the modules in order, each after all before it
-abbrev pub MakesAfter : Budgets → Files → Stated → Progress → List Module →
-    Result Progress StepError → ℕ → Type 0
+abbrev pub MakesAfter : Budgets → Files → Stated → BuildProgress → List Module →
+    Result BuildProgress StepError → ℕ → Type 0
 MakesAfter budgets files l before [] = Untried (λ result. result ≡ Ok before)
 MakesAfter budgets files l before (m ∷ ms) =
     AndThen (MakesNext budgets files l before m) (λ next. MakesAfter budgets files l next ms)
 
 -- all files in order, then the lines, then the texts of the auditors
-abbrev pub whole_plan : Progress → Plan
+abbrev pub whole_plan : BuildProgress → Plan
 whole_plan end = record {
   files = made_files end.made;
   lines = flat_map (λ m. (made_plan m).lines) end.made ++ texts_of end.auditors;

@@ -24,7 +24,7 @@ use Rattle.sx_build.specs.MadeModules.{Made, made_of}
 
 -- The module's unit is made in its dialect, with the interfaces of its imports as the new files
 -- hold them; and its list is shown to the auditors, who do not object.
-pub record IsBuilt (budgets : Budgets) (old new : Files) (l : Stated) (from to : List Meaning)
+pub record IsModuleBuilt (budgets : Budgets) (old new : Files) (l : Stated) (from to : List Meaning)
     (m : Module) (made : Made) : Type 0 where
   pub imports : List ImportData
   pub reads : ReadsImports new m.header.imports (Ok imports)
@@ -34,14 +34,14 @@ pub record IsBuilt (budgets : Budgets) (old new : Files) (l : Stated) (from to :
   pub shown : Shows (module_file m.header.name) l.language.rules from unit.list (Ok to)
 
 -- so it is of each module in order, and the auditors of one are shown the next
-abbrev pub AreBuilt : Budgets → (old new : Files) → Stated → (from to : List Meaning) →
+abbrev pub AreModulesBuilt : Budgets → (old new : Files) → Stated → (from to : List Meaning) →
     List Module → List Made → Type 0
-AreBuilt budgets old new l from to [] [] = to ≡ from
-AreBuilt budgets old new l from to (m ∷ ms) (x ∷ made) =
-    (next : List Meaning) × IsBuilt budgets old new l from next m x ×
-    AreBuilt budgets old new l next to ms made
-AreBuilt budgets old new l from to (m ∷ ms) [] = ⊥
-AreBuilt budgets old new l from to [] (x ∷ made) = ⊥
+AreModulesBuilt budgets old new l from to [] [] = to ≡ from
+AreModulesBuilt budgets old new l from to (m ∷ ms) (x ∷ made) =
+    (next : List Meaning) × IsModuleBuilt budgets old new l from next m x ×
+    AreModulesBuilt budgets old new l next to ms made
+AreModulesBuilt budgets old new l from to (m ∷ ms) [] = ⊥
+AreModulesBuilt budgets old new l from to [] (x ∷ made) = ⊥
 
 -- ---- all modules
 
@@ -69,7 +69,7 @@ pub record BuiltModules (name : List ℕ) (budgets : Budgets) (auditors : List M
   pub states : ReadsLanguage (language_in modules) old (Ok language)
   pub made : List Made
   pub left : List Meaning
-  pub built : AreBuilt budgets old new language auditors left modules made
+  pub built : AreModulesBuilt budgets old new language auditors left modules made
   pub files : AllByRecursion (HoldsTexts new) made
   pub others : (file : List ℕ) → AllByRecursion (IsNoFileOf file) made → new file ≡ old file
   pub told : lines ≡ flat_map (λ m. built_line m.name m.nodes) made ++ texts_of left
@@ -88,5 +88,6 @@ BuiltHaveHeadline =
     (lines : List ℕ) → is_name false name ≡ true →
     (b : BuiltModules name budgets auditors old new lines) →
     (m : Module) → Contains b.modules m →
-    (from to : List Meaning) (x : Made) → (i : IsBuilt budgets old new b.language from to m x) →
+    (from to : List Meaning) (x : Made) → (i : IsModuleBuilt budgets old new b.language from to m
+    x) →
     HasHeadline m.header.name budgets old (given_in b.language m i.imports) i.unit

@@ -8,12 +8,12 @@ use Rattle.sx_headers.specs.ReadModule.{Module}
 use Rattle.sx_audit.specs.Meaning.{Meaning}
 use Rattle.sx_auditing.specs.Laws.{denying, IsByOther}
 use Rattle.sx_build.specs.MadeModules.{Made}
-use Rattle.sx_build.specs.BuiltModules.{AreBuilt, BuiltModules}
+use Rattle.sx_build.specs.BuiltModules.{AreModulesBuilt, BuiltModules}
 
 -- no entry of the lists of these modules is by a rule with one of these names
 abbrev pub AreWithout : (names : List (List ℕ)) (budgets : Budgets) (old new : Files)
     (l : Stated) (from to : List Meaning) (ms : List Module) (made : List Made) →
-    AreBuilt budgets old new l from to ms made → Type 0
+    AreModulesBuilt budgets old new l from to ms made → Type 0
 AreWithout names budgets old new l from to [] [] built = Unit {0}
 AreWithout names budgets old new l from to (m ∷ ms) (x ∷ made) built =
     AllByRecursion (IsByOther l.language.rules names) built.1.unit.list

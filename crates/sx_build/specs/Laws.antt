@@ -14,11 +14,11 @@ use Rattle.sx_accepting.specs.Alike.{StopsAtLanguage}
 use Rattle.sx_accepting.specs.ReadLanguage.{Stated, ReadsLanguage}
 use Rattle.sx_headers.specs.ReadModule.{Module}
 use Rattle.sx_importing.specs.ReadImports.{ImportData, ReadsImports}
-use Rattle.sx_compiling.specs.Given.{Given}
+use Rattle.sx_compiling.specs.Given.{GivenModule}
 use Rattle.sx_compiling.specs.Laws.{HasNoType, HasUnsoundRule}
 use Rattle.sx_compiling.specs.Laws.{ShowsFree as ShowsFreeOfUnit}
 use Rattle.sx_closure.specs.ReadModules.{ReadsModules}
-use Rattle.sx_build.specs.BuildModules.{Progress, none_made, given_in, language_in, MakesAfter}
+use Rattle.sx_build.specs.BuildModules.{BuildProgress, none_made, given_in, language_in, MakesAfter}
 use Rattle.sx_build.specs.BuildModules.{BuildsModule}
 use Rattle.sx_build.specs.MadeModules.{with_made}
 
@@ -40,7 +40,7 @@ pub record IsTurnOf (name : List ℕ) (budgets : Budgets) (auditors : List Meani
   pub own : Module
   pub behind : List Module
   pub stands : found.modules ≡ before ++ own ∷ behind
-  pub progress : Progress
+  pub progress : BuildProgress
   pub tries : ℕ
   pub makes : MakesAfter budgets files found.language (none_made auditors) before
       (Ok progress) tries
@@ -49,7 +49,7 @@ pub record IsTurnOf (name : List ℕ) (budgets : Budgets) (auditors : List Meani
 
 -- what the unit of this one is made from
 abbrev pub given_at : {name : List ℕ} {budgets : Budgets} {auditors : List Meaning}
-    {files : Files} → IsTurnOf name budgets auditors files → Given
+    {files : Files} → IsTurnOf name budgets auditors files → GivenModule
 given_at t = given_in t.found.language t.own t.imports
 
 -- ---- one result
@@ -62,15 +62,16 @@ pub record IsOfLanguage (name : List ℕ) (files : Files) (stop : Stop) : Type 0
 
 -- the text of which the stop shows two readings is one that has more than two: a line of the
 -- language's file, or a text of the unit of one of the modules, of its imports or of its extensions
-abbrev pub ShowsFree : (name : List ℕ) → Budgets → List Meaning → Files → Stop → Type 0
-ShowsFree name budgets auditors files s = IsOfLanguage name files s
+abbrev pub BuildShowsFree : (name : List ℕ) → Budgets → List Meaning → Files → Stop → Type 0
+BuildShowsFree name budgets auditors files s = IsOfLanguage name files s
     ⊎ ((t : IsTurnOf name budgets auditors files) × ShowsFreeOfUnit budgets files (given_at t) s)
 
 -- the stops give the same status and the same line, but for the two readings that they show of one
 -- such text
-abbrev pub SameButShown : (name : List ℕ) → Budgets → List Meaning → Files → Stop → Stop → Type 0
-SameButShown name budgets auditors files s t =
-    AnswerAlike s t ⊎ (AreReadings s t × ShowsFree name budgets auditors files s)
+abbrev pub BuildsAlikeButShown : (name : List ℕ) → Budgets → List Meaning → Files → Stop →
+    Stop → Type 0
+BuildsAlikeButShown name budgets auditors files s t =
+    AnswerAlike s t ⊎ (AreReadings s t × BuildShowsFree name budgets auditors files s)
 
 -- by the name, the budgets, the auditors and the files there is one result and one number of tries,
 -- but for read faults, out of memory and such readings
@@ -79,7 +80,7 @@ BuildsAgree =
     (name : List ℕ) (budgets : Budgets) (auditors : List Meaning) (files : Files)
     (a b : Result Plan StepError) (m n : ℕ) → BuildsModule name budgets auditors files a m →
     BuildsModule name budgets auditors files b n → IsSure a → IsSure b →
-    AnswersBy (SameButShown name budgets auditors files) a b × (m ≡ n)
+    AnswersBy (BuildsAlikeButShown name budgets auditors files) a b × (m ≡ n)
 
 -- ---- type errors
 

@@ -23,7 +23,7 @@ use Rattle.sx_accepting.specs.Alike.{StopsAtLanguage, SameButReadings}
 use Rattle.sx_accepting.specs.Laws.{LanguagesAgree, ExtendsAgree}
 use Rattle.sx_accepting.specs.ReadLanguage.{Stated, ReadsLanguage, base_in}
 use Rattle.sx_check.specs.CheckExtension.{check_plan, ChecksAll, ChecksOver, ChecksFile}
-use Rattle.sx_check.specs.Laws.{IsReached, StopsAtReached, SameButLines, ChecksAgree}
+use Rattle.sx_check.specs.Laws.{AreReachedFrom, StopsAtReached, SameButLines, ChecksAgree}
 
 module _ (headers : OneHeaderAnswer) (languages : LanguagesAgree) (extends : ExtendsAgree) (name : List ℕ) (budgets : Budgets) (files : Files) where
   abbrev Related : Stop → Stop → Type 0
@@ -35,7 +35,7 @@ module _ (headers : OneHeaderAnswer) (languages : LanguagesAgree) (extends : Ext
   same_alike : (s t : Stop) → s ≡ t → Related s t
   same_alike s t e = inl (record { status = (λ i. status_of (e i)); line = (λ i. line_of (e i)) })
 
-  module _ (r : IsReached name files) where
+  module _ (r : AreReachedFrom name files) where
     abbrev Extending : Result ExtendedData StepError → ℕ → Type 0
     Extending = ExtendsLanguage (base_in r.language) budgets r.extensions (unextended r.language.language)
 

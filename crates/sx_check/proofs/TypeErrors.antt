@@ -19,13 +19,13 @@ use Rattle.sx_accepting.proofs.TypeErrors.{reads_language_final}
 use Rattle.sx_accepting.proofs.UnsoundRules.{unsound_is_final}
 use Rattle.sx_check.specs.CheckExtension.{check_plan, ChecksAll, ChecksOver, ChecksFile}
 use Rattle.sx_check.specs.CheckExtension.{ChecksExtension}
-use Rattle.sx_check.specs.Laws.{IsReached, HasUnsoundRule, UnsoundChecksAreFinal}
+use Rattle.sx_check.specs.Laws.{AreReachedFrom, ReachesUnsoundRule, UnsoundChecksAreFinal}
 
 module _ (name : List ℕ) (budgets : Budgets) (files : Files) where
   abbrev Q : Stop → Type 0
-  Q = HasUnsoundRule name budgets files
+  Q = ReachesUnsoundRule name budgets files
 
-  all_final : (r : IsReached name files) → FinalTrying Q (ChecksAll name budgets (base_in r.language) r.extensions)
+  all_final : (r : AreReachedFrom name files) → FinalTrying Q (ChecksAll name budgets (base_in r.language) r.extensions)
   all_final r =
       let at = went _ _ _ r.states in
       and_then_final Q (ExtendsLanguage (base_in r.language) budgets r.extensions (unextended r.language.language)) (λ x. Untried (λ result. result ≡ Ok (check_plan name x)))

@@ -21,13 +21,13 @@ use Rattle.sx_check.specs.CheckExtension.{ChecksExtension}
 -- ---- one result
 
 -- the stop is that of the file of the language, about a line that has more than two readings
-pub record IsOfLanguage (name : List ℕ) (files : Files) (stop : Stop) : Type 0 where
+pub record IsOfCheckedLanguage (name : List ℕ) (files : Files) (stop : Stop) : Type 0 where
   pub read : Extension
   pub reads : ReadsFile files name (Ok read)
   pub stops : StopsAtLanguage read.header.language files stop
 
 -- the extensions that are reached from the one with this name, and the language of all of them
-pub record IsReached (name : List ℕ) (files : Files) : Type 0 where
+pub record AreReachedFrom (name : List ℕ) (files : Files) : Type 0 where
   pub read : Extension
   pub reads : ReadsFile files name (Ok read)
   pub language : Stated
@@ -37,15 +37,17 @@ pub record IsReached (name : List ℕ) (files : Files) : Type 0 where
       (Ok extensions)
 
 -- one of these is refused, which is read after those before it
-abbrev pub StopsAtReached : (name : List ℕ) → Budgets → (files : Files) → IsReached name files →
+abbrev pub StopsAtReached : (name : List ℕ) → Budgets → (files : Files) →
+    AreReachedFrom name files →
     Stop → Type 0
 StopsAtReached name budgets files r stop =
     StopsAtExtension (base_in r.language) budgets (unextended r.language.language) r.extensions stop
 
 -- the stop is that of one of the extensions, about a line that has more than two readings
-pub record IsOfExtension (name : List ℕ) (budgets : Budgets) (files : Files) (stop : Stop) : Type 0
+pub record IsOfCheckedExtension (name : List ℕ) (budgets : Budgets) (files : Files)
+    (stop : Stop) : Type 0
   where
-    pub from : IsReached name files
+    pub from : AreReachedFrom name files
     pub stops : StopsAtReached name budgets files from stop
 
 -- the stops give the same status and the same line, but for the two readings that they show of a
@@ -53,7 +55,8 @@ pub record IsOfExtension (name : List ℕ) (budgets : Budgets) (files : Files) (
 abbrev pub SameButLines : (name : List ℕ) → Budgets → Files → Stop → Stop → Type 0
 SameButLines name budgets files s t =
     AnswerAlike s t
-    ⊎ (AreReadings s t × (IsOfLanguage name files s ⊎ IsOfExtension name budgets files s))
+    ⊎ (AreReadings s t × (IsOfCheckedLanguage name files s
+    ⊎ IsOfCheckedExtension name budgets files s))
 
 -- by the name and the files there is one result and one number of tries, but for read faults, out
 -- of memory and such readings
@@ -67,9 +70,10 @@ ChecksAgree =
 
 -- one of the extensions that are reached has a rule that is sound by nothing, and the stop is about
 -- this rule, in the file of that extension
-pub record HasUnsoundRule (name : List ℕ) (budgets : Budgets) (files : Files) (stop : Stop) : Type 0
+pub record ReachesUnsoundRule (name : List ℕ) (budgets : Budgets) (files : Files)
+    (stop : Stop) : Type 0
   where
-    pub from : IsReached name files
+    pub from : AreReachedFrom name files
     pub unsound : StopsAtUnsound (base_in from.language) budgets from.extensions stop
 
 -- a check stops with a type error only where the rule that the stop is about is not sound
@@ -77,4 +81,4 @@ abbrev pub UnsoundChecksAreFinal : Type 0
 UnsoundChecksAreFinal =
     (name : List ℕ) (budgets : Budgets) (files : Files) (stop : Stop) (tries : ℕ) →
     ChecksExtension name budgets files (Err (errors.Stopped stop)) tries → IsTypeError stop →
-    HasUnsoundRule name budgets files stop
+    ReachesUnsoundRule name budgets files stop

@@ -32,7 +32,7 @@ fn put_entry(
     into: &mut Vec<u8>,
 ) -> Result<(), NoMemory>
     ensures { OnOk result (into.new.items ≡ into.old.items
-        ++ 32 ∷ text.entry_text (rules_in rules.now) (view.entry entry)) }
+        ++ 32 ∷ text.certificate_entry_text (rules_in rules.now) (view.entry entry)) }
 {
     into.push(b' ')?;
     match entry {

@@ -4,7 +4,7 @@ use Rattle.std.specs.Prelude.{Result, Ok, Err}
 use Rattle.sx_outside.specs.Files.{Files}
 use Rattle.sx_imports.specs.Walk.{Name}
 use Rattle.sx_steps.specs.Agree.{IsNoReadFault, AnswersBy}
-use Rattle.sx_steps.specs.Steps.{Goes}
+use Rattle.sx_steps.specs.Steps.{StepsGo}
 use Rattle.sx_steps.specs.declared.stop.Stop.{Stop}
 use Rattle.sx_steps.specs.declared.step_error.StepError.TheVariants as errors
 use Rattle.sx_steps.proofs.Ones.{IsOne, as_answer, then_one, ok_same, err_same, ok_no_err}
@@ -14,7 +14,7 @@ use Rattle.sx_headers.specs.ReadModule.{Module}
 use Rattle.sx_headers.proofs.OneHeaders.{reads_module_one}
 use Rattle.sx_closure.specs.Laws.{ModulesAgree}
 use Rattle.sx_headers.specs.ModuleFiles.{module_file}
-use Rattle.sx_closure.specs.ReadImport.{ReadsNamed, HasSameLanguage, ReadsImport}
+use Rattle.sx_closure.specs.ReadImport.{ReadsNamed, HasSameLanguage, ReadsImportedModule}
 use Rattle.sx_closure.specs.ReadModules.{imports_of, ReachesModules, ReadsModules}
 
 -- ---- the file of a module
@@ -30,7 +30,7 @@ language_one language name given (Err s) (Ok y) h k n m = absurd (h.0 k.0)
 language_one language name given (Err s) (Err t) h k n m = ap Err (h.1 ∙ sym k.1)
 
 import_one : (language : List ℕ) (files : Files) (name : Name) →
-    IsOne (ReadsImport language files name)
+    IsOne (ReadsImportedModule language files name)
 import_one language files name =
     then_one (ReadsNamed files name) (HasSameLanguage language name) (named_one files name)
     (λ given reads. language_one language name given)
@@ -44,7 +44,7 @@ module _ (name : Name) (files : Files) where
   next_alike : (root : Module) (x y : Result (List Module) Stop) → Next root x → Next root y →
       IsNoReadFault x → IsNoReadFault y → AnswersBy AnswerAlike (as_answer x) (as_answer y)
   next_alike root x y h k n m =
-      reaches_alike imports_of (ReadsImport root.header.language files)
+      reaches_alike imports_of (ReadsImportedModule root.header.language files)
       (import_one root.header.language files) (module_file name) (name ∷ []) x y h k n m
 
   no_fault_as : (x : Result (List Module) Stop) (s : Stop) → x ≡ Err s → IsNoReadFault x →
@@ -59,7 +59,7 @@ module _ (name : Name) (files : Files) where
       alike_same a b (err_same a s e ∙ same ∙ sym (err_same b t f))
 
   by_given : (g k : Result Module Stop) (x y : Result (List Module) Stop) →
-      ReadsNamed files name g → ReadsNamed files name k → Goes Next g x → Goes Next k y →
+      ReadsNamed files name g → ReadsNamed files name k → StepsGo Next g x → StepsGo Next k y →
       IsNoReadFault x → IsNoReadFault y → AnswersBy AnswerAlike (as_answer x) (as_answer y)
   by_given (Ok a) (Ok b) x y f e h j n m =
       let same = ok_same a b (named_one files name (Ok a) (Ok b) f e tt tt) in

@@ -9,7 +9,7 @@ use Rattle.sx_steps.specs.declared.stop.Stop.{Stop}
 use Rattle.sx_steps.specs.declared.step_error.StepError.{StepError}
 use Rattle.sx_steps.proofs.StepsOn.{went}
 use Rattle.sx_walking.specs.Reached.{Reaches}
-use Rattle.sx_walking.specs.Kinds.{IsSound, AreFilesReached}
+use Rattle.sx_walking.specs.Kinds.{IsFileSound, AreFilesReached}
 use Rattle.sx_walking.specs.Laws.{AreVisited}
 use Rattle.sx_walking.proofs.Coming.{VisitsNamed, reached_first}
 use Rattle.sx_walking.proofs.FewFiles.{reached_few}
@@ -17,10 +17,10 @@ use Rattle.sx_walking.proofs.Lasting.{reached_last}
 use Rattle.sx_headers.specs.declared.module_file.ModuleFile.{ModuleFile}
 use Rattle.sx_headers.specs.ReadModule.{Module}
 use Rattle.sx_closure.specs.Closures.{HaveLanguage, IsClosure}
-use Rattle.sx_closure.specs.Laws.{AreRead, ModulesAreClosure}
+use Rattle.sx_closure.specs.Laws.{AreModulesRead, ModulesAreClosure}
 use Rattle.sx_headers.specs.ModuleFiles.{module_file}
 use Rattle.sx_closure.specs.ModuleKind.{modules_with}
-use Rattle.sx_closure.specs.ReadImport.{ReadsNamed, ReadsImport}
+use Rattle.sx_closure.specs.ReadImport.{ReadsNamed, ReadsImportedModule}
 use Rattle.sx_closure.specs.ReadModules.{module_name, imports_of, ReachesModules, modules_of}
 use Rattle.sx_closure.proofs.Walks.{import_read, import_named, import_language}
 
@@ -106,7 +106,7 @@ module _ (Comes : Name → Result Module Stop → Type 0) (named : VisitsNamed m
 sound_closure : (language : List ℕ) (name : Name) (file : List ℕ) (ms : List Module) →
     AreFilesReached (modules_with language) file (name ∷ []) ms → IsClosure name ms
 sound_closure language name file ms reads =
-    closure_by (IsSound (modules_with language)) (λ n m h. h.0) language
+    closure_by (IsFileSound (modules_with language)) (λ n m h. h.0) language
     (λ n m h. (bytes_eq-Decides m.header.language language).0 h.1) name file ms reads
 
 sought_closure : (language : List ℕ) (name : Name) (file : List ℕ) (roots : List Name)
@@ -127,20 +127,20 @@ sought_good language name file roots (Err e) of_roots reads = tt
 -- ---- by the files
 
 module _ (language : List ℕ) (files : Files) where
-  visits_named : VisitsNamed module_name (ReadsImport language files)
+  visits_named : VisitsNamed module_name (ReadsImportedModule language files)
   visits_named n m h = import_named language files n m h
 
-  all_read : (ms : List Module) → AreVisited module_name (ReadsImport language files) ms →
-      AreRead files ms
+  all_read : (ms : List Module) → AreVisited module_name (ReadsImportedModule language files) ms →
+      AreModulesRead files ms
   all_read [] h = tt
   all_read (m ∷ ms) h = (import_read language files (module_name m) m h.0, all_read ms h.1)
 
   reached_closure : (name : Name) (ms : List Module) → ReachesModules language name files (Ok ms) →
-      IsClosure name ms × AreRead files ms
+      IsClosure name ms × AreModulesRead files ms
   reached_closure name ms reads = (
-    closure_by (ReadsImport language files) visits_named language
+    closure_by (ReadsImportedModule language files) visits_named language
         (λ n m h. import_language language files n m h) name (module_file name) ms reads,
-    all_read ms (reached_first module_name imports_of (ReadsImport language files) visits_named
+    all_read ms (reached_first module_name imports_of (ReadsImportedModule language files) visits_named
         (module_file name) (name ∷ []) ms reads).1,
   )
 

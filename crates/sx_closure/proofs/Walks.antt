@@ -6,7 +6,7 @@ use Rattle.sx_outside.specs.Files.{Files}
 use Rattle.sx_imports.specs.Walk.{Name}
 use Rattle.sx_steps.specs.Held.{Held}
 use Rattle.sx_term.specs.Limits.{most_bytes}
-use Rattle.sx_steps.specs.Steps.{Goes}
+use Rattle.sx_steps.specs.Steps.{StepsGo}
 use Rattle.sx_steps.specs.Stop.{Gives}
 use Rattle.sx_steps.specs.declared.stop.Stop.{Stop}
 use Rattle.sx_steps.specs.declared.step_error.StepError.{StepError}
@@ -17,7 +17,7 @@ use Rattle.sx_walking.proofs.Tables.{unlike}
 use Rattle.sx_headers.specs.ReadModule.{Module, HasHeader, StatesModule}
 use Rattle.sx_headers.specs.ModuleFiles.{module_file}
 use Rattle.sx_closure.specs.ModuleKind.{modules_with}
-use Rattle.sx_closure.specs.ReadImport.{ReadsNamed, HasSameLanguage, ReadsImport}
+use Rattle.sx_closure.specs.ReadImport.{ReadsNamed, HasSameLanguage, ReadsImportedModule}
 use Rattle.sx_closure.specs.ReadModules.{imports_of, ReachesModules}
 
 -- ---- what was read
@@ -41,7 +41,7 @@ read_headed files name m reads =
     w.goes.states.same
 
 module _ (language : List ℕ) (files : Files) (name : Name) (m : Module)
-    (reads : ReadsImport language files name (Ok m)) where
+    (reads : ReadsImportedModule language files name (Ok m)) where
   -- the import is read from its file
   pub import_read : ReadsNamed files name (Ok m)
   import_read =
@@ -66,12 +66,12 @@ module _ (language : List ℕ) where
   has_as name given (Err stop) h = (unlike given.header.language language h.0, h.1)
 
   goes_as : (name : Name) (given r : Result Module Stop) →
-      Goes (FileFits (modules_with language) name) given r → Goes (HasSameLanguage language name) given r
+      StepsGo (FileFits (modules_with language) name) given r → StepsGo (HasSameLanguage language name) given r
   goes_as name (Ok m) r h = has_as name m r h
   goes_as name (Err stop) r h = h
 
   reads_as : (files : Files) (name : Name) (r : Result Module Stop) →
-      Visits (modules_with language) files name r → ReadsImport language files name r
+      Visits (modules_with language) files name r → ReadsImportedModule language files name r
   reads_as files name r h = record {
     given = h.given;
     begins = h.begins;
@@ -83,7 +83,7 @@ module _ (language : List ℕ) where
       Gives view (ReachesBy (modules_with language) (module_file name) (name ∷ []) files) r →
       Gives view (ReachesModules language name files) r
   walk_as view name files r h =
-      gives_as imports_of (Visits (modules_with language) files) (ReadsImport language files)
+      gives_as imports_of (Visits (modules_with language) files) (ReadsImportedModule language files)
       (reads_as files) (module_file name) view (name ∷ []) r h
 
   pub modules_as : {X : Type 0} (view : X → List Module) (name file : Name) (roots : List Name)

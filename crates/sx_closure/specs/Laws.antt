@@ -19,10 +19,10 @@ ModulesAgree = (name : List ℕ) (files : Files) (x y : Result (List Module) Ste
     IsSure x → IsSure y → AnswersBy AnswerAlike x y
 
 -- each of these was read from its file
-abbrev pub AreRead : Files → List Module → Type 0
-AreRead files ms = AllByRecursion (λ m. ReadsNamed files (module_name m) (Ok m)) ms
+abbrev pub AreModulesRead : Files → List Module → Type 0
+AreModulesRead files ms = AllByRecursion (λ m. ReadsNamed files (module_name m) (Ok m)) ms
 
 -- the modules that were read are a closure of the one with this name, and those of their files
 abbrev pub ModulesAreClosure : Type 0
 ModulesAreClosure = (name : List ℕ) (files : Files) (ms : List Module) →
-    ReadsModules name files (Ok ms) → IsClosure name ms × AreRead files ms
+    ReadsModules name files (Ok ms) → IsClosure name ms × AreModulesRead files ms

@@ -25,5 +25,6 @@ HasSameLanguage language name given (Err stop) = (given.header.language ≢ lang
     (stop ≡ language_differs (module_file name) given.header.language)
 
 -- the file of the module with this name, which is to have the language
-abbrev pub ReadsImport : (language : List ℕ) → Files → List ℕ → Result Module Stop → Type 0
-ReadsImport language files name = Then (ReadsNamed files name) (HasSameLanguage language name)
+abbrev pub ReadsImportedModule : (language : List ℕ) → Files → List ℕ → Result Module Stop → Type 0
+ReadsImportedModule language files name = Then (ReadsNamed files name)
+    (HasSameLanguage language name)

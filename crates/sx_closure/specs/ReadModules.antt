@@ -9,7 +9,7 @@ use Rattle.sx_walking.specs.Reached.{Reaches}
 use Rattle.sx_headers.specs.declared.module_file.ModuleFile.{ModuleFile}
 use Rattle.sx_headers.specs.ReadModule.{Module, HasHeader, module_of}
 use Rattle.sx_headers.specs.ModuleFiles.{module_file}
-use Rattle.sx_closure.specs.ReadImport.{ReadsNamed, ReadsImport}
+use Rattle.sx_closure.specs.ReadImport.{ReadsNamed, ReadsImportedModule}
 
 -- what was read, without where it lies in memory
 abbrev pub modules_of : Vec ModuleFile → List Module
@@ -32,7 +32,7 @@ pub record IsModuleStated (m : Module) : Type 0 where
 -- language; a cycle, and that there are too many, are told of its file
 abbrev pub ReachesModules : (language name : List ℕ) → Files → Result (List Module) Stop → Type 0
 ReachesModules language name files =
-    Reaches imports_of (ReadsImport language files) (module_file name) (name ∷ [])
+    Reaches imports_of (ReadsImportedModule language files) (module_file name) (name ∷ [])
 
 -- so from the file of the one with this name, whose language all have
 abbrev pub ReadsModules : (name : List ℕ) → Files → Result (List Module) Stop → Type 0

@@ -32,11 +32,11 @@ use Rattle.sx_compiling.specs.Laws.{SameButShown as UnitShown}
 use Rattle.sx_compiling.specs.MakeUnit.{MakesUnit}
 use Rattle.sx_headers.specs.ModuleFiles.{module_file}
 use Rattle.sx_compile.specs.AuditedPlans.{audited_plan, AuditsUnit}
-use Rattle.sx_compile.specs.CompileModule.{given_in, CompilesGiven, CompilesOver, CompilesFew}
+use Rattle.sx_compile.specs.CompileModule.{given_to_compile, CompilesGiven, CompilesOver, CompilesFew}
 use Rattle.sx_compile.specs.CompileModule.{CompilesOthers, CompilesRead}
 use Rattle.sx_compile.specs.Found.{IsModule, IsModuleFound, given_from}
 use Rattle.sx_compile.specs.Imports.{ImportsOthers, ImportsFew}
-use Rattle.sx_compile.specs.Laws.{SameButShown, CompilesAgree}
+use Rattle.sx_compile.specs.Laws.{CompilesAlikeButShown, CompilesAgree}
 use Rattle.sx_compile.proofs.FoundModules.{language_of}
 
 -- ---- steps
@@ -69,7 +69,7 @@ audits_one once name rules auditors unit =
 module _ (units : UnitsAgree) (once : ShowsOnce) (name : List ℕ) (budgets : Budgets)
     (auditors : List Meaning) (files : Files) where
   abbrev Related : Stop → Stop → Type 0
-  Related = SameButShown name budgets files
+  Related = CompilesAlikeButShown name budgets files
 
   same_alike : (s t : Stop) → s ≡ t → Related s t
   same_alike s t e = inl (record { status = ap status_of e; line = ap line_of e })
@@ -100,7 +100,7 @@ module _ (units : UnitsAgree) (once : ShowsOnce) (name : List ℕ) (budgets : Bu
         IsOneBy Related (CompilesOver name budgets auditors files m.read l)
     over_by l states =
         and_then_by Related (Untried (ReadsImports files m.read.header.imports))
-        (λ imports. CompilesGiven name budgets auditors files (given_in name m.read l imports))
+        (λ imports. CompilesGiven name budgets auditors files (given_to_compile name m.read l imports))
         (trying_same Related alike NoTries (ReadsImports files m.read.header.imports) no_tries_one
         (reads_imports_one files m.read.header.imports))
         (λ imports before h. given_by (record {
@@ -162,9 +162,9 @@ module _ (units : UnitsAgree) (once : ShowsOnce) (name : List ℕ) (budgets : Bu
 
 pub compiles_agree : UnitsAgree → ShowsOnce → CompilesAgree
 compiles_agree units once name budgets auditors files =
-    and_then_by (SameButShown name budgets files)
+    and_then_by (CompilesAlikeButShown name budgets files)
     (Untried (ReadsModule (module_file name) name files)) (CompilesRead name budgets auditors files)
-    (trying_same (SameButShown name budgets files) (alike units once name budgets auditors files)
+    (trying_same (CompilesAlikeButShown name budgets files) (alike units once name budgets auditors files)
     NoTries (ReadsModule (module_file name) name files) no_tries_one
     (reads_module_one (module_file name) name files))
     (λ m before h. read_by units once name budgets auditors files m h.0)

@@ -15,7 +15,7 @@ use Rattle.sx_compiling.specs.Reached.{HasDialect}
 use Rattle.sx_compiling.proofs.StepTries.{Most, untried_most, most_untried, passed}
 use Rattle.sx_compiling.proofs.StepTries.{began}
 use Rattle.sx_compile.specs.AuditedPlans.{AuditsUnit}
-use Rattle.sx_compile.specs.CompileModule.{given_in, CompilesGiven, CompilesOver, CompilesFew}
+use Rattle.sx_compile.specs.CompileModule.{given_to_compile, CompilesGiven, CompilesOver, CompilesFew}
 use Rattle.sx_compile.specs.CompileModule.{CompilesOthers, CompilesRead, CompilesModule}
 use Rattle.sx_compile.specs.Found.{IsModule, IsModuleFound, given_from}
 use Rattle.sx_compile.specs.Imports.{ImportsOthers, ImportsFew}
@@ -52,7 +52,7 @@ module _ (units : UnitsWithin) (name : List ℕ) (budgets : Budgets) (auditors :
       untried_most (ReadsLanguage m.read.header.language files)
       (CompilesOver name budgets auditors files m.read) most
       (λ l states. untried_most (ReadsImports files m.read.header.imports)
-      (λ imports. CompilesGiven name budgets auditors files (given_in name m.read l imports)) most
+      (λ imports. CompilesGiven name budgets auditors files (given_to_compile name m.read l imports)) most
       (λ imports imported. given_most (found_so m l states imports imported)))
 
   all_most : Most (CompilesModule name budgets auditors files) most
@@ -81,7 +81,7 @@ module _ (units : UnitsWithin) (name : List ℕ) (budgets : Budgets) (auditors :
       (CompilesOver name budgets auditors files m) plan tries few.goes in
       let l = over.given in
       let imports = passed (ReadsImports files m.header.imports)
-      (λ imports. CompilesGiven name budgets auditors files (given_in name m l imports)) plan tries
+      (λ imports. CompilesGiven name budgets auditors files (given_to_compile name m l imports)) plan tries
       over.goes in
       let f : IsModuleFound name files = record {
         from = record {

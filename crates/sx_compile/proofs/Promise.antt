@@ -22,7 +22,7 @@ use Rattle.sx_compiling.proofs.MadeUnits.{units_keep_promise}
 use Rattle.sx_compile.specs.AuditedPlans.{audited_plan, AuditsUnit}
 use Rattle.sx_compile.specs.CompiledModule.{CompiledModule, CompilesKeepPromise}
 use Rattle.sx_compile.specs.CompiledModule.{CompiledHasHeadline}
-use Rattle.sx_compile.specs.CompileModule.{given_in, CompilesGiven, CompilesOver, CompilesFew}
+use Rattle.sx_compile.specs.CompileModule.{given_to_compile, CompilesGiven, CompilesOver, CompilesFew}
 use Rattle.sx_compile.specs.CompileModule.{CompilesOthers, CompilesRead}
 use Rattle.sx_compile.specs.Found.{IsModuleFound, given_from}
 use Rattle.sx_compile.specs.Imports.{ImportsOthers, ImportsFew}
@@ -67,9 +67,9 @@ compiles_keep_promise name budgets auditors old new plan tries compiled files_ar
     (CompilesOver name budgets auditors old m) plan few.after few.goes in
     let l = over.given in
     let imports = went_on (Untried (ReadsImports old m.header.imports))
-    (λ imports. CompilesGiven name budgets auditors old (given_in name m l imports)) plan over.after
+    (λ imports. CompilesGiven name budgets auditors old (given_to_compile name m l imports)) plan over.after
     over.goes in
-    let g = given_in name m l imports.given in
+    let g = given_to_compile name m l imports.given in
     let made = went_on (MakesUnit budgets old g)
     (λ unit. Untried (AuditsUnit name l.language.rules auditors unit)) plan imports.after
     imports.goes in

@@ -26,7 +26,7 @@ use Rattle.sx_walking.specs.Reached.{too_many_files}
 use Rattle.sx_accepting.specs.ReadLanguage.{Stated, ReadsLanguage}
 use Rattle.sx_accepting.proofs.TypeErrors.{reads_language_final}
 use Rattle.sx_auditing.specs.Shows.{Shows, objection}
-use Rattle.sx_headers.specs.HeaderStops.{bad_header, other_version}
+use Rattle.sx_headers.specs.HeaderStops.{bad_header, version_stop}
 use Rattle.sx_headers.specs.ReadInterface.{HeldInterface, StatesParts, ReadsInterface}
 use Rattle.sx_headers.specs.ReadModule.{Module, StatesModule, ReadsModule}
 use Rattle.sx_importing.specs.Each.{GivesNext, GivesAfter}
@@ -36,7 +36,7 @@ use Rattle.sx_compiling.specs.Laws.{TypeErrorsOfUnitsAreFinal as UnitsFinal}
 use Rattle.sx_compiling.specs.MakeUnit.{MakesUnit}
 use Rattle.sx_headers.specs.ModuleFiles.{module_file}
 use Rattle.sx_compile.specs.AuditedPlans.{audited_plan, AuditsUnit}
-use Rattle.sx_compile.specs.CompileModule.{given_in, CompilesGiven, CompilesOver, CompilesFew}
+use Rattle.sx_compile.specs.CompileModule.{given_to_compile, CompilesGiven, CompilesOver, CompilesFew}
 use Rattle.sx_compile.specs.CompileModule.{CompilesOthers, CompilesRead}
 use Rattle.sx_compile.specs.Found.{IsModule, IsModuleFound, given_from}
 use Rattle.sx_compile.specs.Imports.{ImportsOthers, ImportsFew}
@@ -70,7 +70,7 @@ module _ (Q : Stop → Type 0) where
   parts_final file name bytes stop (inl h) =
       no_type_error Q (not_utf8 file (utf8_valid_len bytes)) stop (λ h. h) h.1
   parts_final file name bytes stop (inr (utf8, inl h)) =
-      no_type_error Q (other_version file h.0) stop (λ h. h) h.2
+      no_type_error Q (version_stop file h.0) stop (λ h. h) h.2
   parts_final file name bytes stop (inr (utf8, inr h)) =
       no_type_error Q (bad_header file h.1.0) stop (λ h. h) h.1.2
 
@@ -132,7 +132,7 @@ module _ (units : UnitsFinal) (name : List ℕ) (budgets : Budgets) (auditors : 
         FinalTrying Q (CompilesOver name budgets auditors files m.read l)
     over_final l states =
         and_then_final Q (Untried (ReadsImports files m.read.header.imports))
-        (λ imports. CompilesGiven name budgets auditors files (given_in name m.read l imports))
+        (λ imports. CompilesGiven name budgets auditors files (given_to_compile name m.read l imports))
         (trying_final Q NoTries (ReadsImports files m.read.header.imports)
         (after_final Q files [] m.read.header.imports))
         (λ imports before h. given_final (record {

@@ -9,15 +9,15 @@ use Rattle.sx_steps.specs.Work.{Plan}
 use Rattle.sx_accepting.specs.ReadLanguage.{Stated, ReadsLanguage}
 use Rattle.sx_headers.specs.ReadModule.{Module, ReadsModule}
 use Rattle.sx_importing.specs.ReadImports.{ImportData, ReadsImports}
-use Rattle.sx_compiling.specs.Given.{Given}
+use Rattle.sx_compiling.specs.Given.{GivenModule}
 use Rattle.sx_compiling.specs.MakeUnit.{MakesUnit}
 use Rattle.sx_headers.specs.ModuleFiles.{module_file}
 use Rattle.sx_compile.specs.AuditedPlans.{AuditsUnit}
 use Rattle.sx_compile.specs.Imports.{ImportsOthers, ImportsFew}
 
 -- what the module with this name is made from
-abbrev pub given_in : (name : List ℕ) → Module → Stated → List ImportData → Given
-given_in name m l imports = record {
+abbrev pub given_to_compile : (name : List ℕ) → Module → Stated → List ImportData → GivenModule
+given_to_compile name m l imports = record {
   file = module_file name;
   read = m;
   language = l;
@@ -25,7 +25,7 @@ given_in name m l imports = record {
 }
 
 -- its unit is made, and then shown to the auditors
-abbrev pub CompilesGiven : (name : List ℕ) → Budgets → List Meaning → Files → Given →
+abbrev pub CompilesGiven : (name : List ℕ) → Budgets → List Meaning → Files → GivenModule →
     Result Plan StepError → ℕ → Type 0
 CompilesGiven name budgets auditors files g =
     AndThen (MakesUnit budgets files g)
@@ -36,7 +36,7 @@ abbrev pub CompilesOver : (name : List ℕ) → Budgets → List Meaning → Fil
     Result Plan StepError → ℕ → Type 0
 CompilesOver name budgets auditors files m l =
     AndThen (Untried (ReadsImports files m.header.imports))
-    (λ imports. CompilesGiven name budgets auditors files (given_in name m l imports))
+    (λ imports. CompilesGiven name budgets auditors files (given_to_compile name m l imports))
 
 -- the language that the header names, and then the imports
 abbrev pub CompilesFew : (name : List ℕ) → Budgets → List Meaning → Files → Module →

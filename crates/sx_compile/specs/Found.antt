@@ -4,9 +4,9 @@ use Rattle.sx_outside.specs.Files.{Files}
 use Rattle.sx_accepting.specs.ReadLanguage.{Stated, ReadsLanguage}
 use Rattle.sx_headers.specs.ReadModule.{Module, ReadsModule}
 use Rattle.sx_importing.specs.ReadImports.{ImportData, ReadsImports}
-use Rattle.sx_compiling.specs.Given.{Given}
+use Rattle.sx_compiling.specs.Given.{GivenModule}
 use Rattle.sx_headers.specs.ModuleFiles.{module_file}
-use Rattle.sx_compile.specs.CompileModule.{given_in}
+use Rattle.sx_compile.specs.CompileModule.{given_to_compile}
 
 -- the module in its file, which imports at most 255 others
 pub record IsModule (name : List ℕ) (files : Files) : Type 0 where
@@ -24,5 +24,5 @@ pub record IsModuleFound (name : List ℕ) (files : Files) : Type 0 where
   pub imported : ReadsImports files from.read.header.imports (Ok imports)
 
 -- what its unit is made from
-abbrev pub given_from : {name : List ℕ} {files : Files} → IsModuleFound name files → Given
-given_from {name = name} f = given_in name f.from.read f.language f.imports
+abbrev pub given_from : {name : List ℕ} {files : Files} → IsModuleFound name files → GivenModule
+given_from {name = name} f = given_to_compile name f.from.read f.language f.imports

@@ -20,21 +20,21 @@ use Rattle.sx_compile.specs.Found.{IsModule, IsModuleFound, given_from}
 -- ---- one result
 
 -- the stop is that of the file of the language, about a line that has more than two readings
-pub record IsOfLanguage (name : List ℕ) (files : Files) (stop : Stop) : Type 0 where
+pub record IsOfCompiledLanguage (name : List ℕ) (files : Files) (stop : Stop) : Type 0 where
   pub from : IsModule name files
   pub stops : StopsAtLanguage from.read.header.language files stop
 
 -- the text of which the stop shows two readings is one that has more than two: a line of the
 -- language's file, or a text of the unit's module, of its imports or of its extensions
-abbrev pub ShowsFree : (name : List ℕ) → Budgets → Files → Stop → Type 0
-ShowsFree name budgets files s = IsOfLanguage name files s
+abbrev pub CompileShowsFree : (name : List ℕ) → Budgets → Files → Stop → Type 0
+CompileShowsFree name budgets files s = IsOfCompiledLanguage name files s
     ⊎ ((f : IsModuleFound name files) × ShowsFreeOfUnit budgets files (given_from f) s)
 
 -- the stops give the same status and the same line, but for the two readings that they show of one
 -- such text
-abbrev pub SameButShown : (name : List ℕ) → Budgets → Files → Stop → Stop → Type 0
-SameButShown name budgets files s t =
-    AnswerAlike s t ⊎ (AreReadings s t × ShowsFree name budgets files s)
+abbrev pub CompilesAlikeButShown : (name : List ℕ) → Budgets → Files → Stop → Stop → Type 0
+CompilesAlikeButShown name budgets files s t =
+    AnswerAlike s t ⊎ (AreReadings s t × CompileShowsFree name budgets files s)
 
 -- by the name, the budgets, the auditors and the files there is one result and one number of tries,
 -- but for read faults, out of memory and such readings
@@ -43,7 +43,7 @@ CompilesAgree =
     (name : List ℕ) (budgets : Budgets) (auditors : List Meaning) (files : Files)
     (a b : Result Plan StepError) (m n : ℕ) → CompilesModule name budgets auditors files a m →
     CompilesModule name budgets auditors files b n → IsSure a → IsSure b →
-    AnswersBy (SameButShown name budgets files) a b × (m ≡ n)
+    AnswersBy (CompilesAlikeButShown name budgets files) a b × (m ≡ n)
 
 -- ---- type errors
 

@@ -12,7 +12,7 @@ use Rattle.sx_notation.specs.declared.unread.Unread.TheVariants as unread
 use Rattle.sx_typing.specs.Dialects.{IsDialect}
 use Rattle.sx_typing.specs.declared.module_error.ModuleError.{ModuleError}
 use Rattle.sx_typing.specs.declared.module_error.ModuleError.TheVariants as module_error
-use Rattle.sx_unit.specs.Alike.{AreAlike}
+use Rattle.sx_unit.specs.Alike.{AreUnitsAlike}
 use Rattle.sx_unit.specs.Modules.{ModuleData}
 use Rattle.sx_unit.specs.Written.{UnitData}
 use Rattle.sx_unit.proofs.OneUnit.{one_unit}
@@ -45,9 +45,9 @@ use Rattle.sx_importing.specs.MakeEnvironment.{SeesImports}
 use Rattle.sx_importing.proofs.OneImports.{sees}
 use Rattle.sx_compiling.specs.ModuleStops.{module_stop}
 use Rattle.sx_compiling.specs.CompileModule.{Compiles, CompilingTries}
-use Rattle.sx_compiling.specs.Given.{Given, interfaces_in, seen_in}
+use Rattle.sx_compiling.specs.Given.{GivenModule, interfaces_in, seen_in}
 use Rattle.sx_compiling.specs.MakeUnit.{MakesIn, MakesSeeing, MakesExtended, MakesReached}
-use Rattle.sx_compiling.specs.Reached.{HasNamedLanguage, IsReached, HasDialect}
+use Rattle.sx_compiling.specs.Reached.{HasNamedLanguage, ReachesExtensions, HasDialect}
 use Rattle.sx_compiling.specs.Reached.{HasGround, seen_over, module_over}
 use Rattle.sx_compiling.specs.Laws.{ShowsOfThree, SameButShown, UnitsAgree}
 use Rattle.sx_compiling.proofs.MadeUnits.{dialect_by, dialect_is}
@@ -69,7 +69,7 @@ module _ (file : List ℕ) (m : ModuleData) (b : Budgets) where
         subst (λ (z : Stop). ShowsOfThree m b z.refusal.defect) (some_same x s h) three,
       )
 
-  alike_same : (e d : ModuleError) (s t : Stop) → AreAlike m b e d → module_stop file e ≡ Some s →
+  alike_same : (e d : ModuleError) (s t : Stop) → AreUnitsAlike m b e d → module_stop file e ≡ Some s →
       module_stop file d ≡ Some t → AreSame s t
   alike_same e d s t (inl same) h k =
       inl (same_refusal (module_stop file) module_error.Memory refl e d s t same h k)
@@ -95,7 +95,7 @@ file_is its import it is =
 
 -- ---- the steps
 
-module _ (headers : OneHeaderAnswer) (budgets : Budgets) (files : Files) (g : Given)
+module _ (headers : OneHeaderAnswer) (budgets : Budgets) (files : Files) (g : GivenModule)
     (l : HasNamedLanguage g) where
   abbrev Related : Stop → Stop → Type 0
   Related = SameButShown budgets files g
@@ -180,7 +180,7 @@ module _ (headers : OneHeaderAnswer) (budgets : Budgets) (files : Files) (g : Gi
         }))
 
   -- the extensions
-  module _ (r : IsReached files g) where
+  module _ (r : ReachesExtensions files g) where
     abbrev SameExtending : Stop → Stop → Type 0
     SameExtending = SameButReadings (StopsAtExtension (base_in g.language) budgets
         (unextended g.language.language) r.extensions)

@@ -6,7 +6,7 @@ use Rattle.sx_grammar.specs.Tables.{literals_of}
 use Rattle.sx_rules.specs.Views.{NamedRule}
 use Rattle.sx_derive.proofs.FewNodes.{tries_within}
 use Rattle.sx_extcheck.specs.declared.budgets.Budgets.{Budgets}
-use Rattle.sx_typing.specs.Goals.{goal_events}
+use Rattle.sx_typing.specs.Goals.{source_events}
 use Rattle.sx_typing.specs.Refused.{HasWalked}
 use Rattle.sx_typing.specs.BodySource.{BodySource}
 use Rattle.sx_unit.specs.Written.{UnitData}
@@ -23,10 +23,10 @@ use Rattle.sx_accepting.specs.ReadLanguage.{base_in}
 use Rattle.sx_headers.specs.FreeImports.{HasFreeImports}
 use Rattle.sx_importing.specs.MakeEnvironment.{SeesImports}
 use Rattle.sx_compiling.specs.CompileModule.{Compiles, CompilingTries}
-use Rattle.sx_compiling.specs.Given.{Given, interfaces_in, seen_in, module_seen}
+use Rattle.sx_compiling.specs.Given.{GivenModule, interfaces_in, seen_in, module_seen}
 use Rattle.sx_compiling.specs.MakeUnit.{MakesIn, MakesSeeing, MakesExtended, MakesReached}
 use Rattle.sx_compiling.specs.MakeUnit.{MakesUnit}
-use Rattle.sx_compiling.specs.Reached.{HasNamedLanguage, IsReached, HasDialect}
+use Rattle.sx_compiling.specs.Reached.{HasNamedLanguage, ReachesExtensions, HasDialect}
 use Rattle.sx_compiling.specs.Laws.{UnitsWalksAreWithin}
 use Rattle.sx_compiling.proofs.MadeUnits.{dialect_by}
 use Rattle.sx_compiling.proofs.RuleTries.{sum_within, one_budget, more_within, Within}
@@ -36,12 +36,12 @@ use Rattle.sx_compiling.proofs.StepTries.{Most, trying_most, untried_most, passe
 -- the tries of a walk are at most those that it may spend
 within_budget : (s : BodySource) (budget tries : ℕ) → HasWalked s budget tries → tries ≤ budget
 within_budget s budget tries (inl walked) =
-    let few = tries_within None budget (goal_events s walked.0.subject) in
+    let few = tries_within None budget (source_events s walked.0.subject) in
     let is = walked.1 in
     omega arith
 within_budget s budget tries (inr none) = let is = none.1 in omega arith
 
-module _ (budgets : Budgets) (files : Files) (g : Given) (l : HasNamedLanguage g) where
+module _ (budgets : Budgets) (files : Files) (g : GivenModule) (l : HasNamedLanguage g) where
   seeing_most : (s : SeenFrom) → Most (MakesSeeing budgets g s) budgets.tries
   seeing_most s =
       untried_most (SeesImports g.file s (interfaces_in g)) (MakesIn budgets g s) budgets.tries
@@ -67,7 +67,7 @@ module _ (budgets : Budgets) (files : Files) (g : Given) (l : HasNamedLanguage g
   as_one : (n : ℕ) → n ≤ budgets.tries → n ≤ 1 * budgets.tries
   as_one n h = subst (λ (most : ℕ). n ≤ most) (sym (one_budget budgets.tries)) h
 
-  module _ (r : IsReached files g) where
+  module _ (r : ReachesExtensions files g) where
     abbrev extending : Result ExtendedData StepError → ℕ → Type 0
     extending = ExtendsLanguage (base_in g.language) budgets r.extensions start
 
@@ -117,7 +117,7 @@ module _ (budgets : Budgets) (files : Files) (g : Given) (l : HasNamedLanguage g
   -- what is reached so
   abbrev reached_so : HasFreeImports g.file (literals_of g.language.language.parts) g.read
       (Ok tt) → (xs : List Extension) →
-      ReadsUses g.file g.read.header.language g.read.header.uses files (Ok xs) → IsReached files g
+      ReadsUses g.file g.read.header.language g.read.header.uses files (Ok xs) → ReachesExtensions files g
   reached_so free xs reached = record { free = free; extensions = xs; reached = reached }
 
   all_most_from : Most (MakesUnit budgets files g) (4097 * budgets.tries)

@@ -5,14 +5,14 @@ use Rattle.sx_interface.specs.declared.import.Import.{Import}
 use Rattle.sx_accepting.specs.ReadLanguage.{Stated}
 use Rattle.sx_headers.specs.ReadModule.{Module}
 use Rattle.sx_importing.specs.ReadImports.{ImportData, import_of}
-use Rattle.sx_compiling.specs.Given.{Given}
+use Rattle.sx_compiling.specs.Given.{GivenModule}
 
 -- the data of imports that were read
 abbrev pub imports_of : Vec Import Global → List ImportData
 imports_of imports = map import_of imports.items
 
 -- what is given
-abbrev pub given_with : Module → Stated → (file : List ℕ) → List Import → Given
+abbrev pub given_with : Module → Stated → (file : List ℕ) → List Import → GivenModule
 given_with m l file imports = record {
   file = file;
   read = m;

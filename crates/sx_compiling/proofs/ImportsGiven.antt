@@ -2,19 +2,19 @@
 use Rattle.std.proofs.Common.{◌≡◌, List, [], ◌∷◌, map, refl, ap}
 use Rattle.std.specs.List.{AllByRecursion}
 use Rattle.sx_grammar.specs.Grammar.{Text}
-use Rattle.sx_interface.specs.Interfaces.{InterfaceParts, Mark}
+use Rattle.sx_interface.specs.Interfaces.{InterfaceParts, MarkData}
 use Rattle.sx_interface.specs.InterfaceView.{interface_view}
 use Rattle.sx_interface.specs.StatedHeader.{ArePlainNames}
 use Rattle.sx_interface.specs.declared.import.Import.{Import}
 use Rattle.sx_interface.specs.FreeNames.{AreFree}
 use Rattle.sx_unit.specs.Modules.{mark}
 use Rattle.sx_environment.specs.SeenFrom.{HasFreeName, interfaces_of}
-use Rattle.sx_importing.specs.ReadImports.{import_of, mark_of}
+use Rattle.sx_importing.specs.ReadImports.{import_of, import_mark}
 
 -- the rows of the imports are those of their data
-pub marks_same : (imports : List Import) → map mark imports ≡ map mark_of (map import_of imports)
+pub marks_same : (imports : List Import) → map mark imports ≡ map import_mark (map import_of imports)
 marks_same [] = refl
-marks_same (i ∷ imports) = ap (λ (marks : List Mark). mark i ∷ marks) (marks_same imports)
+marks_same (i ∷ imports) = ap (λ (marks : List MarkData). mark i ∷ marks) (marks_same imports)
 
 -- so are their interfaces
 pub parts_same : (imports : List Import) →

@@ -12,8 +12,8 @@ use Rattle.sx_lines.specs.Lines.{Lines, over, line, lines_from}
 use Rattle.sx_lines.specs.Rows.{has_key, EachNew}
 use Rattle.sx_lines.specs.Words.{is_name}
 use Rattle.sx_grammar.proofs.Finding.{is_head, past_head}
-use Rattle.sx_interface.specs.Interfaces.{Mark}
-use Rattle.sx_interface.specs.Stated.{IsDigest, IsMark}
+use Rattle.sx_interface.specs.Interfaces.{MarkData}
+use Rattle.sx_interface.specs.Stated.{IsDigest, IsStatedMark}
 use Rattle.sx_interface.specs.StatedHeader.{ArePlainNames}
 use Rattle.sx_outline.specs.declared.outline_error.OutlineError.{OutlineError}
 use Rattle.sx_outline.specs.declared.outline_error.OutlineError.TheVariants.{Notation}
@@ -25,9 +25,9 @@ use Rattle.sx_term.specs.Limits.{most_bytes}
 use Rattle.sx_steps.proofs.Ones.{ok_no_err}
 use Rattle.sx_steps.proofs.StepsOn.{went}
 use Rattle.sx_uses.specs.ExtensionFile.{Extension, extension_file}
-use Rattle.sx_uses.specs.Laws.{use_names, StandsAfterUses, AreRead}
+use Rattle.sx_uses.specs.Laws.{use_names, StandsAfterUses, AreExtensionsRead}
 use Rattle.sx_uses.specs.ReadExtension.{StatesExtension, ReadsFile, IsFor, ReadsExtension}
-use Rattle.sx_importing.specs.ReadImports.{ImportData, mark_of}
+use Rattle.sx_importing.specs.ReadImports.{ImportData, import_mark}
 use Rattle.sx_compiling.specs.Given.{use_mark}
 use Rattle.sx_compiling.proofs.Digests.{digest_is}
 
@@ -56,7 +56,7 @@ extension_name language files name x read =
 
 -- the marks of extensions that are read
 pub uses_are_marks : (language : List ℕ) (files : Files) (xs : List Extension) →
-    AreRead language files xs → AllByRecursion IsMark (map use_mark xs)
+    AreExtensionsRead language files xs → AllByRecursion IsStatedMark (map use_mark xs)
 uses_are_marks language files [] read = tt
 uses_are_marks language files (x ∷ xs) read = (
   record {
@@ -91,7 +91,7 @@ pub uses_are_new : (before xs : List Extension) →
 uses_are_new before [] all = tt
 uses_are_new before (x ∷ xs) all = (
   use_is_new before x.header.name (all before xs x refl).once,
-  subst (λ (seen : List Mark). EachNew (λ m. m.name) seen (map use_mark xs))
+  subst (λ (seen : List MarkData). EachNew (λ m. m.name) seen (map use_mark xs))
       (map-append use_mark before (x ∷ []))
       (uses_are_new (before ++ x ∷ []) xs
       (λ front rest y is. all front rest y (sym (append_assoc before (x ∷ []) xs) ∙ is))),
@@ -104,19 +104,19 @@ abbrev name_of : ImportData → List ℕ
 name_of i = i.parts.name
 
 same_key : (seen : List ImportData) (name : List ℕ) →
-    has_key (λ x. x) (map name_of seen) name ≡ has_key (λ m. m.name) (map mark_of seen) name
+    has_key (λ x. x) (map name_of seen) name ≡ has_key (λ m. m.name) (map import_mark seen) name
 unfolding has_key
 same_key [] name = refl
 same_key (i ∷ seen) name = ap (λ (b : Bool). bytes_eq i.parts.name name || b) (same_key seen name)
 
 imports_after : (seen imports : List ImportData) →
     EachNew (λ x. x) (map name_of seen) (map name_of imports) →
-    EachNew (λ m. m.name) (map mark_of seen) (map mark_of imports)
+    EachNew (λ m. m.name) (map import_mark seen) (map import_mark imports)
 imports_after seen [] new = tt
 imports_after seen (i ∷ imports) new = (
   sym (same_key seen i.parts.name) ∙ new.0,
-  subst (λ (s : List Mark). EachNew (λ m. m.name) s (map mark_of imports))
-      (map-append mark_of seen (i ∷ []))
+  subst (λ (s : List MarkData). EachNew (λ m. m.name) s (map import_mark imports))
+      (map-append import_mark seen (i ∷ []))
       (imports_after (seen ++ i ∷ []) imports
       (subst (λ (s : List (List ℕ)). EachNew (λ x. x) s (map name_of imports))
       (sym (map-append name_of seen (i ∷ []))) new.1)),
@@ -124,20 +124,20 @@ imports_after seen (i ∷ imports) new = (
 
 module _ (names : List (List ℕ)) where
   pub imports_are_new : (imports : List ImportData) → map (λ i. i.parts.name) imports ≡ names →
-      EachNew (λ name. name) [] names → EachNew (λ m. m.name) [] (map mark_of imports)
+      EachNew (λ name. name) [] names → EachNew (λ m. m.name) [] (map import_mark imports)
   imports_are_new imports is new =
       imports_after [] imports
       (subst (λ (ns : List (List ℕ)). EachNew (λ x. x) [] ns) (sym is) new)
 
   marks_of : (imports : List ImportData) → ArePlainNames (map name_of imports) →
       AllByRecursion (λ i. IsDigest i.digest) imports →
-      AllByRecursion IsMark (map mark_of imports)
+      AllByRecursion IsStatedMark (map import_mark imports)
   marks_of [] named digests = tt
   marks_of (i ∷ imports) named digests =
       (record { name = named.0; digest = digests.0 }, marks_of imports named.1 digests.1)
 
   pub imports_are_marks : (imports : List ImportData) → map (λ i. i.parts.name) imports ≡ names →
       ArePlainNames names → AllByRecursion (λ i. IsDigest i.digest) imports →
-      AllByRecursion IsMark (map mark_of imports)
+      AllByRecursion IsStatedMark (map import_mark imports)
   imports_are_marks imports is named =
       marks_of imports (subst ArePlainNames (sym is) named)

@@ -20,9 +20,9 @@ use Rattle.sx_grammar.specs.Parts.{Parts}
 use Rattle.sx_earley.specs.Completed.{IsSort}
 use Rattle.sx_print.proofs.Good.{tokens_good}
 use Rattle.sx_rules.specs.Derivations.{Proof}
-use Rattle.sx_interface.specs.Interfaces.{InterfaceParts, Mark, mark_text, mark_lines}
+use Rattle.sx_interface.specs.Interfaces.{InterfaceParts, MarkData, mark_text, mark_lines}
 use Rattle.sx_interface.specs.Interfaces.{interface_lines}
-use Rattle.sx_interface.specs.Stated.{IsMark, IsInterface, StatesInterface, InterfacesAreWithin}
+use Rattle.sx_interface.specs.Stated.{IsStatedMark, IsInterface, StatesInterface, InterfacesAreWithin}
 use Rattle.sx_interface.proofs.InterfaceLaws.{interface_found}
 use Rattle.sx_interface.proofs.InterfaceRound.{interface_round}
 use Rattle.sx_typing.specs.Body.{ReadsOnly}
@@ -76,7 +76,7 @@ hex_low (b ∷ bytes) (suc (suc i)) = hex_low bytes i
 hex_utf8 : (bytes : List ℕ) → IsUtf8 (encode_lower bytes)
 hex_utf8 bytes = IsUtf8-from_ascii (encode_lower bytes) (hex_low bytes)
 
-mark_utf8 : (m : Mark) → IsMark m → IsUtf8 (mark_text m)
+mark_utf8 : (m : MarkData) → IsStatedMark m → IsUtf8 (mark_text m)
 mark_utf8 m h =
     IsUtf8-append m.name (32 ∷ encode_lower m.digest) (name_utf8 false m.name h.name)
     (IsUtf8-append (32 ∷ []) (encode_lower m.digest) (low_utf8 (32 ∷ []) refl)
@@ -88,8 +88,8 @@ row_utf8 front text low h = IsUtf8-append front text (low_utf8 front low) h
 abbrev AreUtf8 : List (List ℕ) → Type 0
 AreUtf8 lines = AllByRecursion IsUtf8 lines
 
-marks_utf8 : (front : List ℕ) → all_low front ≡ true → (marks : List Mark) →
-    AllByRecursion IsMark marks → (more : List (List ℕ)) → AreUtf8 more →
+marks_utf8 : (front : List ℕ) → all_low front ≡ true → (marks : List MarkData) →
+    AllByRecursion IsStatedMark marks → (more : List (List ℕ)) → AreUtf8 more →
     AreUtf8 (mark_lines front marks ++ more)
 marks_utf8 front low [] h more k = k
 marks_utf8 front low (m ∷ marks) h more k =

@@ -17,12 +17,12 @@ use Rattle.sx_steps.proofs.Ones.{none_some}
 use Rattle.sx_steps.proofs.StepsOn.{went}
 use Rattle.sx_walking.specs.Kinds.{ReachesBy}
 use Rattle.sx_uses.specs.ExtensionFile.{Extension, extension_file}
-use Rattle.sx_uses.specs.Laws.{AreRead}
+use Rattle.sx_uses.specs.Laws.{AreExtensionsRead}
 use Rattle.sx_uses.specs.ReadExtension.{StatesExtension, ReadsFile, IsFor, ReadsExtension}
 use Rattle.sx_uses.specs.ReadUses.{ReadsUses}
 use Rattle.sx_uses.proofs.Coming.{come_first}
 use Rattle.sx_uses.proofs.Walks.{uses_as}
-use Rattle.sx_compiling.specs.KeptFiles.{AreKeptOf, or_else, beside, extensions_beside}
+use Rattle.sx_compiling.specs.KeptFiles.{AreKeptOf, bytes_or, beside, extensions_beside}
 use Rattle.sx_compiling.specs.KeptFiles.{StandsInFile}
 use Rattle.sx_compiling.proofs.SameSteps.{IsAlso, then_as, held_as}
 
@@ -34,7 +34,7 @@ none_kept kept files same name bytes h =
     absurd (none_some bytes (sym (ap (λ (k : Files). k name) same) ∙ h))
 
 or_same : (o p : Option (List ℕ)) → ((bytes : List ℕ) → o ≡ Some bytes → p ≡ Some bytes) →
-    or_else o p ≡ p
+    bytes_or o p ≡ p
 or_same (Some bytes) p h = sym (h bytes refl)
 or_same None p h = refl
 
@@ -42,8 +42,8 @@ pub beside_same : (kept files : Files) → AreKeptOf kept files → beside kept 
 beside_same kept files are = λ i name. or_same (kept name) (files name) (are name) i
 
 pub beside_kept : (kept files : Files) (name : List ℕ) (o : Option (List ℕ)) → kept name ≡ o →
-    beside kept files name ≡ or_else o (files name)
-beside_kept kept files name o h = ap (λ (k : Option (List ℕ)). or_else k (files name)) h
+    beside kept files name ≡ bytes_or o (files name)
+beside_kept kept files name o h = ap (λ (k : Option (List ℕ)). bytes_or k (files name)) h
 
 -- ---- one file more
 
@@ -146,7 +146,7 @@ read_stands language files x reads =
     (sym v.goes.same ∙ ap (λ (y : Extension). y.bytes) (sym w.goes.1))
 
 all_stand : (language : List ℕ) (files : Files) (xs : List Extension) →
-    AreRead language files xs → AllByRecursion (StandsInFile files) xs
+    AreExtensionsRead language files xs → AllByRecursion (StandsInFile files) xs
 all_stand language files [] all = tt
 all_stand language files (x ∷ xs) all =
     (read_stands language files x all.0, all_stand language files xs all.1)

@@ -16,14 +16,14 @@ use Rattle.sx_dialects.specs.Dialects.{dialect_in}
 use Rattle.sx_dialects.proofs.LanguagesBegun.{extended_is_dialect}
 use Rattle.sx_headers.specs.FreeImports.{HasFreeImports}
 use Rattle.sx_importing.specs.MakeEnvironment.{SeesImports}
-use Rattle.sx_compiling.specs.Given.{Given, interfaces_in, seen_in}
+use Rattle.sx_compiling.specs.Given.{GivenModule, interfaces_in, seen_in}
 use Rattle.sx_compiling.specs.Headline.{UnitsKeepPromise}
 use Rattle.sx_compiling.specs.MakeUnit.{MakesIn, MakesSeeing, MakesExtended, MakesReached}
-use Rattle.sx_compiling.specs.Reached.{HasNamedLanguage, IsReached, ExtendsReached, HasDialect}
+use Rattle.sx_compiling.specs.Reached.{HasNamedLanguage, ReachesExtensions, ExtendsReached, HasDialect}
 
 -- what is reached and accepted gives a dialect
-abbrev pub dialect_by : (budgets : Budgets) (files : Files) (g : Given) → HasNamedLanguage g →
-    (r : IsReached files g) (x : ExtendedData) (tries : ℕ) →
+abbrev pub dialect_by : (budgets : Budgets) (files : Files) (g : GivenModule) → HasNamedLanguage g →
+    (r : ReachesExtensions files g) (x : ExtendedData) (tries : ℕ) →
     ExtendsReached budgets files g r (Ok x) tries → HasDialect budgets files g
 dialect_by budgets files g l r x tries extends = record {
   from = r;
@@ -35,7 +35,7 @@ dialect_by budgets files g l r x tries extends = record {
 }
 
 -- the dialect of a module is one
-pub dialect_is : (budgets : Budgets) (files : Files) (g : Given) → HasNamedLanguage g →
+pub dialect_is : (budgets : Budgets) (files : Files) (g : GivenModule) → HasNamedLanguage g →
     (d : HasDialect budgets files g) → IsDialect (dialect_in g.language.language d.extended)
 dialect_is budgets files g l d =
     extended_is_dialect g.read.header.language l.bytes g.language l.states budgets d.from.extensions
@@ -56,7 +56,7 @@ units_keep_promise budgets files g unit tries l made =
     let s = seen_in g xs extended.given in
     let seen = went_on (Untried (SeesImports g.file s (interfaces_in g))) (MakesIn budgets g s) unit
     extended.after extended.goes in
-    let from : IsReached files g = record {
+    let from : ReachesExtensions files g = record {
       free = free.begins.0;
       extensions = xs;
       reached = reached.begins.0;

@@ -9,7 +9,7 @@ use Rattle.sx_steps.specs.declared.step_error.StepError.{StepError}
 use Rattle.sx_steps.specs.declared.step_error.StepError.TheVariants as errors
 use Rattle.sx_steps.specs.Agree.{IsSure, AnswersBy}
 use Rattle.sx_steps.specs.Held.{Held}
-use Rattle.sx_steps.specs.Steps.{Then, Goes, Untried, GoesOn, AndThen}
+use Rattle.sx_steps.specs.Steps.{Then, StepsGo, Untried, GoesOn, AndThen}
 use Rattle.sx_importing.specs.Each.{GivesNext, GivesAfter}
 
 -- ---- steps without tries
@@ -21,7 +21,7 @@ IsAlso {A} first other = (r : Result A Stop) → first r → other r
 module _ {A B : Type 0} (first other : Result A Stop → Type 0)
     (next later : A → Result B Stop → Type 0) (each : IsAlso first other)
     (more : (x : A) → IsAlso (next x) (later x)) where
-  goes_as : (g : Result A Stop) (r : Result B Stop) → Goes next g r → Goes later g r
+  goes_as : (g : Result A Stop) (r : Result B Stop) → StepsGo next g r → StepsGo later g r
   goes_as (Ok x) r h = more x r h
   goes_as (Err stop) r h = h
 

@@ -36,7 +36,7 @@ use Rattle.sx_accepting.specs.Extending.{ExtendsLanguage}
 use Rattle.sx_accepting.specs.ReadLanguage.{base_in}
 use Rattle.sx_accepting.proofs.UnsoundRules.{unsound_is_final}
 use Rattle.sx_headers.specs.FreeImports.{HasFreeImports}
-use Rattle.sx_headers.specs.HeaderRows.{row_line, import_row}
+use Rattle.sx_headers.specs.HeaderRows.{header_row_line, import_row}
 use Rattle.sx_headers.specs.HeaderStops.{bad_header}
 use Rattle.sx_headers.specs.ReadModule.{Module}
 use Rattle.sx_headers.specs.TextStops.{uncut_text, unread_text}
@@ -44,9 +44,9 @@ use Rattle.sx_importing.specs.ImportStops.{import_file, import_stop}
 use Rattle.sx_importing.specs.MakeEnvironment.{SeesImports}
 use Rattle.sx_compiling.specs.ModuleStops.{untyped, module_stop}
 use Rattle.sx_compiling.specs.CompileModule.{Compiles, CompilingTries}
-use Rattle.sx_compiling.specs.Given.{Given, interfaces_in, seen_in}
+use Rattle.sx_compiling.specs.Given.{GivenModule, interfaces_in, seen_in}
 use Rattle.sx_compiling.specs.MakeUnit.{MakesIn, MakesSeeing, MakesExtended, MakesReached}
-use Rattle.sx_compiling.specs.Reached.{HasNamedLanguage, IsReached, HasDialect, HasGround}
+use Rattle.sx_compiling.specs.Reached.{HasNamedLanguage, ReachesExtensions, HasDialect, HasGround}
 use Rattle.sx_compiling.specs.Reached.{seen_over, module_over}
 use Rattle.sx_compiling.specs.Laws.{HasNoType, HasUnsoundRule, TypeErrorsOfUnitsAreFinal}
 use Rattle.sx_compiling.proofs.MadeUnits.{dialect_by, dialect_is}
@@ -100,7 +100,7 @@ module _ (Q : Stop → Type 0) where
   free_final : (file : List ℕ) (literals : List (List ℕ)) (m : Module) →
       Final Q (HasFreeImports file literals m)
   free_final file literals m stop h =
-      no_type_error Q (bad_header file (row_line m (import_row m.header h.0))) stop (λ h. h) h.2
+      no_type_error Q (bad_header file (header_row_line m (import_row m.header h.0))) stop (λ h. h) h.2
 
   module _ (file : List ℕ) (its : List InterfaceParts) where
     no_import : (e : ImportError) → OnTypeError Q (import_stop file its e)
@@ -119,7 +119,7 @@ module _ (Q : Stop → Type 0) where
 
 -- ---- all of them
 
-module _ (budgets : Budgets) (files : Files) (g : Given) (l : HasNamedLanguage g) where
+module _ (budgets : Budgets) (files : Files) (g : GivenModule) (l : HasNamedLanguage g) where
   abbrev Q : Stop → Type 0
   Q stop = HasNoType budgets files g stop ⊎ HasUnsoundRule budgets files g stop
 
@@ -145,7 +145,7 @@ module _ (budgets : Budgets) (files : Files) (g : Given) (l : HasNamedLanguage g
         depth = sees.0.1;
       }))
 
-  all_final : (r : IsReached files g) → FinalTrying Q (MakesExtended budgets g r.extensions)
+  all_final : (r : ReachesExtensions files g) → FinalTrying Q (MakesExtended budgets g r.extensions)
   all_final r =
       and_then_final Q
       (ExtendsLanguage (base_in g.language) budgets r.extensions (unextended g.language.language))

@@ -10,7 +10,7 @@ use Rattle.sx_outside.specs.Files.{Files}
 use Rattle.sx_uses.proofs.Coming.{come_first}
 use Rattle.sx_accepting.specs.ExtendedLanguages.{unextended}
 use Rattle.sx_accepting.specs.ReadLanguage.{base_in}
-use Rattle.sx_compiling.specs.Given.{Given}
+use Rattle.sx_compiling.specs.Given.{GivenModule}
 use Rattle.sx_compiling.specs.Headline.{HasUnit, IsInterfaceText}
 use Rattle.sx_compiling.specs.Reached.{HasNamedLanguage, HasModule, HasGround, module_over}
 use Rattle.sx_compiling.proofs.Digests.{digest_is}
@@ -20,7 +20,7 @@ use Rattle.sx_compiling.proofs.InterfaceMarks.{imports_are_new}
 use Rattle.sx_compiling.proofs.InterfaceTexts.{parts_from, interface_told}
 use Rattle.sx_compiling.proofs.MadeUnits.{dialect_is}
 
-module _ (name : List ℕ) (budgets : Budgets) (files : Files) (g : Given) (u : UnitData)
+module _ (name : List ℕ) (budgets : Budgets) (files : Files) (g : GivenModule) (u : UnitData)
     (is_a_name : is_name false name ≡ true) (l : HasNamedLanguage g) (h : HasModule name g)
     (made : HasUnit budgets files g u) where
   abbrev ground : HasGround budgets files g

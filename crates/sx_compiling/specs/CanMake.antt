@@ -13,11 +13,11 @@ use Rattle.sx_accepting.specs.ReadLanguage.{HasText, stated_of}
 use Rattle.sx_headers.specs.ReadModule.{HasHeader, module_of}
 use Rattle.sx_importing.specs.ReadImports.{import_of}
 use Rattle.sx_compiling.specs.declared.given.Given.{Given as GivenOf}
-use Rattle.sx_compiling.specs.Given.{Given}
+use Rattle.sx_compiling.specs.Given.{GivenModule}
 use Rattle.sx_term.specs.Limits.{most_bytes}
 
 -- what is given, without where it lies in memory
-abbrev pub given_of : GivenOf → Given
+abbrev pub given_of : GivenOf → GivenModule
 given_of g = record {
   file = g.file.now;
   read = module_of g.source.now;

@@ -25,7 +25,7 @@ use Rattle.sx_rewrite.specs.Lowers.{Lowers}
 use Rattle.sx_extcheck.specs.declared.budgets.Budgets.{Budgets}
 use Rattle.sx_interface.specs.Headers.{HeaderParts}
 use Rattle.sx_interface.specs.Interfaces.{InterfaceParts, interface_lines}
-use Rattle.sx_interface.specs.Stated.{StatesInterface, IsDigest, IsWithin}
+use Rattle.sx_interface.specs.Stated.{StatesInterface, IsDigest, IsWithinSize}
 use Rattle.sx_interface.specs.StatedHeader.{StatesHeader}
 use Rattle.sx_notation.specs.Language.{LanguageData}
 use Rattle.sx_typing.specs.Body.{IsCut}
@@ -41,7 +41,7 @@ use Rattle.sx_unit.specs.Written.{UnitData}
 use Rattle.sx_environment.specs.BaseEnvironment.{base_seen}
 use Rattle.sx_environment.specs.Environments.{IsEnvironment}
 use Rattle.sx_outside.specs.Files.{Files}
-use Rattle.sx_compiling.specs.Given.{Given, interfaces_in}
+use Rattle.sx_compiling.specs.Given.{GivenModule, interfaces_in}
 use Rattle.sx_compiling.specs.MakeUnit.{MakesUnit}
 use Rattle.sx_compiling.specs.Reached.{HasNamedLanguage, HasModule, HasGround, seen_over}
 use Rattle.sx_compiling.specs.Reached.{module_over}
@@ -50,19 +50,21 @@ use Rattle.sx_term.specs.Limits.{most_bytes}
 -- ---- the unit
 
 -- it is that of the module in its dialect, in the environment of its imports
-pub record HasUnit (budgets : Budgets) (files : Files) (g : Given) (unit : UnitData) : Type 0 where
+pub record HasUnit (budgets : Budgets) (files : Files) (g : GivenModule)
+    (unit : UnitData) : Type 0 where
   pub ground : HasGround budgets files g
   pub compiled : IsUnit (module_over ground) unit
 
 -- where the steps end with a unit, it is that
 abbrev pub UnitsKeepPromise : Type 0
-UnitsKeepPromise = (budgets : Budgets) (files : Files) (g : Given) (unit : UnitData) (tries : ℕ) →
+UnitsKeepPromise = (budgets : Budgets) (files : Files) (g : GivenModule) (unit : UnitData)
+    (tries : ℕ) →
     HasNamedLanguage g → MakesUnit budgets files g (Ok unit) tries → HasUnit budgets files g unit
 
 -- ---- texts that read in one way
 
 -- the tokens that the text is cut into are read as the sort by the reading
-pub record ReadsBy (p : Parts) (sort : Sort) (text : Text) (tokens : List Token)
+pub record ReadsTextBy (p : Parts) (sort : Sort) (text : Text) (tokens : List Token)
     (reading : Reading) : Type 0 where
   pub cut : IsCut p text tokens
   pub reads : ReadsWhole (numbered p) (plain_tokens [] tokens) (sort_number sort) reading
@@ -71,9 +73,9 @@ pub record ReadsBy (p : Parts) (sort : Sort) (text : Text) (tokens : List Token)
 pub record ReadsOneWay (p : Parts) (sort : Sort) (text : Text) (t : Tree) : Type 0 where
   pub tokens : List Token
   pub reading : Reading
-  pub by : ReadsBy p sort text tokens reading
+  pub by : ReadsTextBy p sort text tokens reading
   pub term : term_of (plain_tokens [] tokens) [] reading ≡ t
-  pub only : (others : List Token) (other : Reading) → ReadsBy p sort text others other →
+  pub only : (others : List Token) (other : Reading) → ReadsTextBy p sort text others other →
       (others ≡ tokens) × (other ≡ reading)
 
 -- ---- by the language alone
@@ -112,7 +114,7 @@ pub record IsDesugared (s : BodySource) (stated : Text) (lowered : Proof) (j : J
 -- ---- the three texts
 
 -- the header of the base file is that of the module without its `use` lines
-pub record IsPlainOf (header base : HeaderParts) : Type 0 where
+pub record IsBaseHeaderOf (header base : HeaderParts) : Type 0 where
   pub name : base.name ≡ header.name
   pub language : base.language ≡ header.language
   pub uses : base.uses ≡ []
@@ -132,19 +134,19 @@ pub record IsInterfaceText (name text : List ℕ) (parts : InterfaceParts) : Typ
   pub is : text ≡ written (interface_lines parts)
   pub utf8 : IsUtf8 text
   pub states : StatesInterface name (line_texts (lines_from 1 text)) parts
-  pub within : IsWithin most_bytes parts
+  pub within : IsWithinSize most_bytes parts
   pub digest : IsDigest (sha256 text)
 
 -- The module in its dialect, whose extensions are all accepted, and its three texts: what they say
 -- by the language alone, in the environment of the imports' signatures; and that they are the
 -- desugaring of the first derivation that the source has by the rules of the dialect, in the
 -- environment of what is seen of the imports, whose plain image the first is.
-pub record HasHeadline (name : List ℕ) (budgets : Budgets) (files : Files) (g : Given)
+pub record HasHeadline (name : List ℕ) (budgets : Budgets) (files : Files) (g : GivenModule)
     (unit : UnitData) : Type 0 where
   pub ground : HasGround budgets files g
   pub base_header : HeaderParts
   pub base_headed : StatesHeader name (kept (lines_from 1 unit.base)) base_header
-  pub plain : IsPlainOf g.read.header base_header
+  pub plain : IsBaseHeaderOf g.read.header base_header
   pub interface : InterfaceParts
   pub interface_text : IsInterfaceText name unit.interface interface
   pub marked : IsInterfaceOf (module_over ground) unit.base interface
@@ -159,6 +161,6 @@ pub record HasHeadline (name : List ℕ) (budgets : Budgets) (files : Files) (g 
 
 -- a unit of a module has the headline
 abbrev pub UnitsHaveHeadline : Type 0
-UnitsHaveHeadline = (name : List ℕ) (budgets : Budgets) (files : Files) (g : Given)
+UnitsHaveHeadline = (name : List ℕ) (budgets : Budgets) (files : Files) (g : GivenModule)
     (unit : UnitData) → is_name false name ≡ true → HasNamedLanguage g → HasModule name g →
     HasUnit budgets files g unit → HasHeadline name budgets files g unit

@@ -1,7 +1,7 @@
 -- Files of which some were read before.
 use Rattle.std.specs.Prelude.{◌≡◌, ℕ, List, Option, Some, None}
 use Rattle.sx_outside.specs.Files.{Files}
-use Rattle.sx_walking.specs.Kinds.{Kind}
+use Rattle.sx_walking.specs.Kinds.{WalkKind}
 use Rattle.sx_uses.specs.ExtensionFile.{Extension, extension_file}
 use Rattle.sx_uses.specs.ExtensionKind.{extensions_for}
 use Rattle.sx_uses.specs.ReadExtension.{ReadsFile}
@@ -11,16 +11,16 @@ abbrev pub AreKeptOf : (kept files : Files) → Type 0
 AreKeptOf kept files = (name bytes : List ℕ) → kept name ≡ Some bytes → files name ≡ Some bytes
 
 -- these bytes, and else those
-abbrev pub or_else : Option (List ℕ) → Option (List ℕ) → Option (List ℕ)
-or_else (Some bytes) other = Some bytes
-or_else None other = other
+abbrev pub bytes_or : Option (List ℕ) → Option (List ℕ) → Option (List ℕ)
+bytes_or (Some bytes) other = Some bytes
+bytes_or None other = other
 
 -- what is kept, and else what the files hold
 abbrev pub beside : (kept files : Files) → Files
-beside kept files = λ name. or_else (kept name) (files name)
+beside kept files = λ name. bytes_or (kept name) (files name)
 
 -- the extensions that are written for the language; those that are kept are read from there
-abbrev pub extensions_beside : (kept : Files) → (language : List ℕ) → Kind Extension
+abbrev pub extensions_beside : (kept : Files) → (language : List ℕ) → WalkKind Extension
 extensions_beside kept language =
     record (extensions_for language) { Reads = λ files. ReadsFile (beside kept files) }
 

@@ -20,19 +20,19 @@ use Rattle.sx_accepting.specs.ExtendedLanguages.{ExtendedData, unextended}
 use Rattle.sx_accepting.specs.Extending.{ExtendsLanguage}
 use Rattle.sx_accepting.specs.Laws.{IsAcceptedOver}
 use Rattle.sx_accepting.specs.ReadLanguage.{IsLanguageStated, base_in}
-use Rattle.sx_compiling.specs.Given.{Given, interfaces_in, seen_in, module_in}
+use Rattle.sx_compiling.specs.Given.{GivenModule, interfaces_in, seen_in, module_in}
 use Rattle.sx_term.specs.Limits.{most_depth}
 
 -- ---- what is given
 
 -- some text states the language under the name that the header has for it
-pub record HasNamedLanguage (g : Given) : Type 0 where
+pub record HasNamedLanguage (g : GivenModule) : Type 0 where
   pub bytes : List ℕ
   pub states : IsLanguageStated g.read.header.language bytes g.language
 
 -- The bytes state the header of a module with this name; the imports are those that it names, in
 -- its order, each with the digest of its file.
-pub record HasModule (name : List ℕ) (g : Given) : Type 0 where
+pub record HasModule (name : List ℕ) (g : GivenModule) : Type 0 where
   pub states : StatesHeader name (kept (lines_from 1 g.read.bytes)) g.read.header
   pub imports : map (λ i. i.parts.name) g.imports ≡ g.read.header.imports
   pub digests : AllByRecursion (λ i. IsDigest i.digest) g.imports
@@ -41,13 +41,14 @@ pub record HasModule (name : List ℕ) (g : Given) : Type 0 where
 
 -- no import has a literal of the language as its name; and these extensions are reached by the
 -- `use` lines of the header, each once and after those that it uses
-pub record IsReached (files : Files) (g : Given) : Type 0 where
+pub record ReachesExtensions (files : Files) (g : GivenModule) : Type 0 where
   pub free : AreFree (literals_of g.language.language.parts) g.read.header.imports
   pub extensions : List Extension
   pub reached : ReadsUses g.file g.read.header.language g.read.header.uses files (Ok extensions)
 
 -- these are read and accepted with this answer, and so many tries
-abbrev pub ExtendsReached : (budgets : Budgets) (files : Files) (g : Given) → IsReached files g →
+abbrev pub ExtendsReached : (budgets : Budgets) (files : Files) (g : GivenModule) →
+    ReachesExtensions files g →
     Result ExtendedData StepError → ℕ → Type 0
 ExtendsReached budgets files g r answer tries =
     ExtendsLanguage (base_in g.language) budgets r.extensions
@@ -55,8 +56,8 @@ ExtendsReached budgets files g r answer tries =
 
 -- They are read and accepted in order, each after all before it, and this is what the language
 -- becomes by them: each of their rules has a certificate by the language's rules alone.
-pub record HasDialect (budgets : Budgets) (files : Files) (g : Given) : Type 0 where
-  pub from : IsReached files g
+pub record HasDialect (budgets : Budgets) (files : Files) (g : GivenModule) : Type 0 where
+  pub from : ReachesExtensions files g
   pub extended : ExtendedData
   pub tries : ℕ
   pub extends : ExtendsReached budgets files g from (Ok extended) tries
@@ -65,19 +66,19 @@ pub record HasDialect (budgets : Budgets) (files : Files) (g : Given) : Type 0 w
 -- ---- the environment
 
 -- what the imports are seen from in that dialect
-abbrev pub seen_over : {budgets : Budgets} {files : Files} {g : Given} →
+abbrev pub seen_over : {budgets : Budgets} {files : Files} {g : GivenModule} →
     HasDialect budgets files g → SeenFrom
 seen_over {g = g} d = seen_in g d.from.extensions d.extended
 
 -- the imports have this environment there, which is at most 1,000 deep
-pub record HasGround (budgets : Budgets) (files : Files) (g : Given) : Type 0 where
+pub record HasGround (budgets : Budgets) (files : Files) (g : GivenModule) : Type 0 where
   pub over : HasDialect budgets files g
   pub environment : Tree
   pub sees : IsEnvironment (seen_over over) (interfaces_in g) environment
   pub depth : depth_of environment ≤ most_depth
 
 -- the module in its dialect, with this environment
-abbrev pub module_over : {budgets : Budgets} {files : Files} {g : Given} →
+abbrev pub module_over : {budgets : Budgets} {files : Files} {g : GivenModule} →
     HasGround budgets files g → ModuleData
 module_over {g = g} d =
     module_in g d.over.from.extensions d.over.extended d.environment

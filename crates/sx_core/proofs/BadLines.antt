@@ -17,9 +17,9 @@ use Rattle.sx_core.specs.TermsText.{terms_text, HaveCores, IsDeepRow}
 use Rattle.sx_core.specs.Table.{Row, row, row_text, declaration_row, rule_rows, rows_of, parts_text}
 use Rattle.sx_core.specs.Table.{IsKeyword, NoKeyword, Has}
 use Rattle.sx_core.specs.Fitting.{Context, PartsFit, IsFitting, IsDeep, IsDeepLine}
-use Rattle.sx_core.specs.Order.{IsFront, Phase, at_start, at_declarations, at_rules, at_premises}
+use Rattle.sx_core.specs.Order.{AreRowsInOrder, Phase, at_start, at_declarations, at_rules, at_premises}
 use Rattle.sx_core.specs.Order.{at_conclusion, at_end, step}
-use Rattle.sx_core.specs.CoreRead.{IsBadLine, IsTooDeep, IsRuleOpen, IsMissing, IsBadAt, IsDeepAt}
+use Rattle.sx_core.specs.CoreRead.{IsBadCoreLine, IsTooDeep, IsRuleOpen, IsMissingRow, IsBadAt, IsDeepAt}
 use Rattle.sx_core.specs.declared.keyword.Keyword.{Keyword}
 use Rattle.sx_core.specs.declared.keyword.Keyword.TheVariants.{Head, Sort, Con, Form, Rule, If, Not}
 use Rattle.sx_core.specs.declared.keyword.Keyword.TheVariants.{Then, End, Goal}
@@ -35,23 +35,23 @@ use Rattle.sx_core.proofs.SameRows.{fits_spelled, one_rest}
 
 -- ---- fronts
 
-pub front_reach : (xs : List Row) → IsFront xs → (q : Phase) × Reaches at_start xs q
+pub front_reach : (xs : List Row) → AreRowsInOrder xs → (q : Phase) × Reaches at_start xs q
 front_reach xs f =
     let a = reach_split xs f.1 at_start at_end (subst (λ (x : List Row). Reaches at_start x at_end) f.2 (file_reaches f.0)) in
     (a.0, a.1)
 
-pub front_less : (xs : List Row) (r : Row) (more : List Row) → IsFront (xs ++ r ∷ more) → IsFront (xs ++ r ∷ [])
+pub front_less : (xs : List Row) (r : Row) (more : List Row) → AreRowsInOrder (xs ++ r ∷ more) → AreRowsInOrder (xs ++ r ∷ [])
 front_less xs r more f = (f.0, more ++ f.1, f.2 ∙ append_assoc xs (r ∷ more) f.1 ∙ sym (append_assoc xs (r ∷ []) (more ++ f.1)))
 
 first : List Row → Row
 first [] = row Head tt
 first (r ∷ rows) = r
 
-head_first : (xs : List Row) (r : Row) (more : List Row) → IsFront (xs ++ r ∷ more) → xs ≡ [] → r ≡ row Head tt
+head_first : (xs : List Row) (r : Row) (more : List Row) → AreRowsInOrder (xs ++ r ∷ more) → xs ≡ [] → r ≡ row Head tt
 unfolding first
 head_first xs r more f e = sym (ap first f.2 ∙ ap (λ (z : List Row). first ((z ++ r ∷ more) ++ f.1)) e)
 
-goal_last : (xs : List Row) (r : Row) (more : List Row) → IsFront (xs ++ r ∷ more) → Has Goal xs → ⊥
+goal_last : (xs : List Row) (r : Row) (more : List Row) → AreRowsInOrder (xs ++ r ∷ more) → Has Goal xs → ⊥
 goal_last xs r more f h =
     let a = front_reach (xs ++ r ∷ more) f in
     let b = reach_split xs (r ∷ more) at_start a.0 a.1 in
@@ -63,15 +63,15 @@ line_keyword text r e = subst (λ (z : List ℕ). IsKeyword z r.keyword (parts_t
 
 -- ---- a line that goes on is not bad
 
-module _ (c : Context) (rows : List Row) (r : Row) (more : List Row) (text : List ℕ) (is : text ≡ row_text r) (fit : PartsFit c r.keyword r.parts) (front : IsFront (rows ++ r ∷ more)) where
-  pub not_bad : (kind : Kind) → IsBadLine c rows text kind → ⊥
+module _ (c : Context) (rows : List Row) (r : Row) (more : List Row) (text : List ℕ) (is : text ≡ row_text r) (fit : PartsFit c r.keyword r.parts) (front : AreRowsInOrder (rows ++ r ∷ more)) where
+  pub not_bad : (kind : Kind) → IsBadCoreLine c rows text kind → ⊥
   not_bad BadHead h = h.1 (is ∙ ap row_text (head_first rows r more front h.0))
   not_bad Directive h = h.1 r.keyword (parts_text r.keyword r.parts) (line_keyword text r is)
   not_bad Shape h = h.2 r (is, fit)
   not_bad Order (inl h) = goal_last rows r more front h
   not_bad Order (inr h) =
       let e = row_same r h.1 (fits_spelled c r.keyword r.parts fit) (fits_spelled c h.1.keyword h.1.parts h.2.1) (sym is ∙ h.2.0) in
-      h.3 (subst (λ (z : Row). IsFront (rows ++ z ∷ [])) e (front_less rows r more front))
+      h.3 (subst (λ (z : Row). AreRowsInOrder (rows ++ z ∷ [])) e (front_less rows r more front))
   not_bad Unfinished h = h
   not_bad Main h = h
   not_bad Variable h = h
@@ -132,7 +132,7 @@ module _ (c : Context) (rows : List Row) (text : List ℕ) where
   fitting_keyword : (r : Row) → IsFitting c text r → NoKeyword text → ⊥
   fitting_keyword r h n = n r.keyword (parts_text r.keyword r.parts) (line_keyword text r h.0)
 
-  one_kind : (k l : Kind) → IsBadLine c rows text k → IsBadLine c rows text l → k ≡ l
+  one_kind : (k l : Kind) → IsBadCoreLine c rows text k → IsBadCoreLine c rows text l → k ≡ l
   one_kind Unfinished l h j = absurd h
   one_kind Main l h j = absurd h
   one_kind Variable l h j = absurd h
@@ -171,7 +171,7 @@ module _ (c : Context) (rows : List Row) (text : List ℕ) where
   one_kind Order Shape (inr h) j = absurd (j.2 h.1 h.2)
   one_kind Order Order h j = refl
 
-  bad_not_deep : (k : Kind) (depth : ℕ) → IsBadLine c rows text k → IsTooDeep c rows text depth → ⊥
+  bad_not_deep : (k : Kind) (depth : ℕ) → IsBadCoreLine c rows text k → IsTooDeep c rows text depth → ⊥
   bad_not_deep BadHead depth h d = d.0.0 h.0
   bad_not_deep Directive depth h d = h.1 d.2.0 d.2.1 d.2.2
   bad_not_deep Shape depth h d = h.3 depth d.2
@@ -214,7 +214,7 @@ inside_rule at_conclusion m h e = none_next m e
 inside_rule at_end m h e = h
 
 -- between two lines that begin rules one ends
-between : (f mid b : List Row) (x y : Row) → x.keyword ≡ Rule → y.keyword ≡ Rule → (Has End mid → ⊥) → IsFront ((f ++ x ∷ mid) ++ y ∷ b) → ⊥
+between : (f mid b : List Row) (x y : Row) → x.keyword ≡ Rule → y.keyword ≡ Rule → (Has End mid → ⊥) → AreRowsInOrder ((f ++ x ∷ mid) ++ y ∷ b) → ⊥
 between f mid b x y e g n h =
     let a = front_reach ((f ++ x ∷ mid) ++ y ∷ b) h in
     let s = reach_split (f ++ x ∷ mid) (y ∷ b) at_start a.0 a.1 in
@@ -225,12 +225,12 @@ has_more k [] ys h = absurd h
 has_more k (x ∷ xs) ys (inl e) = inl e
 has_more k (x ∷ xs) ys (inr h) = inr (has_more k xs ys h)
 
-not_between : (rows f g mid : List Row) (o : IsRuleOpen rows f) (p : IsRuleOpen rows g) → IsFront rows → g ≡ f ++ o.rule ∷ mid → o.inside ≡ mid ++ p.rule ∷ p.inside → ⊥
+not_between : (rows f g mid : List Row) (o : IsRuleOpen rows f) (p : IsRuleOpen rows g) → AreRowsInOrder rows → g ≡ f ++ o.rule ∷ mid → o.inside ≡ mid ++ p.rule ∷ p.inside → ⊥
 not_between rows f g mid o p h e q =
     between f mid p.inside o.rule p.rule o.begins p.begins (λ k. o.not_ended (subst (Has End) (sym q) (has_more End mid (p.rule ∷ p.inside) k)))
-    (subst IsFront (p.parts ∙ ap (λ (z : List Row). z ++ p.rule ∷ p.inside) e) h)
+    (subst AreRowsInOrder (p.parts ∙ ap (λ (z : List Row). z ++ p.rule ∷ p.inside) e) h)
 
-one_open : (rows f g : List Row) → IsRuleOpen rows f → IsRuleOpen rows g → IsFront rows → f ≡ g
+one_open : (rows f g : List Row) → IsRuleOpen rows f → IsRuleOpen rows g → AreRowsInOrder rows → f ≡ g
 one_open rows f g o p h =
     elim (parted f g o.rule p.rule o.inside p.inside (sym o.parts ∙ p.parts)) [
       | inl e ↦ e
@@ -248,7 +248,7 @@ module _ (lines : Lines) (rows : List Row) (end : ℕ) where
   nothing_open : (front : List Row) → rows ≡ [] → IsRuleOpen rows front → ⊥
   nothing_open front e o = no_row front o.rule o.inside (sym e ∙ o.parts)
 
-  one_missing : (n m : ℕ) (k l : Kind) → IsFront rows → IsMissing lines rows end n k → IsMissing lines rows end m l → (n ≡ m) × (k ≡ l)
+  one_missing : (n m : ℕ) (k l : Kind) → AreRowsInOrder rows → IsMissingRow lines rows end n k → IsMissingRow lines rows end m l → (n ≡ m) × (k ≡ l)
   one_missing n m Directive l f h j = absurd h
   one_missing n m Shape l f h j = absurd h
   one_missing n m Order l f h j = absurd h
@@ -283,7 +283,7 @@ module _ (lines : Lines) (file : CoreFile) where
   no_rows : rows_of file ≡ [] → ⊥
   no_rows e = cc
 
-  pub none_missing : (end n : ℕ) (k : Kind) → IsMissing lines (rows_of file) end n k → ⊥
+  pub none_missing : (end n : ℕ) (k : Kind) → IsMissingRow lines (rows_of file) end n k → ⊥
   none_missing end n BadHead h = no_rows h.0
   none_missing end n Unfinished h = open_inside h.0 h.2.inside h.2.rule at_end h.2.begins h.2.not_ended (subst (λ (z : List Row). Reaches at_start z at_end) h.2.parts (file_reaches file))
   none_missing end n Main h = h.0.1 (has_last (row Head tt ∷ (map declaration_row file.declarations ++ flat_map rule_rows file.rules)) file.goal)
@@ -294,7 +294,7 @@ module _ (lines : Lines) (file : CoreFile) where
 
 -- ---- the next line
 
-pub one_bad : (lines : Lines) (rows : List Row) (c : Context) (next : Lines) (n m : ℕ) (k l : Kind) → IsFront rows → IsBadAt lines rows c next n k → IsBadAt lines rows c next m l → (n ≡ m) × (k ≡ l)
+pub one_bad : (lines : Lines) (rows : List Row) (c : Context) (next : Lines) (n m : ℕ) (k l : Kind) → AreRowsInOrder rows → IsBadAt lines rows c next n k → IsBadAt lines rows c next m l → (n ≡ m) × (k ≡ l)
 one_bad lines rows c (over end) n m k l f h j = one_missing lines rows end n m k l f h j
 one_bad lines rows c (line at text after more) n m k l f h j = (h.0 ∙ sym j.0, one_kind c rows text k l h.1 j.1)
 

@@ -10,14 +10,14 @@ use Rattle.sx_rules.specs.declared.rule.Goal.{Goal as GoalOf}
 use Rattle.sx_core.specs.File.{SortRow, JudgementRow, Declaration, sort_line, con_line, form_line}
 use Rattle.sx_core.specs.File.{PremiseRow, if_line, not_line, RuleRows, CoreFile}
 use Rattle.sx_core.specs.Problem.{Problem}
-use Rattle.sx_core.specs.Stated.{IsName, AreStatedNames, AreCons, AreForms, AreRules, sort_rows}
-use Rattle.sx_core.specs.Stated.{con_rows, form_rows, Says}
+use Rattle.sx_core.specs.Stated.{IsCoreName, AreStatedNames, AreCons, AreForms, AreCoreRules, sort_rows}
+use Rattle.sx_core.specs.Stated.{con_rows, form_rows, SaysCore}
 use Rattle.sx_core.specs.Resolving.{sort_names, rows_in}
 use Rattle.sx_core.specs.Statements.{known_in}
-use Rattle.sx_core.specs.Table.{Parts, parts_text, Row, row, row_text, declaration_row, premise_row}
+use Rattle.sx_core.specs.Table.{RowParts, parts_text, Row, row, row_text, declaration_row, premise_row}
 use Rattle.sx_core.specs.Table.{rule_rows, IsKeyword}
-use Rattle.sx_core.specs.Fitting.{Context, PartsFit, sorts_at, cons_at, forms_at, sorts_among}
-use Rattle.sx_core.specs.Fitting.{cons_among, forms_among, AllFit, AreSorts}
+use Rattle.sx_core.specs.Fitting.{Context, PartsFit, core_sorts_at, cons_at, forms_at, sorts_among}
+use Rattle.sx_core.specs.Fitting.{cons_among, forms_among, AllRowsFit, AreSorts}
 use Rattle.sx_core.specs.CoreRead.{AreLinesOf}
 use Rattle.sx_core.specs.declared.reader.Reader.{Reader}
 use Rattle.sx_core.specs.declared.stage.Stage.{Stage}
@@ -35,8 +35,8 @@ flat_append : {A B : Type 0} (f : A → List B) (xs ys : List A) → flat_map f 
 flat_append f [] ys = refl
 flat_append f (x ∷ xs) ys = ap (λ z. f x ++ z) (flat_append f xs ys) ∙ sym (append_assoc (f x) (flat_map f xs) (flat_map f ys))
 
-module _ {B : Type 0} (f : Row → List B) (fh : f (row Head tt) ≡ []) (fr : (p : Parts Rule) → f (row Rule p) ≡ []) (fi : (p : Parts If) → f (row If p) ≡ []) (fn : (p : Parts Not) → f (row Not p) ≡ []) (ft : (p : Parts Then) → f (row Then p) ≡ [])
-    (fe : f (row End tt) ≡ []) (fg : (p : Parts Goal) → f (row Goal p) ≡ []) where
+module _ {B : Type 0} (f : Row → List B) (fh : f (row Head tt) ≡ []) (fr : (p : RowParts Rule) → f (row Rule p) ≡ []) (fi : (p : RowParts If) → f (row If p) ≡ []) (fn : (p : RowParts Not) → f (row Not p) ≡ []) (ft : (p : RowParts Then) → f (row Then p) ≡ [])
+    (fe : f (row End tt) ≡ []) (fg : (p : RowParts Goal) → f (row Goal p) ≡ []) where
   premises_none : (ps : List PremiseRow) → flat_map f (map premise_row ps) ≡ []
   premises_none [] = refl
   premises_none (if_line x ∷ ps) = ap (λ z. z ++ flat_map f (map premise_row ps)) (fi x) ∙ premises_none ps
@@ -84,7 +84,7 @@ forms_declared (form_line x ∷ ds) = ap (λ z. x ∷ z) (forms_declared ds)
 
 -- ---- the sorts of the file are those of its rows
 
-pub sort_or_none : (k : Keyword) (p : Parts k) → ((x : SortRow) × (row k p ≡ row Sort x)) ⊎ (sorts_at k p ≡ [])
+pub sort_or_none : (k : Keyword) (p : RowParts k) → ((x : SortRow) × (row k p ≡ row Sort x)) ⊎ (core_sorts_at k p ≡ [])
 sort_or_none Head p = inr refl
 sort_or_none Sort p = inl (p, refl)
 sort_or_none Con p = inr refl
@@ -97,19 +97,19 @@ sort_or_none End p = inr refl
 sort_or_none Goal p = inr refl
 
 abbrev sort_part : Row → List SortRow
-sort_part r = sorts_at r.keyword r.parts
+sort_part r = core_sorts_at r.keyword r.parts
 
 -- a row with the line of a sort is the row of that sort
-pub only_sort : (text : List ℕ) (x : SortRow) → IsName x.name → text ≡ row_text (row Sort x) → (r : Row) → text ≡ row_text r → ((y : SortRow) → r ≡ row Sort y → IsName y.name) → r ≡ row Sort x
+pub only_sort : (text : List ℕ) (x : SortRow) → IsCoreName x.name → text ≡ row_text (row Sort x) → (r : Row) → text ≡ row_text r → ((y : SortRow) → r ≡ row Sort y → IsCoreName y.name) → r ≡ row Sort x
 only_sort text x n e r f named =
     only_row text Sort (parts_text Sort x) (subst (λ (t : List ℕ). IsKeyword t Sort (parts_text Sort x)) (sym e) (row_keyword (row Sort x)))
-    (λ (z : Row). ((y : SortRow) → z ≡ row Sort y → IsName y.name) → z ≡ row Sort x) (λ y q h. ap (row Sort) (sort_same y x (h y refl) n (sym q))) r f named
+    (λ (z : Row). ((y : SortRow) → z ≡ row Sort y → IsCoreName y.name) → z ≡ row Sort x) (λ y q h. ap (row Sort) (sort_same y x (h y refl) n (sym q))) r f named
 
-sort_fits : (c : Context) (r : Row) (y : SortRow) → PartsFit c r.keyword r.parts → r ≡ row Sort y → IsName y.name × (Contains c.taken y.name → ⊥)
+sort_fits : (c : Context) (r : Row) (y : SortRow) → PartsFit c r.keyword r.parts → r ≡ row Sort y → IsCoreName y.name × (Contains c.taken y.name → ⊥)
 sort_fits c r y h e = subst (λ (z : Row). PartsFit c z.keyword z.parts) e h
 
 module _ (all : List SortRow) where
-  sorts_are : (before rows : List Row) (found : List SortRow) (lines next : Lines) (n : ℕ) → found ≡ sorts_among before → next ≡ over n → Takes (map row_text rows) lines next → AllFit all before rows → AreSorts found lines all → found ++ sorts_among rows ≡ all
+  sorts_are : (before rows : List Row) (found : List SortRow) (lines next : Lines) (n : ℕ) → found ≡ sorts_among before → next ≡ over n → Takes (map row_text rows) lines next → AllRowsFit all before rows → AreSorts found lines all → found ++ sorts_among rows ≡ all
   sorts_are before [] found lines next n e o t f h = append-nil found ∙ subst (λ (z : Lines). AreSorts found z all) (t ∙ o) h
   sorts_are before (r ∷ rows) found (over m) next n e o t f h = absurd t
   sorts_are before (r ∷ rows) found (line m text after more) next n e o t f (inl (x, new, h)) =
@@ -152,7 +152,7 @@ module _ (all : List SortRow) (lines : Lines) (rows : List Row) (r : Reader) (ne
   all_is =
       sym (sorts_are all [] rows [] lines next n refl e at.takes at.fit sorts)
       ∙ ap sorts_among rows_are
-      ∙ declared_rows (λ (z : Row). sorts_at z.keyword z.parts) refl (λ p. refl) (λ p. refl) (λ p. refl) (λ p. refl) refl (λ p. refl) at.staged.declarations at.staged.ended there.1
+      ∙ declared_rows (λ (z : Row). core_sorts_at z.keyword z.parts) refl (λ p. refl) (λ p. refl) (λ p. refl) (λ p. refl) refl (λ p. refl) at.staged.declarations at.staged.ended there.1
       ∙ sorts_declared at.staged.declarations
 
   cons_are : cons_among rows ≡ con_rows at.staged.declarations
@@ -177,7 +177,7 @@ module _ (all : List SortRow) (lines : Lines) (rows : List Row) (r : Reader) (ne
     goal = goal g;
   }
 
-  pub says : Says file read_problem
+  pub says : SaysCore file read_problem
   unfolding file
   says = record {
     sorts = ap (map (λ row. row.name)) (at.same ∙ all_is);
@@ -189,6 +189,6 @@ module _ (all : List SortRow) (lines : Lines) (rows : List Row) (r : Reader) (ne
     forms = subst (λ (z : List SortRow). AreForms z (form_rows at.staged.declarations) (known_in r.found.forms)) all_is (subst (λ z. AreForms all z (known_in r.found.forms)) forms_are at.declare.forms);
     form_names = at.forms;
     forms_distinct = at.found.forms.distinct;
-    rules = subst (λ (z : List SortRow). AreRules z (known_in r.found.forms) at.staged.ended (map named_rule r.rules.items)) all_is at.staged.are;
+    rules = subst (λ (z : List SortRow). AreCoreRules z (known_in r.found.forms) at.staged.ended (map named_rule r.rules.items)) all_is at.staged.are;
     goal = there.3;
   }

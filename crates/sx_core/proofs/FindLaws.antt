@@ -5,7 +5,7 @@ use Rattle.std.specs.Prelude.{◌^◌}
 use Rattle.sx_term.specs.declared.no_memory.NoMemory.{NoMemory}
 use Rattle.sx_lines.specs.Lines.{Lines, over, line}
 use Rattle.sx_core.specs.File.{SortRow, sort_line}
-use Rattle.sx_core.specs.Stated.{IsName, AreStatedNames}
+use Rattle.sx_core.specs.Stated.{IsCoreName, AreStatedNames}
 use Rattle.sx_lines.specs.Distinct.{AreTextsDistinct}
 use Rattle.sx_core.specs.Rows.{sort_row, IsDeclarationLine, NoRow}
 use Rattle.sx_core.specs.declared.rows.SortRow.{SortRow as SortRowOf}
@@ -115,7 +115,7 @@ find_begin lines t e f = record {
   rest = λ all h. subst (λ (z : List SortRow). AreSorts z lines all) f h;
 }
 
-named_snoc : (rows : List SortRow) (r : SortRow) → AreStatedNames (map (λ row. row.name) rows) → IsName r.name → AreStatedNames (map (λ row. row.name) (rows ++ r ∷ []))
+named_snoc : (rows : List SortRow) (r : SortRow) → AreStatedNames (map (λ row. row.name) rows) → IsCoreName r.name → AreStatedNames (map (λ row. row.name) (rows ++ r ∷ []))
 named_snoc [] r h n = (n, tt)
 named_snoc (x ∷ rows) r h n = (h.0, named_snoc rows r h.1 n)
 

@@ -14,7 +14,7 @@ use Rattle.sx_rules.specs.declared.error.RuleError.TheVariants.{Memory as NoRule
 use Rattle.sx_rules.specs.declared.error.RuleError.TheVariants.{TooManyVars, SameRule, SortDiffers}
 use Rattle.sx_rules.specs.declared.error.RuleError.TheVariants.{Discipline, NotModed}
 use Rattle.sx_core.specs.File.{SortRow, PremiseRow, if_line, not_line, RuleRows}
-use Rattle.sx_core.specs.Stated.{ArePremises, AreRules}
+use Rattle.sx_core.specs.Stated.{AreCorePremises, AreCoreRules}
 use Rattle.sx_core.specs.Rows.{sort_row}
 use Rattle.sx_core.specs.Statements.{known_in}
 use Rattle.sx_core.specs.Machine.{IsProblemMade, IsEnded, rule_error}
@@ -55,7 +55,7 @@ made_ended r stage n g (Err (Rules x)) e h = (g, e, h.0, h.1)
 
 -- ---- rules that were read are not too deep
 
-premises_shallow : (known : List FormData) (rows : List PremiseRow) (ps : List Premise) → ArePremises known rows ps → PremisesAreShallow ps
+premises_shallow : (known : List FormData) (rows : List PremiseRow) (ps : List Premise) → AreCorePremises known rows ps → PremisesAreShallow ps
 premises_shallow known [] [] h = tt
 premises_shallow known [] (p ∷ ps) h = absurd h
 premises_shallow known (if_line y ∷ rows) [] h = absurd h
@@ -68,7 +68,7 @@ premises_shallow known (not_line l m ∷ rows) (apart t u ∷ ps) h =
     let q = subst (λ x. AreShallow (t ∷ x ∷ [])) h.1 k in
     ((q.0, q.1.0), premises_shallow known rows ps h.3)
 
-pub rules_shallow : (all : List SortRow) (known : List FormData) (ls : List RuleRows) (rs : List RuleOf) → AreRules all known ls (map named rs) → RulesAreShallow (map rule rs)
+pub rules_shallow : (all : List SortRow) (known : List FormData) (ls : List RuleRows) (rs : List RuleOf) → AreCoreRules all known ls (map named rs) → RulesAreShallow (map rule rs)
 rules_shallow all known [] [] h = tt
 rules_shallow all known [] (r ∷ rs) h = absurd h
 rules_shallow all known (l ∷ ls) [] h = absurd h

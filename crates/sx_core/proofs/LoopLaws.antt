@@ -15,15 +15,15 @@ use Rattle.sx_rules.specs.declared.error.RuleError.TheVariants.{TooManyVars, Sam
 use Rattle.sx_rules.specs.declared.error.RuleError.TheVariants.{Discipline, NotModed}
 use Rattle.sx_core.specs.File.{SortRow}
 use Rattle.sx_core.specs.Problem.{Problem, problem}
-use Rattle.sx_core.specs.Stated.{AreStatedNames, AreCons, AreForms, AreRules}
+use Rattle.sx_core.specs.Stated.{AreStatedNames, AreCons, AreForms, AreCoreRules}
 use Rattle.sx_lines.specs.Distinct.{AreTextsDistinct}
-use Rattle.sx_core.specs.Stated.{Says, StatesProblem}
+use Rattle.sx_core.specs.Stated.{SaysCore, StatesProblem}
 use Rattle.sx_core.specs.Resolving.{rows_in, IsSortTable}
 use Rattle.sx_core.specs.Statements.{form_names, known_in}
 use Rattle.sx_core.specs.Table.{Row}
 use Rattle.sx_core.specs.Fitting.{AreSorts}
 use Rattle.sx_core.specs.Reading.{context}
-use Rattle.sx_core.specs.Machine.{Steps, NextRead, NextRefused, IsCoreProblem, IsEnded}
+use Rattle.sx_core.specs.Machine.{CoreSteps, NextRead, NextRefused, IsCoreProblem, IsEnded}
 use Rattle.sx_core.specs.Machine.{IsReaderBegun}
 use Rattle.sx_core.specs.CoreRead.{ReadTo, AreRulesRefused, AreCoreLinesRead, IsCoreRead}
 use Rattle.sx_core.specs.declared.problem.CoreProblem.{CoreProblem}
@@ -74,7 +74,7 @@ module _ (all : List SortRow) (lines : Lines) (rows : List Row) (r : Reader) (ne
 
   states : (g : GoalOf) (s : r.stage ≡ Over g) (p : Problem) → IsCoreProblem r.found (map named r.rules.items) (goal g) p → StatesProblem (file all lines rows r next n g at e s sorts names) p
   states g s p h = record {
-    says = subst (Says (file all lines rows r next n g at e s sorts names)) (problem_is g s p h) (says all lines rows r next n g at e s sorts names);
+    says = subst (SaysCore (file all lines rows r next n g at e s sorts names)) (problem_is g s p h) (says all lines rows r next n g at e s sorts names);
     rule_set = subst (λ x. IsRuleSet x p.forms p.rules) (sym h.shapes_are) (subst (λ x. IsRuleSet (shapes r.found.shapes) x p.rules) (sym h.forms) (subst (IsRuleSet (shapes r.found.shapes) (known_in r.found.forms)) (sym h.rules_are) h.rule_set));
   }
 
@@ -126,14 +126,14 @@ begun_at t lines r h b = record {
     front = [];
     inside = [];
     parts = refl;
-    are = subst (λ x. AreRules (rows_in t) (known_in r.found.forms) [] (map named x)) (sym b.rules) tt;
+    are = subst (λ x. AreCoreRules (rows_in t) (known_in r.found.forms) [] (map named x)) (sym b.rules) tt;
     stands = subst (λ x. Stands (rows_in t) (shapes r.found.shapes) (known_in r.found.forms) lines x [] [] [] []) (sym b.stage) (refl, refl, refl);
   };
   takes = refl;
 }
 
 -- each form has a number after a line too
-pub steps_few : (r s : Reader) (n : ℕ) (x : LineRead) → length (known_in r.found.forms) < 2 ^ 32 → Steps r n x s → length (known_in s.found.forms) < 2 ^ 32
+pub steps_few : (r s : Reader) (n : ℕ) (x : LineRead) → length (known_in r.found.forms) < 2 ^ 32 → CoreSteps r n x s → length (known_in s.found.forms) < 2 ^ 32
 steps_few r s n HeadRead l h = subst (λ (f : Found). length (known_in f.forms) < 2 ^ 32) (sym h.2.0) l
 steps_few r s n (SortRead y) l h = subst (λ (f : FormTable). length (known_in f) < 2 ^ 32) (sym h.3.forms) l
 steps_few r s n (ConRead y c) l h = subst (λ (f : FormTable). length (known_in f) < 2 ^ 32) (sym h.3.forms) l

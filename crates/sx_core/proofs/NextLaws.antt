@@ -18,12 +18,12 @@ use Rattle.sx_core.specs.Stated.{NameSorts}
 use Rattle.sx_core.specs.Resolving.{rows_in, IsConOf, IsFormOf}
 use Rattle.sx_core.specs.Statements.{form_names, known_in}
 use Rattle.sx_core.specs.Table.{Row, row, row_text, premise_row, rule_rows, rows_of, Has}
-use Rattle.sx_core.specs.Fitting.{Context, IsFitting, Declare, AllFit, AreSorts}
+use Rattle.sx_core.specs.Fitting.{Context, IsFitting, Declare, AllRowsFit, AreSorts}
 use Rattle.sx_core.specs.Reading.{context, AreNamesFound, IsCoreLineRead}
-use Rattle.sx_core.specs.Order.{IsFront, phase_of, step, at_start, at_declarations, at_rules}
+use Rattle.sx_core.specs.Order.{AreRowsInOrder, phase_of, step, at_start, at_declarations, at_rules}
 use Rattle.sx_core.specs.Order.{at_end}
-use Rattle.sx_core.specs.Machine.{Steps, IsFresh, IsBadNext, MayBegin, IsEnded, keyword_of}
-use Rattle.sx_core.specs.CoreRead.{ReadTo, IsUsual, IsBadLine, IsRuleOpen, IsMissing}
+use Rattle.sx_core.specs.Machine.{CoreSteps, IsFresh, IsBadNext, MayBegin, IsEnded, keyword_of}
+use Rattle.sx_core.specs.CoreRead.{ReadTo, IsUsual, IsBadCoreLine, IsRuleOpen, IsMissingRow}
 use Rattle.sx_core.specs.declared.found.Found.{Found}
 use Rattle.sx_lines.specs.declared.kind.Kind.{Kind}
 use Rattle.sx_lines.specs.declared.kind.Kind.TheVariants.{Head as BadHead, Directive}
@@ -66,7 +66,7 @@ module _ (all : List SortRow) (lines : Lines) (rows : List Row) (r s : Reader) (
   abbrev pub Now : Type 0
   Now = (x : Row) × IsAt all lines (rows ++ x ∷ []) s more
 
-  pub next_at : (x : LineRead) → IsCoreLineRead (context r.found) text x → Steps r n x s → Now
+  pub next_at : (x : LineRead) → IsCoreLineRead (context r.found) text x → CoreSteps r n x s → Now
   next_at HeadRead h k = (row Head tt, head_at all lines rows r s next more n text after at e h k)
   next_at (SortRead y) h k = (row Sort (sort_row y), sort_at all lines rows r s next more n text after at e (sort_row y) h k.0 k.1 k.2 k.3)
   next_at (ConRead y c) h k = (row Con (con_row y), con_at all lines rows r s next more n text after at e (con_row y) (shape c) h.0 (subst (λ (z : List SortRow). IsConOf z (con_row y) (shape c)) at.same h.1) k.0 k.1 k.2 k.3)
@@ -98,10 +98,10 @@ module _ (all : List SortRow) (S : List Shape) (known : List FormData) (lines : 
   parts_are : (f i : List Row) → front ≡ f → inside ≡ i → rows ≡ f ++ i
   parts_are f i a b = parts ∙ ap (λ (z : List Row). z ++ inside) a ∙ ap (λ (z : List Row). f ++ z) b
 
-  is_front : (f : List Row) (ds' : List Declaration) (rs' : List RuleRows) (g : JudgementRow) (rest : List Row) → rows ≡ f → rows_of (record { declarations = ds'; rules = rs'; goal = g }) ≡ f ++ rest → IsFront rows
+  is_front : (f : List Row) (ds' : List Declaration) (rs' : List RuleRows) (g : JudgementRow) (rest : List Row) → rows ≡ f → rows_of (record { declarations = ds'; rules = rs'; goal = g }) ≡ f ++ rest → AreRowsInOrder rows
   is_front f ds' rs' g rest a b = (record { declarations = ds'; rules = rs'; goal = g }, rest, b ∙ ap (λ (z : List Row). z ++ rest) (sym a))
 
-  pub front_at : (stage : Stage) → Stands all S known lines stage ds rs front inside → IsFront rows
+  pub front_at : (stage : Stage) → Stands all S known lines stage ds rs front inside → AreRowsInOrder rows
   front_at Start h = is_front [] [] [] dummy (rows_of (record { declarations = []; rules = []; goal = dummy })) (parts_are [] [] h.0 h.2) refl
   front_at Declaring h = is_front (front_rows ds rs) ds rs dummy (row Goal dummy ∷ []) (parts_are (front_rows ds rs) [] h.0 h.2 ∙ append-nil (front_rows ds rs)) refl
   front_at Between h = is_front (front_rows ds rs) ds rs dummy (row Goal dummy ∷ []) (parts_are (front_rows ds rs) [] h.0 h.1 ∙ append-nil (front_rows ds rs)) refl
@@ -159,7 +159,7 @@ module _ (all : List SortRow) (lines : Lines) (rows : List Row) (r : Reader) (ne
     sorts = subst (λ (z : List SortRow). AreSorts [] lines z) (sym at.same) h;
     takes = at.takes;
     declare = subst (λ (z : List SortRow). Declare z rows (context r.found)) (sym at.same) at.declare;
-    fit = subst (λ (z : List SortRow). AllFit z [] rows) (sym at.same) at.fit;
+    fit = subst (λ (z : List SortRow). AllRowsFit z [] rows) (sym at.same) at.fit;
     front = front_at all (shapes r.found.shapes) (known_in r.found.forms) lines rows at.staged.declarations at.staged.ended at.staged.front at.staged.inside at.staged.parts r.stage at.staged.stands;
   }
 
@@ -172,7 +172,7 @@ module _ (all : List SortRow) (lines : Lines) (rows : List Row) (r : Reader) (ne
   nothing_yet : phase_of r.stage ≡ at_start → rows ≡ []
   nothing_yet e = nothing_there all (shapes r.found.shapes) (known_in r.found.forms) lines rows at.staged.declarations at.staged.ended at.staged.front at.staged.inside at.staged.parts r.stage at.staged.stands e
 
-  pub bad_line : (text : List ℕ) (kind : Kind) → IsBadNext r text kind → IsBadLine (context r.found) rows text kind
+  pub bad_line : (text : List ℕ) (kind : Kind) → IsBadNext r text kind → IsBadCoreLine (context r.found) rows text kind
   bad_line text BadHead h = (nothing_yet h.0, h.1)
   bad_line text Directive h = (usual h.0.0 h.0.1, h.1)
   bad_line text BadShape h = (usual h.0.0 h.0.1, (λ n. n h.1 h.2 h.3), h.4.0, h.4.1)
@@ -251,7 +251,7 @@ module _ (all : List SortRow) (lines : Lines) (rows : List Row) (r : Reader) (ne
   none_open : MayBegin r.stage → (front : List Row) → IsRuleOpen rows front → ⊥
   none_open m front o = (closed r.stage m).2 (open_inside front o.inside o.rule (phase_of r.stage) o.begins o.not_ended (subst (λ (z : List Row). Reaches at_start z (phase_of r.stage)) o.parts at.reach))
 
-  pub missing : (n l : ℕ) (kind : Kind) → IsEnded r r.stage n (Err (Notation l kind)) → IsMissing lines rows n l kind
+  pub missing : (n l : ℕ) (kind : Kind) → IsEnded r r.stage n (Err (Notation l kind)) → IsMissingRow lines rows n l kind
   missing n l BadHead h = (nothing_yet all lines rows r next at (ap phase_of h.0), h.1)
   missing n l Main h = (usual all lines rows r next at (closed r.stage h.0).0 (closed r.stage h.0).1, none_open h.0, h.1)
   missing n l Unfinished h =

@@ -13,12 +13,12 @@ use Rattle.sx_rules.specs.declared.error.RuleError.TheVariants.{Discipline, NotM
 use Rattle.sx_rules.proofs.Refusals.{one_refusal, not_refused}
 use Rattle.sx_core.specs.File.{SortRow, CoreFile}
 use Rattle.sx_core.specs.Problem.{Problem}
-use Rattle.sx_core.specs.Stated.{Says}
+use Rattle.sx_core.specs.Stated.{SaysCore}
 use Rattle.sx_lines.specs.Distinct.{AreTextsDistinct}
 use Rattle.sx_core.specs.Resolving.{sort_names}
 use Rattle.sx_core.specs.Table.{Row, rows_of}
-use Rattle.sx_core.specs.Fitting.{Context, PartsFit, Declare, AllFit}
-use Rattle.sx_core.specs.Order.{IsFront}
+use Rattle.sx_core.specs.Fitting.{Context, PartsFit, Declare, AllRowsFit}
+use Rattle.sx_core.specs.Order.{AreRowsInOrder}
 use Rattle.sx_core.specs.CoreRead.{ReadTo, IsBadAt, IsDeepAt, AreLinesOf, AreRulesRefused}
 use Rattle.sx_core.specs.CoreRead.{AreLinesAnswered, IsCoreAnswer}
 use Rattle.sx_core.specs.Laws.{OneCoreAnswer}
@@ -52,12 +52,12 @@ module _ (lines : Lines) (rows ys : List Row) (c d : Context) (next others : Lin
   -- the next row of the longer reading is as stated after the shorter one
   next_fits : (g : GoesOn rows ys next) → PartsFit c g.after_row.keyword g.after_row.parts
   next_fits g =
-      let w = fit_at d.sorts [] rows g.after_row g.more (subst (AllFit d.sorts []) g.parts k.fit) in
+      let w = fit_at d.sorts [] rows g.after_row g.more (subst (AllRowsFit d.sorts []) g.parts k.fit) in
       let e = one_context c.sorts rows w.0 c distinct (subst (λ (z : List SortRow). Declare z rows w.0) (sym same_sorts) w.1) h.declare in
       subst (λ (z : Context). PartsFit z g.after_row.keyword g.after_row.parts) e w.2
 
-  front_on : (g : GoesOn rows ys next) → IsFront (rows ++ g.after_row ∷ g.more)
-  front_on g = subst IsFront g.parts k.front
+  front_on : (g : GoesOn rows ys next) → AreRowsInOrder (rows ++ g.after_row ∷ g.more)
+  front_on g = subst AreRowsInOrder g.parts k.front
 
   pub goes_bad : GoesOn rows ys next → (n : ℕ) (kind : Kind) → IsBadAt lines rows c next n kind → ⊥
   goes_bad g n kind b =
@@ -82,7 +82,7 @@ IsHaltAt lines rows c next (inr (n, depth)) = IsDeepAt rows c next n depth
 abbrev Halts : Lines → Halt → Type 0
 Halts lines h = (rows : List Row) × (c : Context) × (next : Lines) × ReadTo lines rows c next × IsHaltAt lines rows c next h
 
-one_halt_here : (lines : Lines) (rows : List Row) (c : Context) (next : Lines) (h k : Halt) → IsFront rows → IsHaltAt lines rows c next h → IsHaltAt lines rows c next k → h ≡ k
+one_halt_here : (lines : Lines) (rows : List Row) (c : Context) (next : Lines) (h k : Halt) → AreRowsInOrder rows → IsHaltAt lines rows c next h → IsHaltAt lines rows c next k → h ≡ k
 one_halt_here lines rows c next (inl (n, kind)) (inl (m, other)) f a b = let q = one_bad lines rows c next n m kind other f a b in λ i. inl (q.0 i, q.1 i)
 one_halt_here lines rows c next (inl (n, kind)) (inr (m, depth)) f a b = absurd (bad_or_deep lines rows c next n m kind depth a b)
 one_halt_here lines rows c next (inr (n, depth)) (inl (m, kind)) f a b = absurd (bad_or_deep lines rows c next m n kind depth b a)
@@ -108,7 +108,7 @@ none_here : (lines : Lines) (f : CoreFile) (c : Context) (end : ℕ) (h : Halt) 
 none_here lines f c end (inl (n, kind)) h = none_missing lines f end n kind h
 none_here lines f c end (inr (n, depth)) h = h
 
-said_goes : (lines : Lines) (f : CoreFile) (p : Problem) (h : Halt) → AreLinesOf lines f → Says f p → Halts lines h → ⊥
+said_goes : (lines : Lines) (f : CoreFile) (p : Problem) (h : Halt) → AreLinesOf lines f → SaysCore f p → Halts lines h → ⊥
 said_goes lines f p h a s (rows, c, next, r, x) =
     let w = said_read lines f p a s in
     let b = w.2 in
@@ -126,7 +126,7 @@ record Unruled (lines : Lines) (e : RuleError) : Type 0 where
   file : CoreFile
   problem : Problem
   lines_are : AreLinesOf lines file
-  says : Says file problem
+  says : SaysCore file problem
   refused : IsRuleSetRefused problem.shapes problem.forms problem.rules e
   room : e ≢ NoRoom
 
@@ -147,7 +147,7 @@ one_unruled lines e g h k =
     let same = one_of_lines lines k.file h.file k.problem h.problem k.lines_are h.lines_are k.says h.says in
     one_refusal h.problem.shapes h.problem.forms h.problem.rules e g h.refused (subst (RefusedBy g) same k.refused) h.room k.room
 
-not_unruled : (lines : Lines) (f : CoreFile) (p : Problem) (e : RuleError) → AreLinesOf lines f → Says f p → IsRuleSet p.shapes p.forms p.rules → Unruled lines e → ⊥
+not_unruled : (lines : Lines) (f : CoreFile) (p : Problem) (e : RuleError) → AreLinesOf lines f → SaysCore f p → IsRuleSet p.shapes p.forms p.rules → Unruled lines e → ⊥
 not_unruled lines f p e a s r h =
     let same = one_of_lines lines h.file f h.problem p h.lines_are a h.says s in
     h.room (not_refused p.shapes p.forms p.rules e r (subst (RefusedBy e) same h.refused))

@@ -21,14 +21,14 @@ use Rattle.sx_core.specs.File.{JudgementRow, PremiseRow, if_line, not_line, Rule
 use Rattle.sx_core.specs.File.{judgement_text}
 use Rattle.sx_core.specs.Rows.{AreNamed}
 use Rattle.sx_core.specs.Resolving.{sort_names}
-use Rattle.sx_core.specs.Stated.{sort_rows, con_rows, form_rows, IsName, AreStatedNames}
+use Rattle.sx_core.specs.Stated.{sort_rows, con_rows, form_rows, IsCoreName, AreStatedNames}
 use Rattle.sx_core.specs.Stated.{NamesSort, NameSorts, AreCons, AreStatedPlaces}
 use Rattle.sx_lines.specs.Distinct.{AreTextsDistinct}
-use Rattle.sx_core.specs.Stated.{AreForms, NamesForm, IsJudgement, ArePremises, IsRule, AreRules}
-use Rattle.sx_core.specs.Stated.{IsGoal, Says}
+use Rattle.sx_core.specs.Stated.{AreForms, NamesForm, IsJudgement, AreCorePremises, IsCoreRule, AreCoreRules}
+use Rattle.sx_core.specs.Stated.{IsGoal, SaysCore}
 use Rattle.sx_core.specs.Statements.{form_names}
 use Rattle.sx_core.specs.TermsText.{terms_text, HaveCores}
-use Rattle.sx_core.specs.Table.{Parts, parts_text, Row, row, row_text, ApartRow, declaration_row}
+use Rattle.sx_core.specs.Table.{RowParts, parts_text, Row, row, row_text, ApartRow, declaration_row}
 use Rattle.sx_core.specs.Table.{premise_row, rule_rows, rows_of}
 use Rattle.sx_core.specs.CoreRead.{AreLinesOf}
 use Rattle.sx_core.specs.Laws.{OneProblemIsStated}
@@ -47,17 +47,17 @@ use Rattle.sx_core.proofs.Wording.{name_space, one_word}
 -- ---- a line is that of one row
 
 -- the names are names, and the terms have core texts
-abbrev pub Spelled : (k : Keyword) → Parts k → Type 0
+abbrev pub Spelled : (k : Keyword) → RowParts k → Type 0
 Spelled Head p = Unit {0}
-Spelled Sort r = IsName r.name
+Spelled Sort r = IsCoreName r.name
 Spelled Con r = AreStatedNames (r.name ∷ r.sort ∷ r.kids)
-Spelled Form r = IsName r.name × AreNamed r.places
+Spelled Form r = IsCoreName r.name × AreNamed r.places
 Spelled Rule r = AreStatedNames (r.name ∷ r.sorts)
-Spelled If r = IsName r.form × HaveCores r.terms
+Spelled If r = IsCoreName r.form × HaveCores r.terms
 Spelled Not r = HaveCores (r.left ∷ r.right ∷ [])
-Spelled Then r = IsName r.form × HaveCores r.terms
+Spelled Then r = IsCoreName r.form × HaveCores r.terms
 Spelled End p = Unit {0}
-Spelled Goal r = IsName r.form × HaveCores r.terms
+Spelled Goal r = IsCoreName r.form × HaveCores r.terms
 
 -- each of the rows is spelled so
 abbrev pub AllSpelled : List Row → Type 0
@@ -68,7 +68,7 @@ pub all_spelled : (xs ys : List Row) → AllSpelled xs → AllSpelled ys → All
 all_spelled [] ys h k = k
 all_spelled (x ∷ xs) ys h k = (h.0, all_spelled xs ys h.1 k)
 
-judgement_same : (a b : JudgementRow) → IsName a.form × HaveCores a.terms → IsName b.form × HaveCores b.terms → judgement_text a ≡ judgement_text b → a ≡ b
+judgement_same : (a b : JudgementRow) → IsCoreName a.form × HaveCores a.terms → IsCoreName b.form × HaveCores b.terms → judgement_text a ≡ judgement_text b → a ≡ b
 judgement_same a b h k e =
     let q = one_word a.form b.form (terms_text a.terms) (terms_text b.terms) (name_space a.form h.0) (name_space b.form k.0) (terms_stop a.terms) (terms_stop b.terms)
     (tail_is 32 32 (a.form ++ terms_text a.terms) (b.form ++ terms_text b.terms) (sym (judgement_open a) ∙ e ∙ judgement_open b)) in
@@ -82,7 +82,7 @@ apart_same a b h k e =
     let q = two_same a.left a.right b.left b.right (terms_same (a.left ∷ a.right ∷ []) (b.left ∷ b.right ∷ []) h k (sym (words_terms (a.left ∷ a.right ∷ [])) ∙ e ∙ words_terms (b.left ∷ b.right ∷ []))) in
     ap (λ (x : Tree). record { left = x; right = a.right }) q.0 ∙ ap (λ (x : Tree). record { left = b.left; right = x }) q.1
 
-parts_same : (k : Keyword) (p q : Parts k) → Spelled k p → Spelled k q → parts_text k p ≡ parts_text k q → p ≡ q
+parts_same : (k : Keyword) (p q : RowParts k) → Spelled k p → Spelled k q → parts_text k p ≡ parts_text k q → p ≡ q
 parts_same Head p q h j e = refl
 parts_same Sort p q h j e = sort_same p q h j e
 parts_same Con p q h j e = con_same p q h j e
@@ -129,7 +129,7 @@ nothing = record { form = []; terms = [] }
 abbrev tail : List Declaration → List PremiseRow → JudgementRow → List RuleRows → JudgementRow → Tail
 tail ds ps c rs g = record { declarations = ds; premises = ps; conclusion = c; rules = rs; goal = g }
 
-abbrev put : (k : Keyword) → Parts k → Tail → Tail
+abbrev put : (k : Keyword) → RowParts k → Tail → Tail
 put Head p t = t
 put Sort r t = tail (sort_line r ∷ t.declarations) t.premises t.conclusion t.rules t.goal
 put Con r t = tail (con_line r ∷ t.declarations) t.premises t.conclusion t.rules t.goal
@@ -178,16 +178,16 @@ file_same f g e = ap (λ (t : Tail). record { declarations = t.declarations; rul
 
 -- ---- the rows of a file that says something are spelled
 
-pub row_named : (all : List SortRow) (n : ℕ) (r : SortRow) → AreStatedNames (map (λ row. row.name) all) → slice_get all n ≡ Some r → IsName r.name
+pub row_named : (all : List SortRow) (n : ℕ) (r : SortRow) → AreStatedNames (map (λ row. row.name) all) → slice_get all n ≡ Some r → IsCoreName r.name
 row_named [] n r h e = absurd (none_some r e)
-row_named (x ∷ all) zero r h e = subst (λ (z : SortRow). IsName z.name) (some_same x r e) h.0
+row_named (x ∷ all) zero r h e = subst (λ (z : SortRow). IsCoreName z.name) (some_same x r e) h.0
 row_named (x ∷ all) (suc n) r h e = row_named all n r h.1 e
 
-pub sort_named : (all : List SortRow) (name : List ℕ) (s : SortOf) → AreStatedNames (map (λ row. row.name) all) → NamesSort all name s → IsName name
+pub sort_named : (all : List SortRow) (name : List ℕ) (s : SortOf) → AreStatedNames (map (λ row. row.name) all) → NamesSort all name s → IsCoreName name
 unfolding is_name
-sort_named all name (Lex Id) n h = subst IsName (sym h) refl
-sort_named all name (Lex Num) n h = subst IsName (sym h) refl
-sort_named all name (Lex Str) n h = subst IsName (sym h) refl
+sort_named all name (Lex Id) n h = subst IsCoreName (sym h) refl
+sort_named all name (Lex Num) n h = subst IsCoreName (sym h) refl
+sort_named all name (Lex Str) n h = subst IsCoreName (sym h) refl
 sort_named all name (Plain m) n h = row_named all m (record { name = name; typed = false }) n h
 sort_named all name (Typed m) n h = row_named all m (record { name = name; typed = true }) n h
 
@@ -208,24 +208,24 @@ declarations_spelled all n (sort_line r ∷ ds) cs ss fs a b c d e = (a.0, decla
 declarations_spelled all n (con_line r ∷ ds) [] ss fs a b c d e = absurd b
 declarations_spelled all n (con_line r ∷ ds) (m ∷ cs) [] fs a b c d e = absurd b
 declarations_spelled all n (con_line r ∷ ds) (m ∷ cs) (s ∷ ss) fs a b c d e =
-    ((subst IsName (sym b.0) c.0, (sort_named all r.sort s.sort n b.1, sorts_named all r.kids s.kids n b.2)), declarations_spelled all n ds cs ss fs a b.4 c.1 d e)
+    ((subst IsCoreName (sym b.0) c.0, (sort_named all r.sort s.sort n b.1, sorts_named all r.kids s.kids n b.2)), declarations_spelled all n ds cs ss fs a b.4 c.1 d e)
 declarations_spelled all n (form_line r ∷ ds) cs ss [] a b c d e = absurd d
 declarations_spelled all n (form_line r ∷ ds) cs ss (f ∷ fs) a b c d e =
-    ((subst IsName (sym d.0) e.0, places_named all r.places f.places n d.1), declarations_spelled all n ds cs ss fs a b c d.3 e.1)
+    ((subst IsCoreName (sym d.0) e.0, places_named all r.places f.places n d.1), declarations_spelled all n ds cs ss fs a b c d.3 e.1)
 
-name_at : (known : List FormData) (n : ℕ) (f : FormData) → AreStatedNames (form_names known) → slice_get known n ≡ Some f → IsName f.name
+name_at : (known : List FormData) (n : ℕ) (f : FormData) → AreStatedNames (form_names known) → slice_get known n ≡ Some f → IsCoreName f.name
 name_at [] n f h e = absurd (none_some f e)
-name_at (x ∷ known) zero f h e = subst (λ (z : FormData). IsName z.name) (some_same x f e) h.0
+name_at (x ∷ known) zero f h e = subst (λ (z : FormData). IsCoreName z.name) (some_same x f e) h.0
 name_at (x ∷ known) (suc n) f h e = name_at known n f h.1 e
 
-pub form_named : (known : List FormData) (name : List ℕ) (n : ℕ) → AreStatedNames (form_names known) → NamesForm known name n → IsName name
-form_named known name n h w = subst IsName w.2 (name_at known n w.0 h w.1)
+pub form_named : (known : List FormData) (name : List ℕ) (n : ℕ) → AreStatedNames (form_names known) → NamesForm known name n → IsCoreName name
+form_named known name n h w = subst IsCoreName w.2 (name_at known n w.0 h w.1)
 
 module _ (all : List SortRow) (known : List FormData) (named : AreStatedNames (map (λ row. row.name) all)) (forms : AreStatedNames (form_names known)) where
-  judgement_spelled : (r : JudgementRow) (j : Judgement) → IsJudgement known r j → IsName r.form × HaveCores r.terms
+  judgement_spelled : (r : JudgementRow) (j : Judgement) → IsJudgement known r j → IsCoreName r.form × HaveCores r.terms
   judgement_spelled r j h = (form_named known r.form j.form forms h.form, cores_of r.terms h.readable)
 
-  premises_spelled : (rows : List PremiseRow) (ps : List Premise) → ArePremises known rows ps → AllSpelled (map premise_row rows)
+  premises_spelled : (rows : List PremiseRow) (ps : List Premise) → AreCorePremises known rows ps → AllSpelled (map premise_row rows)
   premises_spelled [] ps h = tt
   premises_spelled (if_line r ∷ rows) [] h = absurd h
   premises_spelled (if_line r ∷ rows) (holds j ∷ ps) h = (judgement_spelled r j h.0, premises_spelled rows ps h.1)
@@ -234,17 +234,17 @@ module _ (all : List SortRow) (known : List FormData) (named : AreStatedNames (m
   premises_spelled (not_line l m ∷ rows) (holds j ∷ ps) h = absurd h
   premises_spelled (not_line l m ∷ rows) (apart t u ∷ ps) h = (cores_of (l ∷ m ∷ []) h.2, premises_spelled rows ps h.3)
 
-  rules_spelled : (ls : List RuleRows) (rs : List NamedRule) → AreRules all known ls rs → AllSpelled (flat_map rule_rows ls)
+  rules_spelled : (ls : List RuleRows) (rs : List NamedRule) → AreCoreRules all known ls rs → AllSpelled (flat_map rule_rows ls)
   rules_spelled [] rs h = tt
   rules_spelled (l ∷ ls) [] h = absurd h
   rules_spelled (l ∷ ls) (r ∷ rs) h =
       all_spelled (rule_rows l) (flat_map rule_rows ls) (
-        (subst IsName (sym h.0.name) h.0.is_name, sorts_named all l.sorts r.rule.sorts named h.0.sorts),
+        (subst IsCoreName (sym h.0.name) h.0.is_name, sorts_named all l.sorts r.rule.sorts named h.0.sorts),
         all_spelled (map premise_row l.premises) (row Then l.conclusion ∷ row End tt ∷ []) (premises_spelled l.premises r.rule.premises h.0.premises) (judgement_spelled l.conclusion r.rule.conclusion h.0.conclusion, (tt, tt)),
       )
       (rules_spelled ls rs h.1)
 
-pub file_spelled : (f : CoreFile) (p : Problem) → Says f p → AllSpelled (rows_of f)
+pub file_spelled : (f : CoreFile) (p : Problem) → SaysCore f p → AllSpelled (rows_of f)
 file_spelled f p s =
     let all = sort_rows f.declarations in
     let named : AreStatedNames (map (λ row. row.name) (sort_rows f.declarations)) = subst AreStatedNames s.sorts s.sort_names in (
@@ -270,7 +270,7 @@ module _ (all : List SortRow) (known : List FormData) (sorts : AreTextsDistinct 
       ap (λ (x : ℕ). record { form = x; places = j.places }) (one_form r.form j.form k.form a.form b.form)
       ∙ ap (λ (x : List Tree). record { form = k.form; places = x }) (a.places ∙ sym b.places)
 
-  premises_same : (rows : List PremiseRow) (ps qs : List Premise) → ArePremises known rows ps → ArePremises known rows qs → ps ≡ qs
+  premises_same : (rows : List PremiseRow) (ps qs : List Premise) → AreCorePremises known rows ps → AreCorePremises known rows qs → ps ≡ qs
   premises_same [] [] [] h k = refl
   premises_same [] [] (q ∷ qs) h k = absurd k
   premises_same [] (p ∷ ps) qs h k = absurd h
@@ -286,14 +286,14 @@ module _ (all : List SortRow) (known : List FormData) (sorts : AreTextsDistinct 
   premises_same (not_line l m ∷ rows) (apart t u ∷ ps) (apart v w ∷ qs) h k =
       ap (λ (x : Tree). apart x u ∷ ps) (sym h.0 ∙ k.0) ∙ ap (λ (x : Tree). apart v x ∷ ps) (sym h.1 ∙ k.1) ∙ ap (λ (x : List Premise). apart v w ∷ x) (premises_same rows ps qs h.3 k.3)
 
-  one_rule : (l : RuleRows) (r s : NamedRule) → IsRule all known l r → IsRule all known l s → r ≡ s
+  one_rule : (l : RuleRows) (r s : NamedRule) → IsCoreRule all known l r → IsCoreRule all known l s → r ≡ s
   one_rule l r s h k =
       ap (λ (x : List ℕ). record { name = x; rule = r.rule }) (sym h.name ∙ k.name)
       ∙ ap (λ (x : List SortOf). record { name = s.name; rule = record { sorts = x; premises = r.rule.premises; conclusion = r.rule.conclusion } }) (sorts_same all l.sorts r.rule.sorts s.rule.sorts sorts h.sorts k.sorts)
       ∙ ap (λ (x : List Premise). record { name = s.name; rule = record { sorts = s.rule.sorts; premises = x; conclusion = r.rule.conclusion } }) (premises_same l.premises r.rule.premises s.rule.premises h.premises k.premises)
       ∙ ap (λ (x : Judgement). record { name = s.name; rule = record { sorts = s.rule.sorts; premises = s.rule.premises; conclusion = x } }) (one_judgement l.conclusion r.rule.conclusion s.rule.conclusion h.conclusion k.conclusion)
 
-  rules_same : (ls : List RuleRows) (rs ss : List NamedRule) → AreRules all known ls rs → AreRules all known ls ss → rs ≡ ss
+  rules_same : (ls : List RuleRows) (rs ss : List NamedRule) → AreCoreRules all known ls rs → AreCoreRules all known ls ss → rs ≡ ss
   rules_same [] [] [] h k = refl
   rules_same [] [] (s ∷ ss) h k = absurd k
   rules_same [] (r ∷ rs) ss h k = absurd h
@@ -306,12 +306,12 @@ module _ (all : List SortRow) (known : List FormData) (sorts : AreTextsDistinct 
       ap (λ (x : ℕ). record { form = x; terms = g.terms }) (one_form r.form g.form i.form h.form k.form)
       ∙ ap (λ (x : List Tree). record { form = i.form; terms = x }) (h.terms ∙ sym k.terms)
 
-pub one_said : (f : CoreFile) (p q : Problem) → Says f p → Says f q → p ≡ q
+pub one_said : (f : CoreFile) (p q : Problem) → SaysCore f p → SaysCore f q → p ≡ q
 one_said f p q h k =
     let distinct : AreTextsDistinct (sort_names (sort_rows f.declarations)) = subst (λ (x : List (List ℕ)). AreTextsDistinct (codes "id" ∷ codes "num" ∷ codes "str" ∷ x)) h.sorts h.sorts_distinct in
     let cons = cons_same (sort_rows f.declarations) (con_rows f.declarations) p.cons q.cons p.shapes q.shapes distinct h.cons k.cons in
     let forms = forms_same (sort_rows f.declarations) (form_rows f.declarations) p.forms q.forms distinct h.forms k.forms in
-    let rules = rules_same (sort_rows f.declarations) p.forms distinct h.forms_distinct f.rules p.rules q.rules h.rules (subst (λ (x : List FormData). AreRules (sort_rows f.declarations) x f.rules q.rules) (sym forms) k.rules) in
+    let rules = rules_same (sort_rows f.declarations) p.forms distinct h.forms_distinct f.rules p.rules q.rules h.rules (subst (λ (x : List FormData). AreCoreRules (sort_rows f.declarations) x f.rules q.rules) (sym forms) k.rules) in
     let goal = one_goal (sort_rows f.declarations) p.forms distinct h.forms_distinct p.shapes f.goal p.goal q.goal h.goal
     (subst (λ (x : List Shape). IsGoal x p.forms f.goal q.goal) (sym cons.1) (subst (λ (x : List FormData). IsGoal q.shapes x f.goal q.goal) (sym forms) k.goal)) in
     ap (λ (x : List (List ℕ)). record { sorts = x; cons = p.cons; shapes = p.shapes; forms = p.forms; rules = p.rules; goal = p.goal }) (h.sorts ∙ sym k.sorts)
@@ -321,10 +321,10 @@ one_said f p q h k =
     ∙ ap (λ (x : List NamedRule). record { sorts = q.sorts; cons = q.cons; shapes = q.shapes; forms = q.forms; rules = x; goal = p.goal }) rules
     ∙ ap (λ (x : GoalOf). record { sorts = q.sorts; cons = q.cons; shapes = q.shapes; forms = q.forms; rules = q.rules; goal = x }) goal
 
-pub one_of_lines : (lines : Lines) (f g : CoreFile) (p q : Problem) → AreLinesOf lines f → AreLinesOf lines g → Says f p → Says g q → p ≡ q
+pub one_of_lines : (lines : Lines) (f g : CoreFile) (p q : Problem) → AreLinesOf lines f → AreLinesOf lines g → SaysCore f p → SaysCore g q → p ≡ q
 one_of_lines lines f g p q a b h k =
     let same = file_same f g (rows_same (rows_of f) (rows_of g) (file_spelled f p h) (file_spelled g q k) (sym a ∙ b)) in
-    one_said f p q h (subst (λ (x : CoreFile). Says x q) (sym same) k)
+    one_said f p q h (subst (λ (x : CoreFile). SaysCore x q) (sym same) k)
 
 pub one_problem : OneProblemIsStated
 one_problem lines f g p q a b h k = one_of_lines lines f g p q a b h.says k.says

@@ -3,7 +3,7 @@ use Rattle.std.proofs.Common.{◌≡◌, List, [], ◌∷◌, ◌++◌, Some, No
 use Rattle.std.specs.List.{flat_map}
 use Rattle.sx_core.specs.File.{Declaration, sort_line, con_line, form_line, PremiseRow, if_line, not_line, JudgementRow, RuleRows, CoreFile}
 use Rattle.sx_core.specs.Table.{Row, row, declaration_row, premise_row, rule_rows, rows_of, Has}
-use Rattle.sx_core.specs.Order.{IsFront, Phase, at_start, at_declarations, at_rules, at_premises, at_conclusion, at_end, step}
+use Rattle.sx_core.specs.Order.{AreRowsInOrder, Phase, at_start, at_declarations, at_rules, at_premises, at_conclusion, at_end, step}
 use Rattle.sx_core.specs.declared.keyword.Keyword.{Keyword}
 use Rattle.sx_core.specs.declared.keyword.Keyword.TheVariants.{Head, Sort, Con, Form, Rule, If, Not, Then, End, Goal}
 
@@ -67,7 +67,7 @@ file_reaches file =
     )
 
 -- a row whose place is past or has not come
-pub no_front : (rows : List Row) (r : Row) (q : Phase) → Reaches at_start rows q → step q r.keyword ≡ None → IsFront (rows ++ r ∷ []) → ⊥
+pub no_front : (rows : List Row) (r : Row) (q : Phase) → Reaches at_start rows q → step q r.keyword ≡ None → AreRowsInOrder (rows ++ r ∷ []) → ⊥
 no_front rows r q h e f =
     let a = reach_split (rows ++ r ∷ []) f.1 at_start at_end (subst (λ (x : List Row). Reaches at_start x at_end) f.2 (file_reaches f.0)) in
     let b = reach_split rows (r ∷ []) at_start a.0 a.1 in

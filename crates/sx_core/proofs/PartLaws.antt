@@ -12,17 +12,17 @@ use Rattle.sx_rules.specs.Views.{FormData, modes_of, sorts_of}
 use Rattle.sx_term.specs.declared.role.Role.{Role}
 use Rattle.sx_term.specs.declared.role.Role.TheVariants.{In, Sub, Out}
 use Rattle.sx_core.specs.File.{SortRow, ConRow, PlaceRow, FormRow, JudgementRow, sort_line}
-use Rattle.sx_core.specs.File.{con_line, form_line, words_text, core_kind_text, role_text}
-use Rattle.sx_core.specs.File.{place_text, judgement_text}
-use Rattle.sx_core.specs.Stated.{IsName, AreStatedNames, NameSorts, IsGoal, AreReadable}
+use Rattle.sx_core.specs.File.{con_line, form_line, words_text, core_kind_text, core_role_text}
+use Rattle.sx_core.specs.File.{core_place_text, judgement_text}
+use Rattle.sx_core.specs.Stated.{IsCoreName, AreStatedNames, NameSorts, IsGoal, AreReadable}
 use Rattle.sx_core.specs.Rows.{AreNamed, IsDeclarationLine, NoRow}
 use Rattle.sx_core.specs.Words.{IsNameRead, NameRefused, AreNamesRead, NamesRefused}
 use Rattle.sx_core.specs.Resolving.{NoCoreRowIs, IsConOf, IsFormOf}
 use Rattle.sx_core.specs.Statements.{form_names, IsJudgementRead, IsDeepJudgement, IsGoalRead}
 use Rattle.sx_core.specs.Statements.{IsDeepGoal}
 use Rattle.sx_core.specs.TermsText.{terms_text, RowRead, IsDeepRow, RefusedAs}
-use Rattle.sx_core.specs.Table.{core_keyword_text, Parts, parts_text, Row, row, RuleRow, IsKeyword}
-use Rattle.sx_core.specs.Fitting.{Context, PartsFit, IsFull, IsDeep, IsFitting, IsDeepLine}
+use Rattle.sx_core.specs.Table.{core_keyword_text, RowParts, parts_text, Row, row, RuleRow, IsKeyword}
+use Rattle.sx_core.specs.Fitting.{Context, PartsFit, IsFullJudgement, IsDeep, IsFitting, IsDeepLine}
 use Rattle.sx_core.specs.declared.keyword.Keyword.{Keyword}
 use Rattle.sx_core.specs.declared.keyword.Keyword.TheVariants.{Head, Sort, Con, Form, Rule, If, Not}
 use Rattle.sx_core.specs.declared.keyword.Keyword.TheVariants.{Then, End, Goal}
@@ -49,7 +49,7 @@ no_lines a x e = cc
 
 -- ---- one row only
 
-role_same : (r s : Role) (a b : List ℕ) → role_text r ++ a ≡ role_text s ++ b → (r ≡ s) × (a ≡ b)
+role_same : (r s : Role) (a b : List ℕ) → core_role_text r ++ a ≡ core_role_text s ++ b → (r ≡ s) × (a ≡ b)
 role_same In In a b e = (refl, same_after (codes "in:") a b e)
 role_same Sub Sub a b e = (refl, same_after (codes "sub:") a b e)
 role_same Out Out a b e = (refl, same_after (codes "out:") a b e)
@@ -60,18 +60,18 @@ role_same Sub Out a b e = absurd (clash _ _ 115 111 refl refl (λ q. omega arith
 role_same Out In a b e = absurd (clash _ _ 111 105 refl refl (λ q. omega arith) e)
 role_same Out Sub a b e = absurd (clash _ _ 111 115 refl refl (λ q. omega arith) e)
 
-place_same : (p q : PlaceRow) → place_text p ≡ place_text q → p ≡ q
+place_same : (p q : PlaceRow) → core_place_text p ≡ core_place_text q → p ≡ q
 place_same p q e =
     let h = role_same p.role q.role p.sort q.sort e in
     ap (λ (x : Role). record { role = x; sort = p.sort }) h.0 ∙ ap (λ (x : List ℕ). record { role = q.role; sort = x }) h.1
 
-places_same : (ps qs : List PlaceRow) → map place_text ps ≡ map place_text qs → ps ≡ qs
+places_same : (ps qs : List PlaceRow) → map core_place_text ps ≡ map core_place_text qs → ps ≡ qs
 places_same [] [] e = refl
-places_same [] (q ∷ qs) e = absurd (no_lines (place_text q) (map place_text qs) e)
-places_same (p ∷ ps) [] e = absurd (no_lines (place_text p) (map place_text ps) (sym e))
+places_same [] (q ∷ qs) e = absurd (no_lines (core_place_text q) (map core_place_text qs) e)
+places_same (p ∷ ps) [] e = absurd (no_lines (core_place_text p) (map core_place_text ps) (sym e))
 places_same (p ∷ ps) (q ∷ qs) e =
-    let h = place_same p q (first_same (place_text p) (place_text q) (map place_text ps) (map place_text qs) e) in
-    let k = places_same ps qs (rest_same (place_text p) (place_text q) (map place_text ps) (map place_text qs) e) in
+    let h = place_same p q (first_same (core_place_text p) (core_place_text q) (map core_place_text ps) (map core_place_text qs) e) in
+    let k = places_same ps qs (rest_same (core_place_text p) (core_place_text q) (map core_place_text ps) (map core_place_text qs) e) in
     ap (λ r. r ∷ ps) h ∙ ap (λ r. q ∷ r) k
 
 kind_words : (typed : Bool) → AreWords (core_kind_text typed ∷ [])
@@ -84,7 +84,7 @@ kind_same false false e = refl
 kind_same true false e = absurd (clash _ _ 116 112 refl refl (λ q. omega arith) e)
 kind_same false true e = absurd (clash _ _ 112 116 refl refl (λ q. omega arith) e)
 
-pub sort_same : (a b : SortRow) → IsName a.name → IsName b.name → parts_text Sort a ≡ parts_text Sort b → a ≡ b
+pub sort_same : (a b : SortRow) → IsCoreName a.name → IsCoreName b.name → parts_text Sort a ≡ parts_text Sort b → a ≡ b
 sort_same a b h k e =
     let q = one_words (a.name ∷ core_kind_text a.typed ∷ []) (b.name ∷ core_kind_text b.typed ∷ []) (name_space a.name h, kind_words a.typed) (name_space b.name k, kind_words b.typed) e in
     let n = first_same a.name b.name (core_kind_text a.typed ∷ []) (core_kind_text b.typed ∷ []) q in
@@ -100,11 +100,11 @@ con_same a b h k e =
     let t = rest_same a.sort b.sort a.kids b.kids r in
     ap (λ (x : List ℕ). record { name = x; sort = a.sort; kids = a.kids }) n ∙ ap (λ (x : List ℕ). record { name = b.name; sort = x; kids = a.kids }) s ∙ ap (λ (x : List (List ℕ)). record { name = b.name; sort = b.sort; kids = x }) t
 
-pub form_same : (a b : FormRow) → IsName a.name × AreNamed a.places → IsName b.name × AreNamed b.places → parts_text Form a ≡ parts_text Form b → a ≡ b
+pub form_same : (a b : FormRow) → IsCoreName a.name × AreNamed a.places → IsCoreName b.name × AreNamed b.places → parts_text Form a ≡ parts_text Form b → a ≡ b
 form_same a b h k e =
-    let q = one_words (a.name ∷ map place_text a.places) (b.name ∷ map place_text b.places) (name_space a.name h.0, place_words a.places h.1) (name_space b.name k.0, place_words b.places k.1) e in
-    let n = first_same a.name b.name (map place_text a.places) (map place_text b.places) q in
-    let t = places_same a.places b.places (rest_same a.name b.name (map place_text a.places) (map place_text b.places) q) in
+    let q = one_words (a.name ∷ map core_place_text a.places) (b.name ∷ map core_place_text b.places) (name_space a.name h.0, place_words a.places h.1) (name_space b.name k.0, place_words b.places k.1) e in
+    let n = first_same a.name b.name (map core_place_text a.places) (map core_place_text b.places) q in
+    let t = places_same a.places b.places (rest_same a.name b.name (map core_place_text a.places) (map core_place_text b.places) q) in
     ap (λ (x : List ℕ). record { name = x; places = a.places }) n ∙ ap (λ (x : List PlaceRow). record { name = b.name; places = x }) t
 
 pub rule_same : (a b : RuleRow) → AreStatedNames (a.name ∷ a.sorts) → AreStatedNames (b.name ∷ b.sorts) → parts_text Rule a ≡ parts_text Rule b → a ≡ b
@@ -115,10 +115,10 @@ rule_same a b h k e =
 -- ---- lines
 
 -- the parts are these, and as stated
-abbrev pub IsPart : Context → (k : Keyword) → List ℕ → Parts k → Type 0
+abbrev pub IsPart : Context → (k : Keyword) → List ℕ → RowParts k → Type 0
 IsPart c k rest p = (rest ≡ parts_text k p) × PartsFit c k p
 
-pub line_fits : (c : Context) (k : Keyword) (text rest : List ℕ) → IsKeyword text k rest → (p : Parts k) → IsPart c k rest p → IsFitting c text (row k p)
+pub line_fits : (c : Context) (k : Keyword) (text rest : List ℕ) → IsKeyword text k rest → (p : RowParts k) → IsPart c k rest p → IsFitting c text (row k p)
 line_fits c k text rest h p q = (h.parts ∙ ap (λ (x : List ℕ). core_keyword_text k ++ x) q.0, q.1)
 
 deep_same : (c : Context) (k : Keyword) (text rest : List ℕ) → IsKeyword text k rest → (depth : ℕ) → IsDeepLine c text depth → IsDeep c k rest depth
@@ -239,7 +239,7 @@ module _ (c : Context) (rest : List ℕ) where
 
   -- ---- judgements
 
-  full_of : (row : JudgementRow) (j : Judgement) → rest ≡ judgement_text row → IsFull c.forms row j → IsJudgementRead c.forms rest j
+  full_of : (row : JudgementRow) (j : Judgement) → rest ≡ judgement_text row → IsFullJudgement c.forms row j → IsJudgementRead c.forms rest j
   full_of row j e h = record { row = row; parts = e; named = h.0; is = h.1 }
 
   pub if_part : (j : Judgement) (h : IsJudgementRead c.forms rest j) → IsPart c If rest h.row
@@ -281,7 +281,7 @@ module _ (c : Context) (rest : List ℕ) where
       let is : IsGoal c.shapes c.forms (record { form = h.form.word; terms = g.terms }) g = record { form = h.form.is; terms = refl; readable = readable_of g.terms h.terms.row.1 h.terms.row.2; subject = h.subject; sorted = h.terms.sorted } in
       ((h.form.parts ∙ ap (λ (x : List ℕ). 32 ∷ (h.form.word ++ x)) h.terms.row.3 ∙ sym (judgement_open (record { form = h.form.word; terms = g.terms })), (h.form.named, g, is)), is)
 
-  goal_of : (row : JudgementRow) (g : GoalOf) → rest ≡ judgement_text row → IsName row.form → IsGoal c.shapes c.forms row g → IsGoalRead c.shapes c.forms rest g
+  goal_of : (row : JudgementRow) (g : GoalOf) → rest ≡ judgement_text row → IsCoreName row.form → IsGoal c.shapes c.forms row g → IsGoalRead c.shapes c.forms rest g
   goal_of row g e n h = record {
     rest = terms_text row.terms;
     form = record { word = row.form; parts = e ∙ judgement_open row; named = n; stops = terms_stop row.terms; is = h.form };

@@ -12,18 +12,18 @@ use Rattle.sx_rules.specs.Views.{FormData, NamedRule, goal, judgement, named, pr
 use Rattle.sx_rules.specs.declared.rule.Judgement.{Judgement as JudgementOf}
 use Rattle.sx_core.specs.File.{SortRow, ConRow, FormRow, Declaration, sort_line, con_line}
 use Rattle.sx_core.specs.File.{form_line, JudgementRow, PremiseRow, if_line, not_line, RuleRows}
-use Rattle.sx_core.specs.Stated.{IsName, AreStatedNames, NameSorts, AreCons}
+use Rattle.sx_core.specs.Stated.{IsCoreName, AreStatedNames, NameSorts, AreCons}
 use Rattle.sx_lines.specs.Distinct.{AreTextsDistinct}
-use Rattle.sx_core.specs.Stated.{AreForms, IsJudgement, ArePremises, IsRule, AreRules, IsGoal}
+use Rattle.sx_core.specs.Stated.{AreForms, IsJudgement, AreCorePremises, IsCoreRule, AreCoreRules, IsGoal}
 use Rattle.sx_core.specs.Resolving.{sort_names, rows_in, IsSortTable, IsConOf, IsFormOf}
 use Rattle.sx_core.specs.Statements.{form_names, known_in, IsFormTable}
 use Rattle.sx_core.specs.Table.{Row, row, row_text, RuleRow, declaration_row, premise_row}
 use Rattle.sx_core.specs.Table.{rule_rows}
-use Rattle.sx_core.specs.Fitting.{Context, PartsFit, IsFitting, sorts_at, cons_at, forms_at}
-use Rattle.sx_core.specs.Fitting.{sorts_among, cons_among, forms_among, Declare, AllFit}
+use Rattle.sx_core.specs.Fitting.{Context, PartsFit, IsFitting, core_sorts_at, cons_at, forms_at}
+use Rattle.sx_core.specs.Fitting.{sorts_among, cons_among, forms_among, Declare, AllRowsFit}
 use Rattle.sx_core.specs.Reading.{context, AreNamesFound}
 use Rattle.sx_core.specs.Order.{phase_of, step, at_start, at_premises, at_end}
-use Rattle.sx_core.specs.Machine.{AddsSort, AddsCon, AddsForm, IsReaderKept, AddsPremise}
+use Rattle.sx_core.specs.Machine.{AddsSort, AddsCon, AddsForm, IsReaderKept, HasOneMorePremise}
 use Rattle.sx_core.specs.Machine.{whole_rule, MayBegin}
 use Rattle.sx_core.specs.declared.found.Found.{Found}
 use Rattle.sx_core.specs.declared.reader.Reader.{Reader}
@@ -49,9 +49,9 @@ pub none_more : {A B : Type 0} (f : A → List B) (xs : List A) (x : A) → f x 
 none_more f xs x e = among_snoc f xs x ∙ ap (λ r. flat_map f xs ++ r) e ∙ append-nil (flat_map f xs)
 
 abbrev sort_of : Row → List SortRow
-sort_of r = sorts_at r.keyword r.parts
+sort_of r = core_sorts_at r.keyword r.parts
 
-fit_snoc : (all : List SortRow) (before rows : List Row) (r : Row) → AllFit all before rows → ((c : Context) × Declare all (before ++ rows) c × PartsFit c r.keyword r.parts) → AllFit all before (rows ++ r ∷ [])
+fit_snoc : (all : List SortRow) (before rows : List Row) (r : Row) → AllRowsFit all before rows → ((c : Context) × Declare all (before ++ rows) c × PartsFit c r.keyword r.parts) → AllRowsFit all before (rows ++ r ∷ [])
 fit_snoc all before [] r h k = ((k.0, subst (λ (x : List Row). Declare all x k.0) (append-nil before) k.1, k.2), tt)
 fit_snoc all before (x ∷ rows) r h k =
     (h.0, fit_snoc all (before ++ x ∷ []) rows r h.1 (k.0, subst (λ (y : List Row). Declare all y k.0) (sym (append_assoc before (x ∷ []) rows)) k.1, k.2))
@@ -64,9 +64,9 @@ front_rows ds rs = row Head tt ∷ (map declaration_row ds ++ flat_map rule_rows
 -- the rule that is not ended
 pub record Opened (all : List SortRow) (known : List FormData) (lines : Lines) (front : List Row) (o : Open) (head : RuleRow) (premises : List PremiseRow) : Type 0 where
   pub name : head.name ≡ o.name
-  pub is_name : IsName o.name
+  pub is_name : IsCoreName o.name
   pub sorts : NameSorts all head.sorts o.sorts.items
-  pub are : ArePremises known premises (map premise o.premises.items)
+  pub are : AreCorePremises known premises (map premise o.premises.items)
   pub after : Lines
   pub takes : Takes (map row_text front) lines after
   pub number : o.line ≡ line_number after
@@ -88,14 +88,14 @@ pub record Staged (all : List SortRow) (lines : Lines) (rows : List Row) (r : Re
   pub front : List Row
   pub inside : List Row
   pub parts : rows ≡ front ++ inside
-  pub are : AreRules all (known_in r.found.forms) ended (map named r.rules.items)
+  pub are : AreCoreRules all (known_in r.found.forms) ended (map named r.rules.items)
   pub stands : Stands all (shapes r.found.shapes) (known_in r.found.forms) lines r.stage declarations ended front inside
 
 pub record IsAt (all : List SortRow) (lines : Lines) (rows : List Row) (r : Reader) (next : Lines) : Type 0 where
   pub same : rows_in r.found.sorts ≡ all
   pub found : AreNamesFound r.found
   pub declare : Declare all rows (context r.found)
-  pub fit : AllFit all [] rows
+  pub fit : AllRowsFit all [] rows
   pub cons : AreStatedNames r.found.cons.items
   pub cons_distinct : AreTextsDistinct r.found.cons.items
   pub forms : AreStatedNames (form_names (known_in r.found.forms))
@@ -111,12 +111,12 @@ module _ (all : List SortRow) (lines : Lines) (rows : List Row) (r s : Reader) (
       subst (λ (y : List (List ℕ)). Takes y lines more) (sym (map_last row_text rows x))
       (Takes-append (map row_text rows) (row_text x ∷ []) lines next more at.takes (subst (λ (y : Lines). Takes (row_text x ∷ []) y more) (sym e) (q, refl)))
 
-  fit_more : (x : Row) → IsFitting (context r.found) text x → AllFit all [] (rows ++ x ∷ [])
+  fit_more : (x : Row) → IsFitting (context r.found) text x → AllRowsFit all [] (rows ++ x ∷ [])
   fit_more x q = fit_snoc all [] rows x at.fit (context r.found, at.declare, q.1)
 
   -- a row that declares nothing
   kept : (x : Row) → IsFitting (context r.found) text x → step (phase_of r.stage) x.keyword ≡ Some (phase_of s.stage) → s.found ≡ r.found
-      → sorts_at x.keyword x.parts ≡ [] → cons_at x.keyword x.parts ≡ [] → forms_at x.keyword x.parts ≡ [] → Staged all lines (rows ++ x ∷ []) s → IsAt all lines (rows ++ x ∷ []) s more
+      → core_sorts_at x.keyword x.parts ≡ [] → cons_at x.keyword x.parts ≡ [] → forms_at x.keyword x.parts ≡ [] → Staged all lines (rows ++ x ∷ []) s → IsAt all lines (rows ++ x ∷ []) s more
   kept x q f g a b d h = record {
     same = ap (λ (y : Found). rows_in y.sorts) g ∙ at.same;
     found = subst AreNamesFound (sym g) at.found;
@@ -153,13 +153,13 @@ rows_front rows front inside e f = e ∙ ap (λ (y : List Row). front ++ y) f �
 flat_snoc : (rs : List RuleRows) (x : RuleRows) → flat_map rule_rows (rs ++ x ∷ []) ≡ flat_map rule_rows rs ++ rule_rows x
 flat_snoc rs x = among_snoc rule_rows rs x
 
-rules_snoc : (all : List SortRow) (known : List FormData) (ls : List RuleRows) (rs : List NamedRule) (l : RuleRows) (x : NamedRule) → AreRules all known ls rs → IsRule all known l x → AreRules all known (ls ++ l ∷ []) (rs ++ x ∷ [])
+rules_snoc : (all : List SortRow) (known : List FormData) (ls : List RuleRows) (rs : List NamedRule) (l : RuleRows) (x : NamedRule) → AreCoreRules all known ls rs → IsCoreRule all known l x → AreCoreRules all known (ls ++ l ∷ []) (rs ++ x ∷ [])
 rules_snoc all known [] [] l x h k = (k, tt)
 rules_snoc all known [] (r ∷ rs) l x h k = absurd h
 rules_snoc all known (m ∷ ls) [] l x h k = absurd h
 rules_snoc all known (m ∷ ls) (r ∷ rs) l x h k = (h.0, rules_snoc all known ls rs l x h.1 k)
 
-premises_snoc : (known : List FormData) (rows : List PremiseRow) (ps : List Premise) (x : PremiseRow) (p : Premise) → ArePremises known rows ps → ArePremises known (x ∷ []) (p ∷ []) → ArePremises known (rows ++ x ∷ []) (ps ++ p ∷ [])
+premises_snoc : (known : List FormData) (rows : List PremiseRow) (ps : List Premise) (x : PremiseRow) (p : Premise) → AreCorePremises known rows ps → AreCorePremises known (x ∷ []) (p ∷ []) → AreCorePremises known (rows ++ x ∷ []) (ps ++ p ∷ [])
 premises_snoc known [] [] x p h k = k
 premises_snoc known [] (q ∷ ps) x p h k = absurd h
 premises_snoc known (if_line y ∷ rows) [] x p h k = absurd h
@@ -212,14 +212,14 @@ module _ (all : List SortRow) (lines : Lines) (rows : List Row) (r s : Reader) (
 
   -- the same forms, rules and shapes, and this stage
   stage_now : (rows' : List Row) (q : Stage) → s.stage ≡ q → s.found ≡ r.found → s.rules ≡ r.rules → (ds : List Declaration) (rs : List RuleRows) (front inside : List Row) → rows' ≡ front ++ inside
-      → AreRules all (known_in r.found.forms) rs (map named r.rules.items) → Stands all (shapes r.found.shapes) (known_in r.found.forms) lines q ds rs front inside → Staged all lines rows' s
+      → AreCoreRules all (known_in r.found.forms) rs (map named r.rules.items) → Stands all (shapes r.found.shapes) (known_in r.found.forms) lines q ds rs front inside → Staged all lines rows' s
   stage_now rows' q f g h ds rs front inside p a t = record {
     declarations = ds;
     ended = rs;
     front = front;
     inside = inside;
     parts = p;
-    are = subst (λ (y : Found). AreRules all (known_in y.forms) rs (map named s.rules.items)) (sym g) (subst (λ y. AreRules all (known_in r.found.forms) rs (map named y.items)) (sym h) a);
+    are = subst (λ (y : Found). AreCoreRules all (known_in y.forms) rs (map named s.rules.items)) (sym g) (subst (λ y. AreCoreRules all (known_in r.found.forms) rs (map named y.items)) (sym h) a);
     stands = subst (λ (x : Stage). Stands all (shapes s.found.shapes) (known_in s.found.forms) lines x ds rs front inside) (sym f)
         (subst (λ (y : Found). Stands all (shapes y.shapes) (known_in y.forms) lines q ds rs front inside) (sym g) t);
   }
@@ -230,7 +230,7 @@ module _ (all : List SortRow) (lines : Lines) (rows : List Row) (r s : Reader) (
       kept all lines rows r s next more n text after at e (row Head tt) q (step_of Head Start Declaring h.0 h.1 refl) h.2.0 refl refl refl
       (stage_now (rows ++ row Head tt ∷ []) Declaring h.1 h.2.0 h.2.1 [] [] (row Head tt ∷ []) []
       (ap (λ (y : List Row). y ++ row Head tt ∷ []) (rows_front rows at.staged.front at.staged.inside at.staged.parts w.2 ∙ w.0))
-      (subst (λ (y : List RuleRows). AreRules all (known_in r.found.forms) y (map named r.rules.items)) w.1 at.staged.are) (refl, refl, refl))
+      (subst (λ (y : List RuleRows). AreCoreRules all (known_in r.found.forms) y (map named r.rules.items)) w.1 at.staged.are) (refl, refl, refl))
 
   pub rule_at : (x : RuleRow) (o : Open) → IsFitting (context r.found) text (row Rule x) → MayBegin r.stage → (s.stage ≡ Premising o) → (o.line ≡ n) → (x.name ≡ o.name) → NameSorts all x.sorts o.sorts.items → (o.premises.items ≡ []) → IsReaderKept r s → IsAt all lines (rows ++ row Rule x ∷ []) s more
   rule_at x o q b f l m v p k =
@@ -244,9 +244,9 @@ module _ (all : List SortRow) (lines : Lines) (rows : List Row) (r s : Reader) (
         [],
         record {
           name = m;
-          is_name = subst IsName m q.1.0.0;
+          is_name = subst IsCoreName m q.1.0.0;
           sorts = v;
-          are = subst (λ (y : List Premise). ArePremises (known_in r.found.forms) [] y) (sym (ap (map premise) p)) tt;
+          are = subst (λ (y : List Premise). AreCorePremises (known_in r.found.forms) [] y) (sym (ap (map premise) p)) tt;
           after = next;
           takes = subst (λ (y : List Row). Takes (map row_text y) lines next) fr at.takes;
           number = l ∙ sym (ap line_number e);
@@ -255,8 +255,8 @@ module _ (all : List SortRow) (lines : Lines) (rows : List Row) (r s : Reader) (
       ))
 
   -- one more premise
-  pub premise_at : (x : PremiseRow) (y : Premise) (o p : Open) → IsFitting (context r.found) text (premise_row x) → (r.stage ≡ Premising o) → (s.stage ≡ Premising p) → ArePremises (known_in r.found.forms) (x ∷ []) (y ∷ []) → AddsPremise o p y → IsReaderKept r s
-      → step at_premises (premise_row x).keyword ≡ Some at_premises → sorts_at (premise_row x).keyword (premise_row x).parts ≡ [] → cons_at (premise_row x).keyword (premise_row x).parts ≡ [] → forms_at (premise_row x).keyword (premise_row x).parts ≡ []
+  pub premise_at : (x : PremiseRow) (y : Premise) (o p : Open) → IsFitting (context r.found) text (premise_row x) → (r.stage ≡ Premising o) → (s.stage ≡ Premising p) → AreCorePremises (known_in r.found.forms) (x ∷ []) (y ∷ []) → HasOneMorePremise o p y → IsReaderKept r s
+      → step at_premises (premise_row x).keyword ≡ Some at_premises → core_sorts_at (premise_row x).keyword (premise_row x).parts ≡ [] → cons_at (premise_row x).keyword (premise_row x).parts ≡ [] → forms_at (premise_row x).keyword (premise_row x).parts ≡ []
       → IsAt all lines (rows ++ premise_row x ∷ []) s more
   premise_at x y o p q f g a i k st a1 a2 a3 =
       let w = stood (Premising o) f in
@@ -271,9 +271,9 @@ module _ (all : List SortRow) (lines : Lines) (rows : List Row) (r s : Reader) (
         ps ++ x ∷ [],
         record {
           name = op.name ∙ sym i.name;
-          is_name = subst IsName (sym i.name) op.is_name;
+          is_name = subst IsCoreName (sym i.name) op.is_name;
           sorts = subst (λ z. NameSorts all h.sorts z.items) (sym i.sorts) op.sorts;
-          are = subst (λ (z : List Premise). ArePremises (known_in r.found.forms) (ps ++ x ∷ []) z) (sym i.premises) (premises_snoc (known_in r.found.forms) ps (map premise o.premises.items) x y op.are a);
+          are = subst (λ (z : List Premise). AreCorePremises (known_in r.found.forms) (ps ++ x ∷ []) z) (sym i.premises) (premises_snoc (known_in r.found.forms) ps (map premise o.premises.items) x y op.are a);
           after = op.after;
           takes = op.takes;
           number = i.line ∙ op.number;
@@ -305,7 +305,7 @@ module _ (all : List SortRow) (lines : Lines) (rows : List Row) (r s : Reader) (
       let op = w.3 in
       let c = w.4 in
       let whole : RuleRows = record { name = h.name; sorts = h.sorts; premises = ps; conclusion = c } in
-      let is : IsRule all (known_in r.found.forms) whole (whole_rule o j) = record { name = op.name; is_name = op.is_name; sorts = op.sorts; premises = op.are; conclusion = w.6 } in
+      let is : IsCoreRule all (known_in r.found.forms) whole (whole_rule o j) = record { name = op.name; is_name = op.is_name; sorts = op.sorts; premises = op.are; conclusion = w.6 } in
       let rows_are : at.staged.inside ++ row End tt ∷ [] ≡ rule_rows whole =
       ap (λ (z : List Row). z ++ row End tt ∷ []) w.5 ∙ ap (λ (z : List Row). row Rule (record { name = h.name; sorts = h.sorts }) ∷ z) (append_assoc (map premise_row ps) (row Then c ∷ []) (row End tt ∷ [])) in
       kept all lines rows r s next more n text after at e (row End tt) q (step_of End (Concluded o j) Between f g refl) k refl refl refl (record {
@@ -315,8 +315,8 @@ module _ (all : List SortRow) (lines : Lines) (rows : List Row) (r s : Reader) (
         inside = [];
         parts = parts_more rows at.staged.front at.staged.inside (row End tt) at.staged.parts ∙ ap (λ (z : List Row). at.staged.front ++ z) rows_are ∙ ap (λ (z : List Row). z ++ rule_rows whole) w.0
             ∙ ruled_front at.staged.declarations at.staged.ended whole ∙ sym (append-nil (front_rows at.staged.declarations (at.staged.ended ++ whole ∷ [])));
-        are = subst (λ (y : Found). AreRules all (known_in y.forms) (at.staged.ended ++ whole ∷ []) (map named s.rules.items)) (sym k)
-            (subst (λ (y : List NamedRule). AreRules all (known_in r.found.forms) (at.staged.ended ++ whole ∷ []) y) (sym u) (rules_snoc all (known_in r.found.forms) at.staged.ended (map named r.rules.items) whole (whole_rule o j) at.staged.are is));
+        are = subst (λ (y : Found). AreCoreRules all (known_in y.forms) (at.staged.ended ++ whole ∷ []) (map named s.rules.items)) (sym k)
+            (subst (λ (y : List NamedRule). AreCoreRules all (known_in r.found.forms) (at.staged.ended ++ whole ∷ []) y) (sym u) (rules_snoc all (known_in r.found.forms) at.staged.ended (map named r.rules.items) whole (whole_rule o j) at.staged.are is));
         stands = subst (λ (x : Stage). Stands all (shapes s.found.shapes) (known_in s.found.forms) lines x at.staged.declarations (at.staged.ended ++ whole ∷ []) (front_rows at.staged.declarations (at.staged.ended ++ whole ∷ [])) []) (sym g) (refl, refl);
       })
 
@@ -324,8 +324,8 @@ module _ (all : List SortRow) (lines : Lines) (rows : List Row) (r s : Reader) (
   declared : (x : Declaration) → (r.stage ≡ Declaring) → (s.stage ≡ Declaring) → (s.rules ≡ r.rules) → Staged all lines (rows ++ declaration_row x ∷ []) s
   declared x f g h =
       let w = stood Declaring f in
-      let a : AreRules all (known_in r.found.forms) [] (map named s.rules.items) =
-      subst (λ (y : List RuleRows). AreRules all (known_in r.found.forms) y (map named s.rules.items)) w.1 (subst (λ y. AreRules all (known_in r.found.forms) at.staged.ended (map named y.items)) (sym h) at.staged.are) in
+      let a : AreCoreRules all (known_in r.found.forms) [] (map named s.rules.items) =
+      subst (λ (y : List RuleRows). AreCoreRules all (known_in r.found.forms) y (map named s.rules.items)) w.1 (subst (λ y. AreCoreRules all (known_in r.found.forms) at.staged.ended (map named y.items)) (sym h) at.staged.are) in
       record {
         declarations = at.staged.declarations ++ x ∷ [];
         ended = [];
@@ -337,7 +337,7 @@ module _ (all : List SortRow) (lines : Lines) (rows : List Row) (r s : Reader) (
         stands = subst (λ (z : Stage). Stands all (shapes s.found.shapes) (known_in s.found.forms) lines z (at.staged.declarations ++ x ∷ []) [] (front_rows (at.staged.declarations ++ x ∷ []) []) []) (sym g) (refl, refl, refl);
       }
     where
-      no_rules : (a b : List FormData) (rs : List NamedRule) → AreRules all a [] rs → AreRules all b [] rs
+      no_rules : (a b : List FormData) (rs : List NamedRule) → AreCoreRules all a [] rs → AreCoreRules all b [] rs
       no_rules a b [] k = tt
       no_rules a b (z ∷ zs) k = absurd k
 
@@ -421,7 +421,7 @@ module _ (all : List SortRow) (lines : Lines) (rows : List Row) (r s : Reader) (
         fit = fit_more all lines rows r s next more n text after at e (row Form x) q;
         cons = subst (λ z. AreStatedNames z.items) (sym a.cons) at.cons;
         cons_distinct = subst (λ z. AreTextsDistinct z.items) (sym a.cons) at.cons_distinct;
-        forms = subst AreStatedNames (sym names) (names_snoc (form_names (known_in r.found.forms)) c.name at.forms (subst IsName i.name q.1.0));
+        forms = subst AreStatedNames (sym names) (names_snoc (form_names (known_in r.found.forms)) c.name at.forms (subst IsCoreName i.name q.1.0));
         reach = reach_snoc rows (row Form x) at_start (phase_of r.stage) (phase_of s.stage) at.reach (step_of Form Declaring Declaring f g refl);
         staged = declared (form_line x) f g h;
         takes = takes_more all lines rows r s next more n text after at e (row Form x) q.0;

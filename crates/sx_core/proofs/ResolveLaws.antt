@@ -7,8 +7,8 @@ use Rattle.sx_term.specs.declared.role.Role.{Role}
 use Rattle.sx_rules.specs.declared.rule.Place.{Place}
 use Rattle.sx_rules.specs.Views.{FormData}
 use Rattle.sx_core.specs.File.{SortRow, ConRow, PlaceRow, FormRow}
-use Rattle.sx_core.specs.Stated.{NamesSort, NameSorts, MayHave, MayStandAt, AreStatedPlaces}
-use Rattle.sx_core.specs.Stated.{AreCons, AreForms, subject_count, one_when}
+use Rattle.sx_core.specs.Stated.{NamesSort, NameSorts, MayHave, MayHaveSort, AreStatedPlaces}
+use Rattle.sx_core.specs.Stated.{AreCons, AreForms, subject_count, subject_count_when}
 use Rattle.sx_lines.specs.Distinct.{AreTextsDistinct}
 use Rattle.sx_term.specs.Untyped.{IsUntypedSort, AreUntypedSorts}
 use Rattle.sx_rules.specs.Views.{is_sub}
@@ -40,7 +40,7 @@ untyped_more ss i d r lt e w h = subst AreUntypedSorts (sym (take_one ss i (get_
 pub untyped_all : (ss : List Sort) (i : ℕ) → length ss ≤ i → AreUntypedSorts (take i ss) → IsTrue true ↔ AreUntypedSorts ss
 untyped_all ss i le h = ((λ t. subst AreUntypedSorts (take_all i ss le) h), λ k. refl)
 
-pub subjects_snoc : (ps : List Place) (p : Place) → subject_count (ps ++ p ∷ []) ≡ subject_count ps + one_when (is_sub p.role)
+pub subjects_snoc : (ps : List Place) (p : Place) → subject_count (ps ++ p ∷ []) ≡ subject_count ps + subject_count_when (is_sub p.role)
 subjects_snoc [] p = omega arith
 subjects_snoc (q ∷ ps) p = let e = subjects_snoc ps p in omega arith
 
@@ -135,9 +135,9 @@ module _ (rows : List SortRow) where
       ap (λ x. x ∷ fs) e ∙ ap (λ x. g ∷ x) (forms_same rs fs gs d h.3 k.3)
 
 module _ (rows : List SortRow) (d : AreTextsDistinct (sort_names rows)) where
-  pub place_not : (row : PlaceRow) (s : Sort) → NamesSort rows row.sort s → (MayStandAt row.role s → ⊥) → (p : Place) → IsPlaceOf rows row p → ⊥
+  pub place_not : (row : PlaceRow) (s : Sort) → NamesSort rows row.sort s → (MayHaveSort row.role s → ⊥) → (p : Place) → IsPlaceOf rows row p → ⊥
   place_not row s h n p k =
-      n (subst (λ (r : Role). MayStandAt r s) (sym k.role) (subst (MayStandAt p.role) (sort_same rows row.sort p.sort s d k.sort h) k.may))
+      n (subst (λ (r : Role). MayHaveSort r s) (sym k.role) (subst (MayHaveSort p.role) (sort_same rows row.sort p.sort s d k.sort h) k.may))
 
   pub con_not : (con : ConRow) (s : Sort) (ks : List Sort) → NamesSort rows con.sort s → NameSorts rows con.kids ks → (MayHave s ks → ⊥) → (x : Shape) → IsConOf rows con x → ⊥
   con_not con s ks h g n x k =
@@ -146,17 +146,17 @@ module _ (rows : List SortRow) (d : AreTextsDistinct (sort_names rows)) where
   pub form_not : (row : FormRow) (ps : List Place) → AreStatedPlaces rows row.places ps → (subject_count ps ≤ 1 → ⊥) → (f : FormData) → IsFormOf rows row f → ⊥
   form_not row ps h n f k = n (subst (λ (qs : List Place). subject_count qs ≤ 1) (places_same rows row.places f.places ps d k.places h) k.one)
 
-one_at_most : (b : Bool) → one_when b ≤ 1
+one_at_most : (b : Bool) → subject_count_when b ≤ 1
 one_at_most true = omega arith
 one_at_most false = omega arith
 
-pub subjects_more : (ps : List Place) (i : ℕ) (d : Place) (n m : ℕ) → i < length ps → n ≡ subject_count (take i ps) → m ≡ one_when (is_sub (get_or ps i d).role) → n + m ≡ subject_count (take (i + 1) ps)
+pub subjects_more : (ps : List Place) (i : ℕ) (d : Place) (n m : ℕ) → i < length ps → n ≡ subject_count (take i ps) → m ≡ subject_count_when (is_sub (get_or ps i d).role) → n + m ≡ subject_count (take (i + 1) ps)
 subjects_more ps i d n m lt e f =
     let q = ap subject_count (take_one ps i (get_or ps i d) (slice_get-get_or ps i d lt)) in
     let s = subjects_snoc (take i ps) (get_or ps i d) in
     omega arith
 
-pub subjects_few : (n m i : ℕ) (b : Bool) → n ≤ i → m ≡ one_when b → n + m ≤ i + 1
+pub subjects_few : (n m i : ℕ) (b : Bool) → n ≤ i → m ≡ subject_count_when b → n + m ≤ i + 1
 subjects_few n m i b h e = let k = one_at_most b in omega arith
 
 pub cons_length : (rows : List SortRow) (cs : List ConRow) (ns : List (List ℕ)) (ss : List Shape) → AreCons rows cs ns ss → length ns ≡ length cs

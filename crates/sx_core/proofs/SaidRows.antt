@@ -11,16 +11,16 @@ use Rattle.sx_rules.specs.Good.{IsAmong}
 use Rattle.sx_core.specs.File.{SortRow, ConRow, FormRow, Declaration, sort_line, con_line}
 use Rattle.sx_core.specs.File.{form_line, PremiseRow, if_line, not_line, RuleRows, CoreFile}
 use Rattle.sx_core.specs.Problem.{Problem}
-use Rattle.sx_core.specs.Stated.{sort_rows, con_rows, form_rows, IsName, AreStatedNames}
-use Rattle.sx_core.specs.Stated.{AreCons, AreForms, ArePremises, IsRule, AreRules}
+use Rattle.sx_core.specs.Stated.{sort_rows, con_rows, form_rows, IsCoreName, AreStatedNames}
+use Rattle.sx_core.specs.Stated.{AreCons, AreForms, AreCorePremises, IsCoreRule, AreCoreRules}
 use Rattle.sx_lines.specs.Distinct.{AreTextsDistinct}
-use Rattle.sx_core.specs.Stated.{IsGoal, Says}
+use Rattle.sx_core.specs.Stated.{IsGoal, SaysCore}
 use Rattle.sx_core.specs.Resolving.{sort_names, IsConOf, IsFormOf}
 use Rattle.sx_core.specs.Statements.{form_names}
-use Rattle.sx_core.specs.Table.{Parts, Row, row, row_text, declaration_row, premise_row, rule_rows}
+use Rattle.sx_core.specs.Table.{RowParts, Row, row, row_text, declaration_row, premise_row, rule_rows}
 use Rattle.sx_core.specs.Table.{rows_of}
-use Rattle.sx_core.specs.Fitting.{Context, PartsFit, sorts_at, cons_at, forms_at, sorts_among}
-use Rattle.sx_core.specs.Fitting.{cons_among, forms_among, Declare, AllFit, AreSorts}
+use Rattle.sx_core.specs.Fitting.{Context, PartsFit, core_sorts_at, cons_at, forms_at, sorts_among}
+use Rattle.sx_core.specs.Fitting.{cons_among, forms_among, Declare, AllRowsFit, AreSorts}
 use Rattle.sx_core.specs.CoreRead.{ReadTo, AreLinesOf}
 use Rattle.sx_core.specs.declared.keyword.Keyword.{Keyword}
 use Rattle.sx_core.specs.declared.keyword.Keyword.TheVariants.{Head, Sort, Con, Form, Rule, If, Not}
@@ -54,7 +54,7 @@ distinct_on names name more d = subst AreTextsDistinct (sym (append_assoc names 
 -- ---- what one more row declares
 
 abbrev sorts_of : Row → List SortRow
-sorts_of r = sorts_at r.keyword r.parts
+sorts_of r = core_sorts_at r.keyword r.parts
 
 abbrev cons_of : Row → List ConRow
 cons_of r = cons_at r.keyword r.parts
@@ -112,7 +112,7 @@ record Declared (all : List SortRow) (before rows : List Row) (c : Context) (ss 
   declare : Declare all (before ++ rows) end
   shapes : end.shapes ≡ c.shapes ++ ss
   forms : end.forms ≡ c.forms ++ fs
-  fit : AllFit all before rows
+  fit : AllRowsFit all before rows
 
 no_cons : (all : List SortRow) (names : List (List ℕ)) (ss : List Shape) → AreCons all [] names ss → ss ≡ []
 no_cons all [] [] h = refl
@@ -182,7 +182,7 @@ later_append : (c : Context) (xs ys : List Row) → AllLater c xs → AllLater c
 later_append c [] ys h k = k
 later_append c (x ∷ xs) ys h k = (h.0, h.1, later_append c xs ys h.2 k)
 
-later_none : (k : Keyword) (p : Parts k) → IsLater k → (sorts_at k p ≡ []) × (cons_at k p ≡ []) × (forms_at k p ≡ [])
+later_none : (k : Keyword) (p : RowParts k) → IsLater k → (core_sorts_at k p ≡ []) × (cons_at k p ≡ []) × (forms_at k p ≡ [])
 later_none Head p h = (refl, refl, refl)
 later_none Sort p h = absurd h
 later_none Con p h = absurd h
@@ -195,19 +195,19 @@ later_none End p h = (refl, refl, refl)
 later_none Goal p h = (refl, refl, refl)
 
 module _ (all : List SortRow) (c : Context) where
-  later_fit : (rows before : List Row) → Declare all before c → AllLater c rows → AllFit all before rows × Declare all (before ++ rows) c
+  later_fit : (rows before : List Row) → Declare all before c → AllLater c rows → AllRowsFit all before rows × Declare all (before ++ rows) c
   later_fit [] before d h = (tt, subst (λ (z : List Row). Declare all z c) (sym (append-nil before)) d)
   later_fit (r ∷ rows) before d h =
       let q = later_none r.keyword r.parts h.0 in
       let w = later_fit rows (before ++ r ∷ []) (next_kept all before c d r q.0 q.1 q.2) h.2 in
       (((c, d, h.1), w.0), subst (λ (z : List Row). Declare all z c) (append_assoc before (r ∷ []) rows) w.1)
 
-fits_append : (all : List SortRow) (xs before ys : List Row) → AllFit all before xs → AllFit all (before ++ xs) ys → AllFit all before (xs ++ ys)
-fits_append all [] before ys h k = subst (λ (z : List Row). AllFit all z ys) (append-nil before) k
-fits_append all (x ∷ xs) before ys h k = (h.0, fits_append all xs (before ++ x ∷ []) ys h.1 (subst (λ (z : List Row). AllFit all z ys) (sym (append_assoc before (x ∷ []) xs)) k))
+fits_append : (all : List SortRow) (xs before ys : List Row) → AllRowsFit all before xs → AllRowsFit all (before ++ xs) ys → AllRowsFit all before (xs ++ ys)
+fits_append all [] before ys h k = subst (λ (z : List Row). AllRowsFit all z ys) (append-nil before) k
+fits_append all (x ∷ xs) before ys h k = (h.0, fits_append all xs (before ++ x ∷ []) ys h.1 (subst (λ (z : List Row). AllRowsFit all z ys) (sym (append_assoc before (x ∷ []) xs)) k))
 
 module _ (c : Context) (named : AreStatedNames (map (λ row. row.name) c.sorts)) (forms : AreStatedNames (form_names c.forms)) where
-  premises_later : (rows : List PremiseRow) (ps : List Premise) → ArePremises c.forms rows ps → AllLater c (map premise_row rows)
+  premises_later : (rows : List PremiseRow) (ps : List Premise) → AreCorePremises c.forms rows ps → AllLater c (map premise_row rows)
   premises_later [] ps h = tt
   premises_later (if_line r ∷ rows) [] h = absurd h
   premises_later (if_line r ∷ rows) (holds j ∷ ps) h = (tt, (j, (form_named c.forms r.form j.form forms h.0.form, h.0)), premises_later rows ps h.1)
@@ -216,15 +216,15 @@ module _ (c : Context) (named : AreStatedNames (map (λ row. row.name) c.sorts))
   premises_later (not_line l m ∷ rows) (holds j ∷ ps) h = absurd h
   premises_later (not_line l m ∷ rows) (apart t u ∷ ps) h = (tt, h.2, premises_later rows ps h.3)
 
-  rule_later : (l : RuleRows) (r : NamedRule) → IsRule c.sorts c.forms l r → AllLater c (rule_rows l)
+  rule_later : (l : RuleRows) (r : NamedRule) → IsCoreRule c.sorts c.forms l r → AllLater c (rule_rows l)
   rule_later l r h = (
     tt,
-    ((subst IsName (sym h.name) h.is_name, sorts_named c.sorts l.sorts r.rule.sorts named h.sorts), r.rule.sorts, h.sorts),
+    ((subst IsCoreName (sym h.name) h.is_name, sorts_named c.sorts l.sorts r.rule.sorts named h.sorts), r.rule.sorts, h.sorts),
     later_append c (map premise_row l.premises) (row Then l.conclusion ∷ row End tt ∷ []) (premises_later l.premises r.rule.premises h.premises)
         (tt, (r.rule.conclusion, (form_named c.forms l.conclusion.form r.rule.conclusion.form forms h.conclusion.form, h.conclusion)), (tt, tt, tt)),
   )
 
-  rules_later : (ls : List RuleRows) (rs : List NamedRule) → AreRules c.sorts c.forms ls rs → AllLater c (flat_map rule_rows ls)
+  rules_later : (ls : List RuleRows) (rs : List NamedRule) → AreCoreRules c.sorts c.forms ls rs → AllLater c (flat_map rule_rows ls)
   rules_later [] rs h = tt
   rules_later (l ∷ ls) [] h = absurd h
   rules_later (l ∷ ls) (r ∷ rs) h = later_append c (rule_rows l) (flat_map rule_rows ls) (rule_later l r h.0) (rules_later ls rs h.1)
@@ -234,7 +234,7 @@ module _ (c : Context) (named : AreStatedNames (map (λ row. row.name) c.sorts))
 nothing_declared : List SortRow → Context
 nothing_declared all = record { sorts = all; taken = sort_names []; cons = []; shapes = []; forms = [] }
 
-module _ (f : CoreFile) (p : Problem) (s : Says f p) where
+module _ (f : CoreFile) (p : Problem) (s : SaysCore f p) where
   abbrev said_sorts : List SortRow
   said_sorts = sort_rows f.declarations
 
@@ -277,7 +277,7 @@ module _ (f : CoreFile) (p : Problem) (s : Says f p) where
   unfolding last
   rules_last =
       rules_later last named_last forms_last f.rules p.rules
-      (subst (λ (z : List SortRow). AreRules z last.forms f.rules p.rules) (sym declared.declare.sorts) (subst (λ (z : List FormData). AreRules said_sorts z f.rules p.rules) (sym last_forms) s.rules))
+      (subst (λ (z : List SortRow). AreCoreRules z last.forms f.rules p.rules) (sym declared.declare.sorts) (subst (λ (z : List FormData). AreCoreRules said_sorts z f.rules p.rules) (sym last_forms) s.rules))
 
   goal_last : AllLater last (row Goal f.goal ∷ [])
   goal_last = (
@@ -299,14 +299,14 @@ module _ (f : CoreFile) (p : Problem) (s : Says f p) where
   rows_parts : declared_front ++ later_rows ≡ rows_of f
   rows_parts = ap (λ (z : List Row). row Head tt ∷ z) (sym (append_assoc (map declaration_row f.declarations) (flat_map rule_rows f.rules) (row Goal f.goal ∷ [])))
 
-  later : AllFit said_sorts declared_front later_rows × Declare said_sorts (declared_front ++ later_rows) last
+  later : AllRowsFit said_sorts declared_front later_rows × Declare said_sorts (declared_front ++ later_rows) last
   unfolding last
   later = later_fit said_sorts last later_rows declared_front declared.declare (later_append last (flat_map rule_rows f.rules) (row Goal f.goal ∷ []) rules_last goal_last)
 
-  pub said_fit : AllFit said_sorts [] (rows_of f)
+  pub said_fit : AllRowsFit said_sorts [] (rows_of f)
   unfolding nothing_declared
   said_fit =
-      subst (AllFit said_sorts []) rows_parts
+      subst (AllRowsFit said_sorts []) rows_parts
       ((nothing_declared said_sorts, record { sorts = refl; taken = refl; cons = tt; forms = tt }, tt), fits_append said_sorts (map declaration_row f.declarations) (row Head tt ∷ []) later_rows declared.fit later.0)
 
   pub said_declare : Declare said_sorts (rows_of f) last
@@ -326,7 +326,7 @@ texts_taken (line n text after more) (x ∷ xs) e =
     both : (a b : List ℕ) (u v : List (List ℕ)) → a ∷ u ≡ b ∷ v → (a ≡ b) × (u ≡ v)
     both a b u v e = (cc, cc)
 
-spelled_sort : (r : Row) (y : SortRow) → Spelled r.keyword r.parts → r ≡ row Sort y → IsName y.name
+spelled_sort : (r : Row) (y : SortRow) → Spelled r.keyword r.parts → r ≡ row Sort y → IsCoreName y.name
 spelled_sort r y h e = subst (λ (z : Row). Spelled z.keyword z.parts) e h
 
 none_one : (x : SortRow) → [] ≡ x ∷ [] → ⊥
@@ -363,11 +363,11 @@ lines_sorts (r ∷ rows) found (line m text after more) next n o t sp d = elim (
     new_sort xs x ys g = new_name (sort_names xs) x.name (map (λ row. row.name) ys) (subst AreTextsDistinct (names_append xs x ys) g)
 
 -- the lines of a file that says something are read to the end
-pub said_read : (lines : Lines) (f : CoreFile) (p : Problem) → AreLinesOf lines f → Says f p → (c : Context) × (n : ℕ) × ReadTo lines (rows_of f) c (over n)
+pub said_read : (lines : Lines) (f : CoreFile) (p : Problem) → AreLinesOf lines f → SaysCore f p → (c : Context) × (n : ℕ) × ReadTo lines (rows_of f) c (over n)
 said_read lines f p a s =
     let w = texts_taken lines (map row_text (rows_of f)) a in
     let among : sorts_among (rows_of f) ≡ sort_rows f.declarations =
-    declared_rows (λ (z : Row). sorts_at z.keyword z.parts) refl (λ q. refl) (λ q. refl) (λ q. refl) (λ q. refl) refl (λ q. refl) f.declarations f.rules f.goal ∙ sorts_declared f.declarations in
+    declared_rows (λ (z : Row). core_sorts_at z.keyword z.parts) refl (λ q. refl) (λ q. refl) (λ q. refl) (λ q. refl) refl (λ q. refl) f.declarations f.rules f.goal ∙ sorts_declared f.declarations in
     let sorts : AreSorts [] lines (sort_rows f.declarations) =
     subst (AreSorts [] lines) among (lines_sorts (rows_of f) [] lines (over w.0) w.0 refl w.1 (file_spelled f p s) (subst (λ (z : List SortRow). AreTextsDistinct (sort_names z)) (sym among) (sorts_are_distinct f p s))) in
     let declare = said_declare f p s in (
@@ -377,7 +377,7 @@ said_read lines f p a s =
         sorts = subst (AreSorts [] lines) (sym declare.sorts) sorts;
         takes = w.1;
         declare = subst (λ (z : List SortRow). Declare z (rows_of f) (last f p s)) (sym declare.sorts) declare;
-        fit = subst (λ (z : List SortRow). AllFit z [] (rows_of f)) (sym declare.sorts) (said_fit f p s);
+        fit = subst (λ (z : List SortRow). AllRowsFit z [] (rows_of f)) (sym declare.sorts) (said_fit f p s);
         front = (f, [], sym (append-nil (rows_of f)));
       },
     )

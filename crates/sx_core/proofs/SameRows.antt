@@ -8,8 +8,8 @@ use Rattle.sx_rules.specs.Views.{FormData}
 use Rattle.sx_core.specs.File.{SortRow}
 use Rattle.sx_lines.specs.Distinct.{AreTextsDistinct}
 use Rattle.sx_core.specs.Resolving.{sort_names}
-use Rattle.sx_core.specs.Table.{Parts, Row, row_text}
-use Rattle.sx_core.specs.Fitting.{Context, PartsFit, Declare, AllFit, cons_among, forms_among}
+use Rattle.sx_core.specs.Table.{RowParts, Row, row_text}
+use Rattle.sx_core.specs.Fitting.{Context, PartsFit, Declare, AllRowsFit, cons_among, forms_among}
 use Rattle.sx_core.specs.Fitting.{AreSorts}
 use Rattle.sx_core.specs.declared.keyword.Keyword.{Keyword}
 use Rattle.sx_core.specs.declared.keyword.Keyword.TheVariants.{Head, Sort, Con, Form, Rule, If, Not}
@@ -23,7 +23,7 @@ use Rattle.sx_core.proofs.OneProblem.{Spelled, AllSpelled, row_same}
 
 -- ---- rows that are as stated are spelled
 
-pub fits_spelled : (c : Context) (k : Keyword) (p : Parts k) → PartsFit c k p → Spelled k p
+pub fits_spelled : (c : Context) (k : Keyword) (p : RowParts k) → PartsFit c k p → Spelled k p
 fits_spelled c Head p h = tt
 fits_spelled c Sort p h = h.0
 fits_spelled c Con p h = h.0
@@ -35,12 +35,12 @@ fits_spelled c Then p h = (h.1.0, cores_of p.terms h.1.1.readable)
 fits_spelled c End p h = tt
 fits_spelled c Goal p h = (h.0, cores_of p.terms h.2.readable)
 
-pub rows_spelled : (all : List SortRow) (before rows : List Row) → AllFit all before rows → AllSpelled rows
+pub rows_spelled : (all : List SortRow) (before rows : List Row) → AllRowsFit all before rows → AllSpelled rows
 rows_spelled all before [] h = tt
 rows_spelled all before (r ∷ rows) h = (fits_spelled h.0.0 r.keyword r.parts h.0.2, rows_spelled all (before ++ r ∷ []) rows h.1)
 
 -- a row is as stated after those before it
-pub fit_at : (all : List SortRow) (before xs : List Row) (r : Row) (more : List Row) → AllFit all before (xs ++ r ∷ more) → (c : Context) × Declare all (before ++ xs) c × PartsFit c r.keyword r.parts
+pub fit_at : (all : List SortRow) (before xs : List Row) (r : Row) (more : List Row) → AllRowsFit all before (xs ++ r ∷ more) → (c : Context) × Declare all (before ++ xs) c × PartsFit c r.keyword r.parts
 fit_at all before [] r more h = (h.0.0, subst (λ (z : List Row). Declare all z h.0.0) (sym (append-nil before)) h.0.1, h.0.2)
 fit_at all before (x ∷ xs) r more h =
     let w = fit_at all (before ++ x ∷ []) xs r more h.1 in

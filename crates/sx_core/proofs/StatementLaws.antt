@@ -17,7 +17,7 @@ use Rattle.sx_core.specs.File.{JudgementRow, judgement_text, words_text}
 use Rattle.sx_core.specs.Stated.{NamesForm, AreReadable, subject_count}
 use Rattle.sx_lines.specs.Distinct.{AreTextsDistinct}
 use Rattle.sx_core.specs.TermsText.{terms_text, HaveCores, RowRead, IsDeepRow, RefusedAs}
-use Rattle.sx_core.specs.Words.{Stops, IsNameRead, NameRefused}
+use Rattle.sx_core.specs.Words.{BlankFirst, IsNameRead, NameRefused}
 use Rattle.sx_core.specs.Statements.{form_names, IsFormRead, FormRefused, IsJudgementRead}
 use Rattle.sx_core.specs.Statements.{IsDeepJudgement, IsInputsRead, IsGoalRead, IsDeepGoal}
 use Rattle.sx_core.specs.declared.terms_row.RowError.{RowError}
@@ -44,7 +44,7 @@ words_terms (t ∷ ts) = ap (λ (x : List ℕ). 32 ∷ (core t ++ x)) (words_ter
 pub judgement_open : (row : JudgementRow) → judgement_text row ≡ 32 ∷ (row.form ++ terms_text row.terms)
 judgement_open row = ap (λ (x : List ℕ). 32 ∷ (row.form ++ x)) (words_terms row.terms)
 
-pub terms_stop : (ts : List Tree) → Stops (terms_text ts)
+pub terms_stop : (ts : List Tree) → BlankFirst (terms_text ts)
 terms_stop [] = tt
 terms_stop (t ∷ ts) = refl
 

@@ -12,7 +12,7 @@ use Rattle.sx_lines.specs.Words.{is_name, is_name_byte, after}
 use Rattle.sx_lines.proofs.BlankLaws.{is_first_blank, no_space-all}
 use Rattle.sx_lines.proofs.TextLaws.{NoBlank, name_no_blank}
 use Rattle.sx_core.specs.File.{words_text}
-use Rattle.sx_core.specs.Stated.{IsName, AreStatedNames}
+use Rattle.sx_core.specs.Stated.{IsCoreName, AreStatedNames}
 use Rattle.sx_term.specs.Text.{IsTextMade}
 use Rattle.std.specs.Prelude.{Err, Option, Some, None, MatchOption}
 use Rattle.std.specs.Borrow.{Bor}
@@ -20,7 +20,7 @@ use Rattle.std.specs.Option.{option_copied}
 use Rattle.sx_lines.proofs.WordLaws.{after_front, front_of}
 use Rattle.sx_term.specs.declared.text_error.TextError.{TextError}
 use Rattle.sx_term.specs.declared.text_error.TextError.TheVariants.{NotUtf8, Memory as NoRoom}
-use Rattle.sx_core.specs.Words.{core_text_error, Stops, IsWordEnd, IsWordRead, NoWord, IsNameRead}
+use Rattle.sx_core.specs.Words.{core_text_error, BlankFirst, IsWordEnd, IsWordRead, NoWord, IsNameRead}
 use Rattle.sx_core.specs.Words.{NameRefused, AreNamesRead, NamesRefused, NoName}
 use Rattle.sx_core.specs.declared.terms_row.RowError.{RowError}
 use Rattle.sx_core.specs.declared.terms_row.RowError.TheVariants.{Memory, Shape, TooDeep}
@@ -76,14 +76,14 @@ word_end text at h lt e =
     record {
       inside = omega arith;
       word = b.word;
-      stops = subst Stops (sym (drop_more text at 0 lt)) e;
+      stops = subst BlankFirst (sym (drop_more text at 0 lt)) e;
     }
 
 pub word_end_all : (text : List ℕ) → ((k : ℕ) → k < length text → get_or text k 0 ≢ 32) → IsWordEnd text (length text)
 word_end_all text h = record {
   inside = omega arith;
   word = subst NoSpace (sym (take_all (length text) text (omega arith))) (no_space-all text h);
-  stops = subst Stops (sym (drop_all (length text) text (omega arith))) tt;
+  stops = subst BlankFirst (sym (drop_all (length text) text (omega arith))) tt;
 }
 
 pub word_read : (text word rest : List ℕ) (at : ℕ) → 1 ≤ length text → get_or text 0 0 ≡ 32 → IsWordEnd (take (length text - 1) (drop 1 text)) at
@@ -93,11 +93,11 @@ word_read text word rest at long first h e f =
     record {
       parts = front_taken text 32 long first ∙ ap (λ (x : List ℕ). 32 ∷ x) (sym (take-append-drop at others)) ∙ ap (λ (x : List ℕ). 32 ∷ (x ++ drop at others)) (sym e) ∙ ap (λ (x : List ℕ). 32 ∷ (word ++ x)) (sym f);
       spaceless = subst NoSpace (sym e) h.word;
-      stops = subst Stops (sym f) h.stops;
+      stops = subst BlankFirst (sym f) h.stops;
     }
 
 -- a word and what follows it are one thing only
-pub one_word : (n m x y : List ℕ) → NoSpace n → NoSpace m → Stops x → Stops y → n ++ x ≡ m ++ y → (n ≡ m) × (x ≡ y)
+pub one_word : (n m x y : List ℕ) → NoSpace n → NoSpace m → BlankFirst x → BlankFirst y → n ++ x ≡ m ++ y → (n ≡ m) × (x ≡ y)
 one_word [] [] x y h k s t e = (refl, e)
 one_word [] (b ∷ m) [] y h k s t e = absurd (nothing_is b (m ++ y) e)
 one_word [] (b ∷ m) (c ∷ x) y h k s t e = absurd (k.0 (sym (head_same c b x (m ++ y) e) ∙ s))
@@ -107,7 +107,7 @@ one_word (a ∷ n) (b ∷ m) x y h k s t e =
     let q = one_word n m x y h.1 k.1 s t (tail_is a b (n ++ x) (m ++ y) e) in
     (ap (λ (z : List ℕ). a ∷ z) q.0 ∙ ap (λ (c : ℕ). c ∷ m) (head_same a b (n ++ x) (m ++ y) e), q.1)
 
-pub words_stop : (words : List (List ℕ)) → Stops (words_text words)
+pub words_stop : (words : List (List ℕ)) → BlankFirst (words_text words)
 words_stop [] = tt
 words_stop (word ∷ words) = refl
 
@@ -145,7 +145,7 @@ pub name_refused : (text word rest : List ℕ) (e : RowError) → IsWordRead tex
 name_refused text word rest Memory w h = tt
 name_refused text word rest Shape w h = λ name more n s e.
     let q = one_word word name rest more w.spaceless (name_space name n) w.stops s (tail_is 32 32 (word ++ rest) (name ++ more) (sym w.parts ∙ e)) in
-    h (subst IsName (sym q.0) n)
+    h (subst IsCoreName (sym q.0) n)
 name_refused text word rest (TooDeep depth) w h = h
 
 pub no_word_name : (text : List ℕ) → NoWord text → NameRefused text Shape
@@ -165,7 +165,7 @@ words_snoc [] name rest = ap (λ (x : List ℕ). 32 ∷ (x ++ rest)) (append-nil
 words_snoc (n ∷ names) name rest =
     ap (λ (x : List ℕ). 32 ∷ x) (append_assoc n (words_text (names ++ name ∷ [])) rest ∙ ap (λ (x : List ℕ). n ++ x) (words_snoc names name rest) ∙ sym (append_assoc n (words_text names) (32 ∷ (name ++ rest))))
 
-pub names_snoc : (names : List (List ℕ)) (name : List ℕ) → AreStatedNames names → IsName name → AreStatedNames (names ++ name ∷ [])
+pub names_snoc : (names : List (List ℕ)) (name : List ℕ) → AreStatedNames names → IsCoreName name → AreStatedNames (names ++ name ∷ [])
 names_snoc [] name h k = (k, tt)
 names_snoc (n ∷ names) name h k = (h.0, names_snoc names name h.1 k)
 

@@ -10,10 +10,10 @@ use Rattle.sx_rules.specs.declared.error.RuleError.{RuleError}
 use Rattle.sx_rules.specs.declared.error.RuleError.TheVariants.{Memory as NoRoom}
 use Rattle.sx_core.specs.File.{CoreFile}
 use Rattle.sx_core.specs.Problem.{Problem, problem}
-use Rattle.sx_core.specs.Stated.{Says, StatesProblem}
+use Rattle.sx_core.specs.Stated.{SaysCore, StatesProblem}
 use Rattle.sx_core.specs.Table.{Row, row_text, rows_of, Has, NoKeyword}
-use Rattle.sx_core.specs.Fitting.{Context, IsFitting, IsDeepLine, Declare, AllFit, AreSorts}
-use Rattle.sx_core.specs.Order.{IsFront}
+use Rattle.sx_core.specs.Fitting.{Context, IsFitting, IsDeepLine, Declare, AllRowsFit, AreSorts}
+use Rattle.sx_core.specs.Order.{AreRowsInOrder}
 use Rattle.sx_core.specs.declared.keyword.Keyword.TheVariants.{Rule, End, Goal}
 use Rattle.sx_lines.specs.declared.kind.Kind.{Kind}
 use Rattle.sx_lines.specs.declared.kind.Kind.TheVariants.{Head as BadHead, Directive, Shape, Order}
@@ -29,26 +29,26 @@ pub record ReadTo (lines : Lines) (rows : List Row) (c : Context) (next : Lines)
   pub sorts : AreSorts [] lines c.sorts
   pub takes : Takes (map row_text rows) lines next
   pub declare : Declare c.sorts rows c
-  pub fit : AllFit c.sorts [] rows
-  pub front : IsFront rows
+  pub fit : AllRowsFit c.sorts [] rows
+  pub front : AreRowsInOrder rows
 
 -- neither the first line, nor one after the goal's
 abbrev pub IsUsual : List Row → Type 0
 IsUsual rows = (rows ≡ [] → ⊥) × (Has Goal rows → ⊥)
 
 -- what is bad about the line with this text after these rows
-abbrev pub IsBadLine : Context → List Row → List ℕ → Kind → Type 0
-IsBadLine c rows text BadHead = (rows ≡ []) × (text ≡ codes "sxcore 1" → ⊥)
-IsBadLine c rows text Directive = IsUsual rows × NoKeyword text
-IsBadLine c rows text Shape =
+abbrev pub IsBadCoreLine : Context → List Row → List ℕ → Kind → Type 0
+IsBadCoreLine c rows text BadHead = (rows ≡ []) × (text ≡ codes "sxcore 1" → ⊥)
+IsBadCoreLine c rows text Directive = IsUsual rows × NoKeyword text
+IsBadCoreLine c rows text Shape =
     IsUsual rows × (NoKeyword text → ⊥) × ((row : Row) → IsFitting c text row → ⊥) ×
     ((depth : ℕ) → IsDeepLine c text depth → ⊥)
-IsBadLine c rows text Order =
+IsBadCoreLine c rows text Order =
     Has Goal rows ⊎ (IsUsual rows × (row : Row) × IsFitting c text row ×
-    (IsFront (rows ++ row ∷ []) → ⊥))
-IsBadLine c rows text Unfinished = ⊥
-IsBadLine c rows text Main = ⊥
-IsBadLine c rows text Variable = ⊥
+    (AreRowsInOrder (rows ++ row ∷ []) → ⊥))
+IsBadCoreLine c rows text Unfinished = ⊥
+IsBadCoreLine c rows text Main = ⊥
+IsBadCoreLine c rows text Variable = ⊥
 
 -- a core text of this depth stands in the line, and the line is that of no row that is as stated
 abbrev pub IsTooDeep : Context → List Row → List ℕ → ℕ → Type 0
@@ -64,24 +64,25 @@ pub record IsRuleOpen (rows front : List Row) : Type 0 where
   pub not_ended : Has End inside → ⊥
 
 -- what is missing where no line comes after these rows
-abbrev pub IsMissing : Lines → List Row → ℕ → ℕ → Kind → Type 0
-IsMissing lines rows end number BadHead = (rows ≡ []) × (number ≡ end)
-IsMissing lines rows end number Unfinished =
+abbrev pub IsMissingRow : Lines → List Row → ℕ → ℕ → Kind → Type 0
+IsMissingRow lines rows end number BadHead = (rows ≡ []) × (number ≡ end)
+IsMissingRow lines rows end number Unfinished =
     (front : List Row) × (next : Lines) × IsRuleOpen rows front ×
     Takes (map row_text front) lines next × (number ≡ line_number next)
-IsMissing lines rows end number Main = IsUsual rows × ((front : List Row) → IsRuleOpen rows front →
+IsMissingRow lines rows end number Main = IsUsual rows
+    × ((front : List Row) → IsRuleOpen rows front →
     ⊥) ×
     (number ≡ end)
-IsMissing lines rows end number Directive = ⊥
-IsMissing lines rows end number Shape = ⊥
-IsMissing lines rows end number Order = ⊥
-IsMissing lines rows end number Variable = ⊥
+IsMissingRow lines rows end number Directive = ⊥
+IsMissingRow lines rows end number Shape = ⊥
+IsMissingRow lines rows end number Order = ⊥
+IsMissingRow lines rows end number Variable = ⊥
 
 -- the next line is the first bad one, or one is missing
 abbrev pub IsBadAt : Lines → List Row → Context → Lines → ℕ → Kind → Type 0
-IsBadAt lines rows c (over n) number kind = IsMissing lines rows n number kind
+IsBadAt lines rows c (over n) number kind = IsMissingRow lines rows n number kind
 IsBadAt lines rows c (line n text after more) number kind =
-    (number ≡ n) × IsBadLine c rows text kind
+    (number ≡ n) × IsBadCoreLine c rows text kind
 
 -- the next line is the first bad one, and has a core text that is too deep
 abbrev pub IsDeepAt : List Row → Context → Lines → ℕ → ℕ → Type 0
@@ -95,7 +96,8 @@ AreLinesOf lines file = line_texts lines ≡ map row_text (rows_of file)
 -- the file says this, and this is why its rules are no rule set
 abbrev pub AreRulesRefused : CoreFile → RuleError → Type 0
 AreRulesRefused file NoRoom = ⊥
-AreRulesRefused file e = (p : Problem) × Says file p × IsRuleSetRefused p.shapes p.forms p.rules e
+AreRulesRefused file e = (p : Problem) × SaysCore file p
+    × IsRuleSetRefused p.shapes p.forms p.rules e
 
 -- what reading the lines that are kept answers
 abbrev pub AreLinesAnswered : Lines → Result Problem CoreFileError → Type 0

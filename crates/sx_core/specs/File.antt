@@ -61,14 +61,14 @@ words_text [] = []
 words_text (word ∷ words) = 32 ∷ word ++ words_text words
 
 -- `in:`, `sub:` or `out:`
-abbrev pub role_text : Role → List ℕ
-role_text In = codes "in:"
-role_text Sub = codes "sub:"
-role_text Out = codes "out:"
+abbrev pub core_role_text : Role → List ℕ
+core_role_text In = codes "in:"
+core_role_text Sub = codes "sub:"
+core_role_text Out = codes "out:"
 
 -- a place as it is spelled
-abbrev pub place_text : PlaceRow → List ℕ
-place_text place = role_text place.role ++ place.sort
+abbrev pub core_place_text : PlaceRow → List ℕ
+core_place_text place = core_role_text place.role ++ place.sort
 
 -- `typed` or `plain`
 abbrev pub core_kind_text : Bool → List ℕ
@@ -84,4 +84,5 @@ abbrev pub declaration_text : Declaration → List ℕ
 declaration_text (sort_line row) = codes "sort" ++ words_text (row.name ∷ core_kind_text row.typed ∷
     [])
 declaration_text (con_line row) = codes "con" ++ words_text (row.name ∷ row.sort ∷ row.kids)
-declaration_text (form_line row) = codes "form" ++ words_text (row.name ∷ map place_text row.places)
+declaration_text (form_line row) = codes "form" ++ words_text
+    (row.name ∷ map core_place_text row.places)

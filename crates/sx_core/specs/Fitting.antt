@@ -8,13 +8,14 @@ use Rattle.sx_rules.specs.Rules.{Judgement}
 use Rattle.sx_rules.specs.Views.{FormData}
 use Rattle.sx_lines.specs.Lines.{Lines, over, line}
 use Rattle.sx_core.specs.File.{SortRow, ConRow, FormRow, JudgementRow}
-use Rattle.sx_core.specs.Stated.{IsName, AreStatedNames, AreCons, AreForms, NameSorts, AreReadable}
+use Rattle.sx_core.specs.Stated.{IsCoreName, AreStatedNames, AreCons, AreForms, NameSorts}
+use Rattle.sx_core.specs.Stated.{AreReadable}
 use Rattle.sx_core.specs.Stated.{IsJudgement, IsGoal}
 use Rattle.sx_core.specs.Rows.{AreNamed}
 use Rattle.sx_core.specs.Resolving.{sort_names, IsConOf, IsFormOf}
 use Rattle.sx_core.specs.Statements.{form_names, IsDeepJudgement, IsDeepGoal}
 use Rattle.sx_core.specs.TermsText.{IsDeepRow}
-use Rattle.sx_core.specs.Table.{Parts, Row, row_text, IsKeyword}
+use Rattle.sx_core.specs.Table.{RowParts, Row, row_text, IsKeyword}
 use Rattle.sx_core.specs.declared.keyword.Keyword.{Keyword}
 use Rattle.sx_core.specs.declared.keyword.Keyword.TheVariants.{Head, Sort, Con, Form, Rule, If, Not}
 use Rattle.sx_core.specs.declared.keyword.Keyword.TheVariants.{Then, End, Goal}
@@ -29,25 +30,25 @@ pub record Context : Type 0 where
   pub forms : List FormData
 
 -- a judgement of a form that is known
-abbrev pub IsFull : List FormData → JudgementRow → Judgement → Type 0
-IsFull forms row j = IsName row.form × IsJudgement forms row j
+abbrev pub IsFullJudgement : List FormData → JudgementRow → Judgement → Type 0
+IsFullJudgement forms row j = IsCoreName row.form × IsJudgement forms row j
 
 -- the parts are as stated
-abbrev pub PartsFit : Context → (k : Keyword) → Parts k → Type 0
+abbrev pub PartsFit : Context → (k : Keyword) → RowParts k → Type 0
 PartsFit c Head parts = Unit {0}
-PartsFit c Sort row = IsName row.name × (Contains c.taken row.name → ⊥)
+PartsFit c Sort row = IsCoreName row.name × (Contains c.taken row.name → ⊥)
 PartsFit c Con row = AreStatedNames (row.name ∷ row.sort ∷ row.kids) × (Contains c.cons row.name →
     ⊥) ×
     (shape : Shape) × IsConOf c.sorts row shape
-PartsFit c Form row = IsName row.name × AreNamed row.places ×
+PartsFit c Form row = IsCoreName row.name × AreNamed row.places ×
     (Contains (form_names c.forms) row.name → ⊥) × (form : FormData) × IsFormOf c.sorts row form
 PartsFit c Rule row = AreStatedNames (row.name ∷ row.sorts) × (sorts : List SortOf) ×
     NameSorts c.sorts row.sorts sorts
-PartsFit c If row = (j : Judgement) × IsFull c.forms row j
+PartsFit c If row = (j : Judgement) × IsFullJudgement c.forms row j
 PartsFit c Not row = AreReadable (row.left ∷ row.right ∷ [])
-PartsFit c Then row = (j : Judgement) × IsFull c.forms row j
+PartsFit c Then row = (j : Judgement) × IsFullJudgement c.forms row j
 PartsFit c End parts = Unit {0}
-PartsFit c Goal row = IsName row.form × (goal : GoalOf) × IsGoal c.shapes c.forms row goal
+PartsFit c Goal row = IsCoreName row.form × (goal : GoalOf) × IsGoal c.shapes c.forms row goal
 
 -- after this word the text has parts as stated, and then a core text of this depth, which is over
 -- 1,000
@@ -73,20 +74,20 @@ IsDeepLine c text depth = (k : Keyword) × (rest : List ℕ) × IsKeyword text k
     IsDeep c k rest depth
 
 -- the sort, constructor and form lines among rows
-abbrev pub sorts_at : (k : Keyword) → Parts k → List SortRow
-sorts_at Sort row = row ∷ []
-sorts_at _ parts = []
+abbrev pub core_sorts_at : (k : Keyword) → RowParts k → List SortRow
+core_sorts_at Sort row = row ∷ []
+core_sorts_at _ parts = []
 
-abbrev pub cons_at : (k : Keyword) → Parts k → List ConRow
+abbrev pub cons_at : (k : Keyword) → RowParts k → List ConRow
 cons_at Con row = row ∷ []
 cons_at _ parts = []
 
-abbrev pub forms_at : (k : Keyword) → Parts k → List FormRow
+abbrev pub forms_at : (k : Keyword) → RowParts k → List FormRow
 forms_at Form row = row ∷ []
 forms_at _ parts = []
 
 abbrev pub sorts_among : List Row → List SortRow
-sorts_among rows = flat_map (λ r. sorts_at r.keyword r.parts) rows
+sorts_among rows = flat_map (λ r. core_sorts_at r.keyword r.parts) rows
 
 abbrev pub cons_among : List Row → List ConRow
 cons_among rows = flat_map (λ r. cons_at r.keyword r.parts) rows
@@ -102,16 +103,16 @@ pub record Declare (all : List SortRow) (rows : List Row) (c : Context) : Type 0
   pub forms : AreForms all (forms_among rows) c.forms
 
 -- each of the rows is as stated after those before it
-abbrev pub AllFit : List SortRow → List Row → List Row → Type 0
-AllFit all before [] = Unit {0}
-AllFit all before (row ∷ rows) =
+abbrev pub AllRowsFit : List SortRow → List Row → List Row → Type 0
+AllRowsFit all before [] = Unit {0}
+AllRowsFit all before (row ∷ rows) =
     ((c : Context) × Declare all before c × PartsFit c row.keyword row.parts) ×
-    AllFit all (before ++ row ∷ []) rows
+    AllRowsFit all (before ++ row ∷ []) rows
 
 -- the line is that of a sort whose name is not taken
 abbrev pub IsNewSort : List SortRow → List ℕ → SortRow → Type 0
 IsNewSort before text row = (text ≡ row_text (record { keyword = Sort; parts = row })) ×
-    IsName row.name × (Contains (sort_names before) row.name → ⊥)
+    IsCoreName row.name × (Contains (sort_names before) row.name → ⊥)
 
 -- The sorts of a file: those that were found, and one for each of the lines that is that of a sort
 -- whose name is not taken, wherever it stands.

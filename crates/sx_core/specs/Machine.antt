@@ -19,7 +19,7 @@ use Rattle.sx_core.specs.declared.terms_row.RowError.{RowError}
 use Rattle.sx_rules.specs.declared.rule.Judgement.{Judgement as JudgementOf}
 use Rattle.sx_core.specs.Statements.{known_in}
 use Rattle.sx_core.specs.TermsText.{RefusedAs}
-use Rattle.sx_core.specs.Stated.{IsName}
+use Rattle.sx_core.specs.Stated.{IsCoreName}
 use Rattle.sx_core.specs.Table.{IsKeyword, NoKeyword, row, row_text}
 use Rattle.sx_core.specs.Fitting.{IsFitting, IsDeepLine, IsNewSort}
 use Rattle.sx_core.specs.Reading.{context, IsCoreLineRead}
@@ -103,14 +103,14 @@ abbrev pub IsReaderKept : Reader → Reader → Type 0
 IsReaderKept old new = (new.found ≡ old.found) × (new.rules ≡ old.rules)
 
 -- the same rule with one more premise
-pub record AddsPremise (old new : Open) (p : Premise) : Type 0 where
+pub record HasOneMorePremise (old new : Open) (p : Premise) : Type 0 where
   pub line : new.line ≡ old.line
   pub name : new.name ≡ old.name
   pub sorts : new.sorts ≡ old.sorts
   pub premises : map premise new.premises.items ≡ map premise old.premises.items ++ p ∷ []
 
 -- a rule that begins at this line
-pub record Begins (o : Open) (number : ℕ) (name : List ℕ) (sorts : List SortOf) : Type 0 where
+pub record BeginsRule (o : Open) (number : ℕ) (name : List ℕ) (sorts : List SortOf) : Type 0 where
   pub line : o.line ≡ number
   pub name_is : o.name ≡ name
   pub sorts_are : o.sorts.items ≡ sorts
@@ -135,29 +135,33 @@ MayBegin stage = (stage ≡ Declaring) ⊎ (stage ≡ Between)
 -- one more premise of the rule that is open
 abbrev pub TakesPremise : Reader → Premise → Reader → Type 0
 TakesPremise old one new = (o p : Open) × (old.stage ≡ Premising o) ×
-    (new.stage ≡ Premising p) × AddsPremise o p one × IsReaderKept old new
+    (new.stage ≡ Premising p) × HasOneMorePremise o p one × IsReaderKept old new
 
 -- the reading of this line of this number leads from one reader to the other
-abbrev pub Steps : Reader → ℕ → LineRead → Reader → Type 0
-Steps old number HeadRead new = (old.stage ≡ Start) × (new.stage ≡ Declaring) × IsReaderKept old new
-Steps old number (SortRead r) new = (old.stage ≡ Declaring) × (new.stage ≡ Declaring) ×
+abbrev pub CoreSteps : Reader → ℕ → LineRead → Reader → Type 0
+CoreSteps old number HeadRead new = (old.stage ≡ Start) × (new.stage ≡ Declaring)
+    × IsReaderKept old new
+CoreSteps old number (SortRead r) new = (old.stage ≡ Declaring) × (new.stage ≡ Declaring) ×
     (new.rules ≡ old.rules) × AddsSort old.found new.found r.name
-Steps old number (ConRead r con) new = (old.stage ≡ Declaring) × (new.stage ≡ Declaring) ×
+CoreSteps old number (ConRead r con) new = (old.stage ≡ Declaring) × (new.stage ≡ Declaring) ×
     (new.rules ≡ old.rules) × AddsCon old.found new.found r.name (shape con)
-Steps old number (FormRead f) new = (old.stage ≡ Declaring) × (new.stage ≡ Declaring) ×
+CoreSteps old number (FormRead f) new = (old.stage ≡ Declaring) × (new.stage ≡ Declaring) ×
     (new.rules ≡ old.rules) × AddsForm old.found new.found (form f)
-Steps old number (RuleRead name sorts) new =
-    MayBegin old.stage × (o : Open) × (new.stage ≡ Premising o) × Begins o number name sorts.items ×
+CoreSteps old number (RuleRead name sorts) new =
+    MayBegin old.stage × (o : Open) × (new.stage ≡ Premising o)
+    × BeginsRule o number name sorts.items ×
     IsReaderKept old new
-Steps old number (IfRead j) new = TakesPremise old (holds (judgement j)) new
-Steps old number (NotRead left right) new = TakesPremise old (apart (tree left) (tree right)) new
-Steps old number (ThenRead j) new = (o : Open) × (old.stage ≡ Premising o) ×
+CoreSteps old number (IfRead j) new = TakesPremise old (holds (judgement j)) new
+CoreSteps old number (NotRead left right) new = TakesPremise old (apart (tree left) (tree right))
+    new
+CoreSteps old number (ThenRead j) new = (o : Open) × (old.stage ≡ Premising o) ×
     (new.stage ≡ Concluded o j) × IsReaderKept old new
-Steps old number EndRead new =
+CoreSteps old number EndRead new =
     (o : Open) × (j : JudgementOf) × (old.stage ≡ Concluded o j) × (new.stage ≡ Between) ×
     (new.found ≡ old.found)
     × (map named new.rules.items ≡ map named old.rules.items ++ whole_rule o j ∷ [])
-Steps old number (GoalRead g) new = MayBegin old.stage × (new.stage ≡ Over g) × IsReaderKept old new
+CoreSteps old number (GoalRead g) new = MayBegin old.stage × (new.stage ≡ Over g)
+    × IsReaderKept old new
 
 -- such a line may not stand there
 abbrev pub StepRefused : Reader → Keyword → StepError → Type 0
@@ -186,7 +190,7 @@ IsBadNext old text Variable = ⊥
 -- the line with this number and text is read
 abbrev pub NextRead : Reader → ℕ → List ℕ → Reader → Type 0
 NextRead old number text new = (x : LineRead) × IsCoreLineRead (context old.found) text x ×
-    Steps old number x new
+    CoreSteps old number x new
 
 -- the line with this number and text is refused
 abbrev pub NextRefused : Reader → ℕ → List ℕ → CoreFileError → Type 0
@@ -283,7 +287,7 @@ pub record IsReaderBegun (sorts : SortTable) (r : Reader) : Type 0 where
 
 -- the line is that of this sort
 abbrev pub IsSortLine : List ℕ → SortRow → Type 0
-IsSortLine text r = (text ≡ row_text (row Sort r)) × IsName r.name
+IsSortLine text r = (text ≡ row_text (row Sort r)) × IsCoreName r.name
 
 -- the sort of the line is added, where it is that of a sort whose name is not taken
 abbrev pub FindsSort : SortTable → SortTable → List ℕ → Type 0

@@ -10,8 +10,8 @@ use Rattle.sx_core.specs.declared.keyword.Keyword.TheVariants.{Head, Sort, Con, 
 use Rattle.sx_core.specs.declared.keyword.Keyword.TheVariants.{Then, End, Goal}
 
 -- the rows stand in order: they are the front of the rows of some file
-abbrev pub IsFront : List Row → Type 0
-IsFront before = (file : CoreFile) × (rest : List Row) × (rows_of file ≡ before ++ rest)
+abbrev pub AreRowsInOrder : List Row → Type 0
+AreRowsInOrder before = (file : CoreFile) × (rest : List Row) × (rows_of file ≡ before ++ rest)
 
 -- what has been read
 pub data Phase : Type 0 where

@@ -10,7 +10,7 @@ use Rattle.sx_core.specs.Resolving.{rows_in, IsSortTable, IsConOf, IsFormOf}
 use Rattle.sx_core.specs.Statements.{known_in, IsFormTable}
 use Rattle.sx_core.specs.Table.{row, RuleRow}
 use Rattle.sx_core.specs.TermsText.{RefusedAs}
-use Rattle.sx_core.specs.Fitting.{Context, IsDeepLine, IsFull, IsFitting}
+use Rattle.sx_core.specs.Fitting.{Context, IsDeepLine, IsFullJudgement, IsFitting}
 use Rattle.sx_core.specs.declared.found.Found.{Found}
 use Rattle.sx_core.specs.declared.line_read.LineRead.{LineRead}
 use Rattle.sx_core.specs.declared.terms_row.RowError.{RowError}
@@ -50,11 +50,11 @@ IsCoreLineRead c text (FormRead f) = (r : FormRow) × IsFitting c text (row Form
 IsCoreLineRead c text (RuleRead name sorts) = (r : RuleRow) × IsFitting c text (row Rule r) ×
     (r.name ≡ name) × NameSorts c.sorts r.sorts sorts.items
 IsCoreLineRead c text (IfRead j) = (r : JudgementRow) × IsFitting c text (row If r) ×
-    IsFull c.forms r (judgement j)
+    IsFullJudgement c.forms r (judgement j)
 IsCoreLineRead c text (NotRead left right) = IsFitting c text
     (row Not (record { left = tree left; right = tree right }))
 IsCoreLineRead c text (ThenRead j) = (r : JudgementRow) × IsFitting c text (row Then r) ×
-    IsFull c.forms r (judgement j)
+    IsFullJudgement c.forms r (judgement j)
 IsCoreLineRead c text EndRead = IsFitting c text (row End tt)
 IsCoreLineRead c text (GoalRead g) = (r : JudgementRow) × IsFitting c text (row Goal r) ×
     IsGoal c.shapes c.forms r (goal g)

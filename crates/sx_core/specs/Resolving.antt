@@ -4,7 +4,7 @@ use Rattle.sx_term.specs.Sorts.{Shape}
 use Rattle.sx_rules.specs.declared.rule.Place.{Place}
 use Rattle.sx_rules.specs.Views.{FormData}
 use Rattle.sx_core.specs.File.{SortRow, ConRow, PlaceRow, FormRow}
-use Rattle.sx_core.specs.Stated.{NamesSort, NameSorts, MayHave, MayStandAt, AreStatedPlaces}
+use Rattle.sx_core.specs.Stated.{NamesSort, NameSorts, MayHave, MayHaveSort, AreStatedPlaces}
 use Rattle.sx_lines.specs.Distinct.{AreTextsDistinct}
 use Rattle.sx_core.specs.Stated.{subject_count}
 use Rattle.sx_core.specs.Rows.{sort_row}
@@ -42,7 +42,7 @@ pub record IsConOf (rows : List SortRow) (con : ConRow) (shape : Shape) : Type 0
 pub record IsPlaceOf (rows : List SortRow) (row : PlaceRow) (place : Place) : Type 0 where
   pub role : row.role ≡ place.role
   pub sort : NamesSort rows row.sort place.sort
-  pub may : MayStandAt place.role place.sort
+  pub may : MayHaveSort place.role place.sort
 
 -- the row states this form
 pub record IsFormOf (rows : List SortRow) (row : FormRow) (form : FormData) : Type 0 where

@@ -3,10 +3,11 @@ use Rattle.std.specs.Prelude.{◌≡◌, ℕ, Bool, List, [], ◌∷◌, ◌++�
 use Rattle.sx_lines.specs.Bytes.{space}
 use Rattle.sx_term.specs.declared.role.Role.{Role}
 use Rattle.sx_core.specs.File.{SortRow, ConRow, PlaceRow, FormRow, Declaration, sort_line, con_line}
-use Rattle.sx_core.specs.File.{form_line, role_text, place_text, core_kind_text, words_text}
+use Rattle.sx_core.specs.File.{form_line, core_role_text, core_place_text, core_kind_text}
+use Rattle.sx_core.specs.File.{words_text}
 use Rattle.sx_core.specs.File.{declaration_text}
-use Rattle.sx_core.specs.Stated.{IsName, AreStatedNames}
-use Rattle.sx_core.specs.Words.{Stops}
+use Rattle.sx_core.specs.Stated.{IsCoreName, AreStatedNames}
+use Rattle.sx_core.specs.Words.{BlankFirst}
 use Rattle.sx_core.specs.declared.rows.SortRow.{SortRow as SortRowOf}
 use Rattle.sx_core.specs.declared.rows.ConRow.{ConRow as ConRowOf}
 use Rattle.sx_core.specs.declared.rows.PlaceRow.{PlaceRow as PlaceRowOf}
@@ -30,13 +31,13 @@ form_row row = record { name = row.name; places = map place_row row.places.items
 -- the sorts of the places have names
 abbrev pub AreNamed : List PlaceRow → Type 0
 AreNamed [] = Unit {0}
-AreNamed (place ∷ places) = IsName place.sort × AreNamed places
+AreNamed (place ∷ places) = IsCoreName place.sort × AreNamed places
 
 -- each word of the declaration is a name
 abbrev pub IsSpelled : Declaration → Type 0
-IsSpelled (sort_line row) = IsName row.name
+IsSpelled (sort_line row) = IsCoreName row.name
 IsSpelled (con_line row) = AreStatedNames (row.name ∷ row.sort ∷ row.kids)
-IsSpelled (form_line row) = IsName row.name × AreNamed row.places
+IsSpelled (form_line row) = IsCoreName row.name × AreNamed row.places
 
 -- the line of a declaration
 pub record IsDeclarationLine (text : List ℕ) (d : Declaration) : Type 0 where
@@ -45,15 +46,15 @@ pub record IsDeclarationLine (text : List ℕ) (d : Declaration) : Type 0 where
 
 -- the role and what follows it in the text of a place
 abbrev pub IsRoleRead : List ℕ → Role → List ℕ → Type 0
-IsRoleRead word role sort = word ≡ role_text role ++ sort
+IsRoleRead word role sort = word ≡ core_role_text role ++ sort
 
 -- the text is that of no place
 abbrev pub NoRole : List ℕ → Type 0
-NoRole word = (role : Role) (sort : List ℕ) → word ≡ role_text role ++ sort → ⊥
+NoRole word = (role : Role) (sort : List ℕ) → word ≡ core_role_text role ++ sort → ⊥
 
 -- the word is this place
 abbrev pub IsPlaceWord : List ℕ → PlaceRow → Type 0
-IsPlaceWord word row = (word ≡ place_text row) × IsName row.sort
+IsPlaceWord word row = (word ≡ core_place_text row) × IsCoreName row.sort
 
 -- the word is no place
 abbrev pub NoPlaceWord : List ℕ → RowError → Type 0
@@ -71,9 +72,9 @@ NoKind text = (typed : Bool) → IsKind text typed → ⊥
 
 -- a blank, this place, and the rest
 pub record IsPlaceRead (text : List ℕ) (row : PlaceRow) (rest : List ℕ) : Type 0 where
-  pub parts : text ≡ space ∷ (place_text row ++ rest)
-  pub named : IsName row.sort
-  pub stops : Stops rest
+  pub parts : text ≡ space ∷ (core_place_text row ++ rest)
+  pub named : IsCoreName row.sort
+  pub stops : BlankFirst rest
 
 -- no place stands there
 abbrev pub PlaceRefused : List ℕ → RowError → Type 0
@@ -83,7 +84,7 @@ PlaceRefused text (TooDeep depth) = ⊥
 
 -- just these places
 pub record ArePlacesRead (text : List ℕ) (rows : List PlaceRow) : Type 0 where
-  pub parts : text ≡ words_text (map place_text rows)
+  pub parts : text ≡ words_text (map core_place_text rows)
   pub named : AreNamed rows
 
 -- there are no places alone

@@ -45,13 +45,13 @@ form_rows (con_line row ∷ ds) = form_rows ds
 form_rows (form_line row ∷ ds) = row ∷ form_rows ds
 
 -- a letter, then letters, digits, `_` or `-`, at most 64 bytes
-abbrev pub IsName : List ℕ → Type 0
-IsName name = IsTrue (is_name true name)
+abbrev pub IsCoreName : List ℕ → Type 0
+IsCoreName name = IsTrue (is_name true name)
 
 -- each is a name
 abbrev pub AreStatedNames : List (List ℕ) → Type 0
 AreStatedNames [] = Unit {0}
-AreStatedNames (name ∷ names) = IsName name × AreStatedNames names
+AreStatedNames (name ∷ names) = IsCoreName name × AreStatedNames names
 
 -- the sort that a name stands for: a lexical one, or that of the sort line with its number
 abbrev pub NamesSort : List SortRow → List ℕ → Sort → Type 0
@@ -84,27 +84,27 @@ AreCons rows _ _ _ = ⊥
 
 -- a place of this role may have the sort: a subject a typed one, another place one that is not
 -- typed
-abbrev pub MayStandAt : Role → Sort → Type 0
-MayStandAt In sort = IsUntypedSort sort
-MayStandAt Sub sort = (n : ℕ) × (sort ≡ Typed n)
-MayStandAt Out sort = IsUntypedSort sort
+abbrev pub MayHaveSort : Role → Sort → Type 0
+MayHaveSort In sort = IsUntypedSort sort
+MayHaveSort Sub sort = (n : ℕ) × (sort ≡ Typed n)
+MayHaveSort Out sort = IsUntypedSort sort
 
 -- the lines state these places
 abbrev pub AreStatedPlaces : List SortRow → List PlaceRow → List Place → Type 0
 AreStatedPlaces rows [] [] = Unit {0}
 AreStatedPlaces rows (row ∷ more) (place ∷ places) =
     (row.role ≡ place.role) × NamesSort rows row.sort place.sort ×
-    MayStandAt place.role place.sort × AreStatedPlaces rows more places
+    MayHaveSort place.role place.sort × AreStatedPlaces rows more places
 AreStatedPlaces rows _ _ = ⊥
 
 -- how many of the places are subjects
-abbrev pub one_when : Bool → ℕ
-one_when true = 1
-one_when false = 0
+abbrev pub subject_count_when : Bool → ℕ
+subject_count_when true = 1
+subject_count_when false = 0
 
 abbrev pub subject_count : List Place → ℕ
 subject_count [] = 0
-subject_count (place ∷ places) = one_when (is_sub place.role) + subject_count places
+subject_count (place ∷ places) = subject_count_when (is_sub place.role) + subject_count places
 
 -- the lines state these forms, each with at most one subject
 abbrev pub AreForms : List SortRow → List FormRow → List FormData → Type 0
@@ -131,29 +131,29 @@ pub record IsJudgement (forms : List FormData) (row : JudgementRow) (j : Judgeme
   pub many : length j.places ≡ length (places_at forms j.form)
 
 -- the lines state these premises
-abbrev pub ArePremises : List FormData → List PremiseRow → List Premise → Type 0
-ArePremises forms [] [] = Unit {0}
-ArePremises forms (if_line row ∷ rows) (holds j ∷ ps) =
-    IsJudgement forms row j × ArePremises forms rows ps
-ArePremises forms (not_line left right ∷ rows) (apart t u ∷ ps) =
-    (left ≡ t) × (right ≡ u) × AreReadable (left ∷ right ∷ []) × ArePremises forms rows ps
-ArePremises forms _ _ = ⊥
+abbrev pub AreCorePremises : List FormData → List PremiseRow → List Premise → Type 0
+AreCorePremises forms [] [] = Unit {0}
+AreCorePremises forms (if_line row ∷ rows) (holds j ∷ ps) =
+    IsJudgement forms row j × AreCorePremises forms rows ps
+AreCorePremises forms (not_line left right ∷ rows) (apart t u ∷ ps) =
+    (left ≡ t) × (right ≡ u) × AreReadable (left ∷ right ∷ []) × AreCorePremises forms rows ps
+AreCorePremises forms _ _ = ⊥
 
 -- the lines state this rule
-pub record IsRule (rows : List SortRow) (forms : List FormData) (lines : RuleRows)
+pub record IsCoreRule (rows : List SortRow) (forms : List FormData) (lines : RuleRows)
     (r : NamedRule) : Type 0 where
   pub name : lines.name ≡ r.name
-  pub is_name : IsName r.name
+  pub is_name : IsCoreName r.name
   pub sorts : NameSorts rows lines.sorts r.rule.sorts
-  pub premises : ArePremises forms lines.premises r.rule.premises
+  pub premises : AreCorePremises forms lines.premises r.rule.premises
   pub conclusion : IsJudgement forms lines.conclusion r.rule.conclusion
 
 -- the lines state these rules
-abbrev pub AreRules : List SortRow → List FormData → List RuleRows → List NamedRule → Type 0
-AreRules rows forms [] [] = Unit {0}
-AreRules rows forms (lines ∷ more) (r ∷ rs) =
-    IsRule rows forms lines r × AreRules rows forms more rs
-AreRules rows forms _ _ = ⊥
+abbrev pub AreCoreRules : List SortRow → List FormData → List RuleRows → List NamedRule → Type 0
+AreCoreRules rows forms [] [] = Unit {0}
+AreCoreRules rows forms (lines ∷ more) (r ∷ rs) =
+    IsCoreRule rows forms lines r × AreCoreRules rows forms more rs
+AreCoreRules rows forms _ _ = ⊥
 
 -- the line states this goal: its form has a subject, and its terms have no variables and the sorts
 -- of the inputs
@@ -167,7 +167,7 @@ pub record IsGoal (shapes : List Shape) (forms : List FormData) (row : Judgement
       (inputs (modes_of forms goal.form) (sorts_of forms goal.form))
 
 -- the file says this, where its rules may be no rule set
-pub record Says (file : CoreFile) (p : Problem) : Type 0 where
+pub record SaysCore (file : CoreFile) (p : Problem) : Type 0 where
   pub sorts : p.sorts ≡ map (λ row. row.name) (sort_rows file.declarations)
   pub sort_names : AreStatedNames p.sorts
   pub sorts_distinct : AreTextsDistinct (codes "id" ∷ codes "num" ∷ codes "str" ∷ p.sorts)
@@ -177,10 +177,10 @@ pub record Says (file : CoreFile) (p : Problem) : Type 0 where
   pub forms : AreForms (sort_rows file.declarations) (form_rows file.declarations) p.forms
   pub form_names : AreStatedNames (map (λ form. form.name) p.forms)
   pub forms_distinct : AreTextsDistinct (map (λ form. form.name) p.forms)
-  pub rules : AreRules (sort_rows file.declarations) p.forms file.rules p.rules
+  pub rules : AreCoreRules (sort_rows file.declarations) p.forms file.rules p.rules
   pub goal : IsGoal p.shapes p.forms file.goal p.goal
 
 -- the file states this problem
 pub record StatesProblem (file : CoreFile) (p : Problem) : Type 0 where
-  pub says : Says file p
+  pub says : SaysCore file p
   pub rule_set : IsRuleSet p.shapes p.forms p.rules

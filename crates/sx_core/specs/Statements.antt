@@ -8,12 +8,12 @@ use Rattle.sx_rules.specs.Modes.{Goal, inputs}
 use Rattle.sx_rules.specs.Rules.{Judgement}
 use Rattle.sx_rules.specs.Views.{FormData, forms, places_at, modes_of, sorts_of}
 use Rattle.sx_core.specs.File.{JudgementRow, judgement_text}
-use Rattle.sx_core.specs.Stated.{IsName, NamesForm, IsJudgement, subject_count}
+use Rattle.sx_core.specs.Stated.{IsCoreName, NamesForm, IsJudgement, subject_count}
 use Rattle.sx_lines.specs.Distinct.{AreTextsDistinct}
 use Rattle.sx_core.specs.TermsText.{RowRead, IsDeepRow}
 use Rattle.sx_core.specs.declared.terms_row.RowError.{RowError}
 use Rattle.sx_core.specs.declared.terms_row.RowError.TheVariants.{Memory, Shape as Bad, TooDeep}
-use Rattle.sx_core.specs.Words.{Stops}
+use Rattle.sx_core.specs.Words.{BlankFirst}
 use Rattle.sx_core.specs.declared.form_table.FormTable.{FormTable}
 
 -- the forms that a table is of
@@ -34,8 +34,8 @@ pub record IsFormRead (known : List FormData) (text : List ℕ) (form : ℕ)
     (rest : List ℕ) : Type 0 where
   pub word : List ℕ
   pub parts : text ≡ space ∷ (word ++ rest)
-  pub named : IsName word
-  pub stops : Stops rest
+  pub named : IsCoreName word
+  pub stops : BlankFirst rest
   pub is : NamesForm known word form
 
 -- no form stands there
@@ -48,7 +48,7 @@ FormRefused known text (TooDeep depth) = ⊥
 pub record IsJudgementRead (known : List FormData) (text : List ℕ) (j : Judgement) : Type 0 where
   pub row : JudgementRow
   pub parts : text ≡ judgement_text row
-  pub named : IsName row.form
+  pub named : IsCoreName row.form
   pub is : IsJudgement known row j
 
 -- after its form the text has good terms, and then a core text of this depth at one of the places

@@ -5,8 +5,9 @@ use Rattle.sx_term.specs.Tree.{Tree}
 use Rattle.sx_term.specs.Core.{core}
 use Rattle.sx_core.specs.File.{SortRow, ConRow, FormRow, Declaration, sort_line, con_line}
 use Rattle.sx_core.specs.File.{form_line, JudgementRow, PremiseRow, if_line, not_line, RuleRows}
-use Rattle.sx_core.specs.File.{CoreFile, words_text, core_kind_text, place_text, judgement_text}
-use Rattle.sx_core.specs.Words.{Stops}
+use Rattle.sx_core.specs.File.{CoreFile, words_text, core_kind_text, core_place_text}
+use Rattle.sx_core.specs.File.{judgement_text}
+use Rattle.sx_core.specs.Words.{BlankFirst}
 use Rattle.sx_core.specs.declared.keyword.Keyword.{Keyword}
 use Rattle.sx_core.specs.declared.keyword.Keyword.TheVariants.{Head, Sort, Con, Form, Rule, If, Not}
 use Rattle.sx_core.specs.declared.keyword.Keyword.TheVariants.{Then, End, Goal}
@@ -35,24 +36,24 @@ pub record ApartRow : Type 0 where
   pub right : Tree
 
 -- what follows each word
-abbrev pub Parts : Keyword → Type 0
-Parts Head = Unit {0}
-Parts Sort = SortRow
-Parts Con = ConRow
-Parts Form = FormRow
-Parts Rule = RuleRow
-Parts If = JudgementRow
-Parts Not = ApartRow
-Parts Then = JudgementRow
-Parts End = Unit {0}
-Parts Goal = JudgementRow
+abbrev pub RowParts : Keyword → Type 0
+RowParts Head = Unit {0}
+RowParts Sort = SortRow
+RowParts Con = ConRow
+RowParts Form = FormRow
+RowParts Rule = RuleRow
+RowParts If = JudgementRow
+RowParts Not = ApartRow
+RowParts Then = JudgementRow
+RowParts End = Unit {0}
+RowParts Goal = JudgementRow
 
 -- the parts as they are spelled, each after one blank
-abbrev pub parts_text : (k : Keyword) → Parts k → List ℕ
+abbrev pub parts_text : (k : Keyword) → RowParts k → List ℕ
 parts_text Head parts = codes " 1"
 parts_text Sort row = words_text (row.name ∷ core_kind_text row.typed ∷ [])
 parts_text Con row = words_text (row.name ∷ row.sort ∷ row.kids)
-parts_text Form row = words_text (row.name ∷ map place_text row.places)
+parts_text Form row = words_text (row.name ∷ map core_place_text row.places)
 parts_text Rule row = words_text (row.name ∷ row.sorts)
 parts_text If row = judgement_text row
 parts_text Not row = words_text (core row.left ∷ core row.right ∷ [])
@@ -63,14 +64,14 @@ parts_text Goal row = judgement_text row
 -- a line's word and its parts
 pub record Row : Type 0 where
   pub keyword : Keyword
-  pub parts : Parts keyword
+  pub parts : RowParts keyword
 
 -- the line of a row
 abbrev pub row_text : Row → List ℕ
 row_text row = core_keyword_text row.keyword ++ parts_text row.keyword row.parts
 
 -- a row with this word
-abbrev pub row : (k : Keyword) → Parts k → Row
+abbrev pub row : (k : Keyword) → RowParts k → Row
 row k parts = record { keyword = k; parts = parts }
 
 -- the row of a declaration
@@ -100,7 +101,7 @@ rows_of file =
 -- the line begins with this word, and a blank or nothing comes after it
 pub record IsKeyword (text : List ℕ) (k : Keyword) (rest : List ℕ) : Type 0 where
   pub parts : text ≡ core_keyword_text k ++ rest
-  pub stops : Stops rest
+  pub stops : BlankFirst rest
 
 -- the line begins with none of the words
 abbrev pub NoKeyword : List ℕ → Type 0

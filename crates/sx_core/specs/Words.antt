@@ -5,26 +5,26 @@ use Rattle.sx_term.specs.declared.text_error.TextError.TheVariants.{NotUtf8, Mem
 use Rattle.sx_lines.specs.Bytes.{space}
 use Rattle.sx_lines.specs.Blanks.{NoSpace}
 use Rattle.sx_core.specs.File.{words_text}
-use Rattle.sx_core.specs.Stated.{IsName, AreStatedNames}
+use Rattle.sx_core.specs.Stated.{IsCoreName, AreStatedNames}
 use Rattle.sx_core.specs.declared.terms_row.RowError.{RowError}
 use Rattle.sx_core.specs.declared.terms_row.RowError.TheVariants.{Memory, Shape, TooDeep}
 
 -- nothing, or a blank first
-abbrev pub Stops : List ℕ → Type 0
-Stops [] = Unit {0}
-Stops (b ∷ bytes) = b ≡ space
+abbrev pub BlankFirst : List ℕ → Type 0
+BlankFirst [] = Unit {0}
+BlankFirst (b ∷ bytes) = b ≡ space
 
 -- the first word ends here
 pub record IsWordEnd (text : List ℕ) (at : ℕ) : Type 0 where
   pub inside : at ≤ length text
   pub word : NoSpace (take at text)
-  pub stops : Stops (drop at text)
+  pub stops : BlankFirst (drop at text)
 
 -- a blank, this word, and the rest
 pub record IsWordRead (text word rest : List ℕ) : Type 0 where
   pub parts : text ≡ space ∷ (word ++ rest)
   pub spaceless : NoSpace word
-  pub stops : Stops rest
+  pub stops : BlankFirst rest
 
 -- no word stands there
 abbrev pub NoWord : List ℕ → Type 0
@@ -33,20 +33,20 @@ NoWord text = (word rest : List ℕ) → text ≡ space ∷ (word ++ rest) → �
 -- a blank, this name, and the rest
 pub record IsNameRead (text name rest : List ℕ) : Type 0 where
   pub parts : text ≡ space ∷ (name ++ rest)
-  pub named : IsName name
-  pub stops : Stops rest
+  pub named : IsCoreName name
+  pub stops : BlankFirst rest
 
 -- no name stands there
 abbrev pub NameRefused : List ℕ → RowError → Type 0
 NameRefused text Memory = Unit {0}
-NameRefused text Shape = (name rest : List ℕ) → IsName name → Stops rest →
+NameRefused text Shape = (name rest : List ℕ) → IsCoreName name → BlankFirst rest →
     text ≡ space ∷ (name ++ rest) → ⊥
 NameRefused text (TooDeep depth) = ⊥
 
 -- the whole is no name
 abbrev pub NoName : List ℕ → RowError → Type 0
 NoName word Memory = Unit {0}
-NoName word Shape = IsName word → ⊥
+NoName word Shape = IsCoreName word → ⊥
 NoName word (TooDeep depth) = ⊥
 
 -- what it is in a row that bytes are no text

@@ -2,7 +2,7 @@
 
 ghost use Rattle.std.specs.Prelude.{◌≡◌, ℕ, ◌++◌, [], ◌∷◌, Contains, IsOk, MatchResult};
 ghost use Rattle.sx_rules.specs.Views.{premise};
-ghost use Rattle.sx_core.specs.Machine.{IsFresh, Steps, StepRefused, TakesPremise, keyword_of};
+ghost use Rattle.sx_core.specs.Machine.{IsFresh, CoreSteps, StepRefused, TakesPremise, keyword_of};
 ghost use Rattle.sx_core.specs.declared.line_read.LineRead.TheVariants as line;
 ghost use Rattle.sx_core.specs.declared.keyword.Keyword.TheVariants as keyword;
 ghost use Rattle.sx_core.specs.declared.stage.Stage.TheVariants.{Declaring};
@@ -63,7 +63,7 @@ fn declared(
 impl Reader {
     /// Takes the first line.
     pub(crate) fn take_head(self) -> Result<Reader, StepError>
-        ensures { (n : ℕ) → MatchResult result (λ r. Steps self n line.Head r)
+        ensures { (n : ℕ) → MatchResult result (λ r. CoreSteps self n line.Head r)
             (λ e. StepRefused self keyword.Head e) }
     {
         let Reader {
@@ -84,7 +84,7 @@ impl Reader {
     /// Takes the line of a sort.
     fn take_sort(self, alloc: Global, row: SortRow) -> Result<Reader, StepError>
         requires { Contains self.found.taken row.name → ⊥ }
-        ensures { (n : ℕ) → MatchResult result (λ r. Steps self n (line.Sort row) r)
+        ensures { (n : ℕ) → MatchResult result (λ r. CoreSteps self n (line.Sort row) r)
             (λ e. StepRefused self keyword.Sort e) }
     {
         let Reader {
@@ -108,7 +108,7 @@ impl Reader {
     /// Takes the line of a constructor.
     fn take_con(self, alloc: Global, row: ConRow, con: Con) -> Result<Reader, StepError>
         requires { Contains self.found.con_names row.name → ⊥ }
-        ensures { (n : ℕ) → MatchResult result (λ r. Steps self n (line.Con row con) r)
+        ensures { (n : ℕ) → MatchResult result (λ r. CoreSteps self n (line.Con row con) r)
             (λ e. StepRefused self keyword.Con e) }
     {
         let Reader {
@@ -133,7 +133,7 @@ impl Reader {
     /// Takes the line of a form.
     fn take_form(self, alloc: Global, one: Form) -> Result<Reader, StepError>
         requires { Contains self.found.forms.names one.name → ⊥ }
-        ensures { (n : ℕ) → MatchResult result (λ r. Steps self n (line.Form one) r)
+        ensures { (n : ℕ) → MatchResult result (λ r. CoreSteps self n (line.Form one) r)
             (λ e. StepRefused self keyword.Form e) }
     {
         let Reader {
@@ -161,7 +161,7 @@ impl Reader {
         name: Text,
         sorts: Vec<Sort>,
     ) -> Result<Reader, StepError>
-        ensures { MatchResult result (λ r. Steps self number (line.Rule name sorts) r)
+        ensures { MatchResult result (λ r. CoreSteps self number (line.Rule name sorts) r)
             (λ e. StepRefused self keyword.Rule e) }
     {
         let Reader {
@@ -224,7 +224,7 @@ impl Reader {
 
     /// Takes the line of a conclusion.
     fn take_then(self, one: Judgement) -> Result<Reader, StepError>
-        ensures { (n : ℕ) → MatchResult result (λ r. Steps self n (line.Then one) r)
+        ensures { (n : ℕ) → MatchResult result (λ r. CoreSteps self n (line.Then one) r)
             (λ e. StepRefused self keyword.Then e) }
     {
         let Reader {
@@ -247,7 +247,7 @@ impl Reader {
 
     /// Takes the line that ends a rule.
     fn take_end(self) -> Result<Reader, StepError>
-        ensures { (n : ℕ) → MatchResult result (λ r. Steps self n line.End r)
+        ensures { (n : ℕ) → MatchResult result (λ r. CoreSteps self n line.End r)
             (λ e. StepRefused self keyword.End e) }
     {
         let Reader {
@@ -289,7 +289,7 @@ impl Reader {
 
     /// Takes the line of the goal.
     fn take_goal(self, goal: Goal) -> Result<Reader, StepError>
-        ensures { (n : ℕ) → MatchResult result (λ r. Steps self n (line.Goal goal) r)
+        ensures { (n : ℕ) → MatchResult result (λ r. CoreSteps self n (line.Goal goal) r)
             (λ e. StepRefused self keyword.Goal e) }
     {
         let Reader {
@@ -318,7 +318,7 @@ impl Reader {
         read: LineRead,
     ) -> Result<Reader, StepError>
         requires { IsFresh self.found read }
-        ensures { MatchResult result (λ r. Steps self number read r)
+        ensures { MatchResult result (λ r. CoreSteps self number read r)
             (λ e. StepRefused self (keyword_of read) e) }
     {
         match read {

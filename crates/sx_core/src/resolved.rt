@@ -6,7 +6,7 @@ ghost use Rattle.sx_term.specs.Shapes.{shape};
 ghost use Rattle.sx_rules.specs.declared.rule.Place.{Place as PlaceOf};
 ghost use Rattle.sx_rules.specs.Views.{FormData, form, is_sub};
 ghost use Rattle.sx_core.specs.Stated as spec;
-ghost use Rattle.sx_core.specs.Stated.{MayHave, MayStandAt, AreStatedPlaces};
+ghost use Rattle.sx_core.specs.Stated.{MayHave, MayHaveSort, AreStatedPlaces};
 ghost use Rattle.sx_term.specs.Untyped.{IsUntypedSort, AreUntypedSorts};
 ghost use Rattle.sx_core.specs.Rows.{con_row, place_row, form_row};
 ghost use Rattle.sx_core.specs.Resolving.{rows_in, IsSortTable, NoCoreRowIs, IsConOf, IsPlaceOf};
@@ -55,7 +55,7 @@ fn may_have(sort: Sort, kids: &[Sort]) -> bool
 
 /// Whether a place of the role may have the sort.
 fn may_stand(role: Role, sort: Sort) -> bool
-    ensures { IsTrue result ↔ MayStandAt role sort }
+    ensures { IsTrue result ↔ MayHaveSort role sort }
 {
     match role {
         Role::In => is_untyped(sort),
@@ -124,7 +124,7 @@ fn make_places(alloc: Global, table: &SortTable, rows: &[PlaceRow]) -> Result<Ve
 
 /// 1 for a subject, 0 for another role.
 fn one_if_subject(role: Role) -> usize
-    ensures { result ≡ spec.one_when (is_sub role) }
+    ensures { result ≡ spec.subject_count_when (is_sub role) }
 {
     match role {
         Role::Sub => 1,

@@ -4,7 +4,7 @@ ghost use Rattle.std.specs.Prelude.{◌≡◌, ℕ, List, ◌++◌, MatchOption,
 ghost use Rattle.sx_core.specs.Words as spec;
 ghost use Rattle.sx_core.specs.Words.{IsWordEnd, IsWordRead, NoWord, IsNameRead, NameRefused};
 ghost use Rattle.sx_core.specs.Words.{NoName, AreNamesRead, NamesRefused};
-ghost use Rattle.sx_core.specs.Stated.{IsName};
+ghost use Rattle.sx_core.specs.Stated.{IsCoreName};
 
 use crate::terms_row::RowError;
 use std::alloc::Global;
@@ -58,7 +58,7 @@ fn text_error(e: TextError) -> RowError
 
 /// The name that a word is.
 pub(crate) fn name_of(alloc: Global, word: &[u8]) -> Result<Text, RowError>
-    ensures { MatchResult result (λ name. (name ≡ word.now) × IsName word.now)
+    ensures { MatchResult result (λ name. (name ≡ word.now) × IsCoreName word.now)
         (λ e. NoName word.now e) }
 {
     if !is_name(true, word) {

@@ -12,7 +12,7 @@ use Rattle.sx_derive.specs.declared.chains.Head.TheVariants.{Given, By}
 use Rattle.sx_derive.specs.declared.chains.Kid.{Kid}
 use Rattle.sx_derive.specs.declared.chains.Waiting.{Waiting}
 use Rattle.sx_arena.specs.Grown.{Extends, grown_from}
-use Rattle.sx_derive.specs.Chains.{kids_at, head_proof, kid_step, HeadFits, KidFits, kids_of}
+use Rattle.sx_derive.specs.Chains.{kids_at, head_proof, kid_step, HeadFits, KidFits, kid_chains}
 use Rattle.sx_derive.specs.Chains.{AreKids, frame_of, frames_at, waiting_step, WaitingFits}
 use Rattle.sx_derive.specs.Chains.{frames_of, AreFrames}
 use Rattle.sx_arena.proofs.Growing.{extends-same, extends-length, extends-at, grown_from-one, grown-length, fits-one, grown-same}
@@ -39,7 +39,7 @@ head_fits_more m n p q a b (Given k) f = tt
 head_fits_more m n p q a b (By k v env kids) f = ((let z = f.0 in omega arith), (let z = f.1 in omega arith))
 
 -- more bindings change no chain of proofs
-pub kids_stay : (es ds : List Assignment) → Extends es ds → (cs : List Kid) → AreKids es cs → (kids_of ds cs ≡ kids_of es cs) × AreKids ds cs
+pub kids_stay : (es ds : List Assignment) → Extends es ds → (cs : List Kid) → AreKids es cs → (kid_chains ds cs ≡ kid_chains es cs) × AreKids ds cs
 kids_stay es ds x cs h = grown-same (kid_step es) (kid_step ds) (KidFits es) (KidFits ds)
     (λ ks c p. (
       ap (λ q. joined_proofs (kids_at ks c.before) (q ⊳ no_more)) (sym (head_stays es ds ks ks x (extends-same ks) c.head p.head)),
@@ -49,15 +49,15 @@ kids_stay es ds x cs h = grown-same (kid_step es) (kid_step ds) (KidFits es) (Ki
 
 -- one more proof
 pub kids_one : (es : List Assignment) (old new : List Kid) (c : Kid) → AreKids es old → HeadFits (length es) (length old) c.head → c.before ≤ length old → new ≡ old ++ c ∷ [] →
-    AreKids es new × Extends (kids_of es old) (kids_of es new) × (kids_at (kids_of es new) (length old + 1) ≡ joined_proofs (kids_at (kids_of es old) c.before) (head_proof es (kids_of es old) c.head ⊳ no_more))
+    AreKids es new × Extends (kid_chains es old) (kid_chains es new) × (kids_at (kid_chains es new) (length old + 1) ≡ joined_proofs (kids_at (kid_chains es old) c.before) (head_proof es (kid_chains es old) c.head ⊳ no_more))
 kids_one es old new c h f l e =
     let n = grown-length (kid_step es) old in
-    let g : kids_of es new ≡ kids_of es old ++ kid_step es (kids_of es old) c ∷ [] = ap (grown_from (kid_step es) []) e ∙ grown_from-one (kid_step es) [] old c in
-    let p : KidFits es (kids_of es old) c = record { head = subst (λ (m : ℕ). HeadFits (length es) m c.head) (sym n) f; before = (omega arith) } in
+    let g : kid_chains es new ≡ kid_chains es old ++ kid_step es (kid_chains es old) c ∷ [] = ap (grown_from (kid_step es) []) e ∙ grown_from-one (kid_step es) [] old c in
+    let p : KidFits es (kid_chains es old) c = record { head = subst (λ (m : ℕ). HeadFits (length es) m c.head) (sym n) f; before = (omega arith) } in
     let k : length old + 1 ≡ suc (length old) = omega arith in (
       subst (λ (x : List Kid). AreKids es x) (sym e) (fits-one (kid_step es) (KidFits es) [] old c h p),
-      (kid_step es (kids_of es old) c ∷ [], g),
-      ap (kids_at (kids_of es new)) k ∙ ap (λ ks. get_or ks (length old) no_more) g ∙ get_or_push (kids_of es old) (kid_step es (kids_of es old) c) no_more (length old) n,
+      (kid_step es (kid_chains es old) c ∷ [], g),
+      ap (kids_at (kid_chains es new)) k ∙ ap (λ ks. get_or ks (length old) no_more) g ∙ get_or_push (kid_chains es old) (kid_step es (kid_chains es old) c) no_more (length old) n,
     )
 
 -- more bindings and proofs change no chain of frames

@@ -12,7 +12,7 @@ use Rattle.sx_derive.specs.declared.step.Step.TheVariants.{Nothing, Passed, Dept
 use Rattle.sx_derive.specs.declared.store.Store.{Store}
 use Rattle.sx_arena.specs.Arena.{AreBelow}
 use Rattle.sx_derive.specs.Chains.{HeadFits, frame_of, waiting_step, WaitingFits}
-use Rattle.sx_derive.specs.Handing.{hyps_in, answer_in, frames_in, waiting_in, IsWaiting, IsResumed}
+use Rattle.sx_derive.specs.Handing.{hyps_in, answer_in, frames_in, waiting_in, IsWaitingCell, IsResumed}
 use Rattle.sx_derive.specs.Handing.{IsHanded}
 use Rattle.sx_arena.specs.Pairs.{ArePairs}
 use Rattle.sx_derive.specs.Step.{IsSearchStep}
@@ -28,7 +28,7 @@ use Rattle.std.specs.declared.alloc.Global.{Global}
 
 -- the cell at a number
 pub record FrameRead (modes : Modes) (rules : List Rule) (s : Store) (here : ℕ) (c : Waiting) : Type 0 where
-  pub waits : IsWaiting modes rules s c
+  pub waits : IsWaitingCell modes rules s c
   pub frames : frames_in modes rules s here ≡ waiting_in modes rules s c
   pub before : c.before < here
 

@@ -15,7 +15,7 @@ use Rattle.sx_derive.specs.declared.chains.Head.{Head}
 use Rattle.sx_derive.specs.declared.chains.Head.TheVariants.{Given, By}
 use Rattle.sx_derive.specs.declared.chains.Kid.{Kid}
 use Rattle.sx_arena.specs.Binds.{env_at}
-use Rattle.sx_derive.specs.Chains.{kids_at, head_proof, kid_step, HeadFits, KidFits, kids_of}
+use Rattle.sx_derive.specs.Chains.{kids_at, head_proof, kid_step, HeadFits, KidFits, kid_chains}
 use Rattle.sx_derive.specs.Chains.{AreKids}
 use Rattle.sx_derive.specs.Listing.{head_kids}
 use Rattle.sx_arena.proofs.Growing.{extends-length, extends-same, grown-at}
@@ -37,7 +37,7 @@ fits_more : (m n q : ℕ) (h : Head) → n ≤ q → HeadFits m n h → HeadFits
 fits_more m n q (Given k) l f = tt
 fits_more m n q (By k v env kids) l f = (f.0, (let z = f.1 in omega arith))
 
-kid_read_at : (es : List Assignment) (cs : List Kid) → AreKids es cs → (i : ℕ) (c : Kid) → i < length cs → c ≡ get_or cs i c → KidRead es (kids_of es cs) (suc i) c
+kid_read_at : (es : List Assignment) (cs : List Kid) → AreKids es cs → (i : ℕ) (c : Kid) → i < length cs → c ≡ get_or cs i c → KidRead es (kid_chains es cs) (suc i) c
 kid_read_at es cs h i c l e =
     let r = grown-at (kid_step es) (KidFits es) cs h i c no_more l e in
     let front = r.0 in
@@ -45,18 +45,18 @@ kid_read_at es cs h i c l e =
     let n : length front ≡ i = r.2 in
     let w = p.before in
     let k = fits_kids (length es) (length front) c.head p.head in
-    let x = extends-length front (kids_of es cs) r.3 in
+    let x = extends-length front (kid_chains es cs) r.3 in
     record {
-      kids = r.4 ∙ (λ j. joined_proofs (sym (kids_stay_at front (kids_of es cs) r.3 c.before w) j) (sym (head_stays es es front (kids_of es cs) (extends-same es) r.3 c.head p.head) j ⊳ no_more));
-      head = fits_more (length es) (length front) (length (kids_of es cs)) c.head x p.head;
+      kids = r.4 ∙ (λ j. joined_proofs (sym (kids_stay_at front (kid_chains es cs) r.3 c.before w) j) (sym (head_stays es es front (kid_chains es cs) (extends-same es) r.3 c.head p.head) j ⊳ no_more));
+      head = fits_more (length es) (length front) (length (kid_chains es cs)) c.head x p.head;
       less = (omega arith);
       before = (omega arith);
     }
 
-pub kid_read : (es : List Assignment) (cs : List Kid) → AreKids es cs → (here : ℕ) (c : Kid) → 0 < here → here ≤ length cs → c ≡ get_or cs (here - 1) c → KidRead es (kids_of es cs) here c
+pub kid_read : (es : List Assignment) (cs : List Kid) → AreKids es cs → (here : ℕ) (c : Kid) → 0 < here → here ≤ length cs → c ≡ get_or cs (here - 1) c → KidRead es (kid_chains es cs) here c
 kid_read es cs h here c p l e =
     let f : suc (here - 1) ≡ here = omega arith in
-    subst (λ (n : ℕ). KidRead es (kids_of es cs) n c) f (kid_read_at es cs h (here - 1) c (omega arith) e)
+    subst (λ (n : ℕ). KidRead es (kid_chains es cs) n c) f (kid_read_at es cs h (here - 1) c (omega arith) e)
 
 -- the kids that are made so far are the last of the chain
 pub record Proving (ks : List Proofs) (kids here : ℕ) (proofs : List (Box ProofOf Global)) : Type 0 where

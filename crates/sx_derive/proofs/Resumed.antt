@@ -21,7 +21,7 @@ use Rattle.sx_derive.specs.declared.store.Store.{Store}
 use Rattle.sx_arena.specs.Arena.{trees, tree_at}
 use Rattle.sx_arena.specs.Binds.{env_at, bind_step, BindsGrow}
 use Rattle.sx_derive.specs.Chains.{kids_at, kid_step, head_proof, HeadFits, waiting_step}
-use Rattle.sx_derive.specs.Handing.{hyps_in, answer_in, frames_in, waiting_in, IsWaiting, IsResumed}
+use Rattle.sx_derive.specs.Handing.{hyps_in, answer_in, frames_in, waiting_in, IsWaitingCell, IsResumed}
 use Rattle.sx_arena.specs.Pairs.{pairs_of, ArePairs}
 use Rattle.sx_derive.specs.Premises.{IsPremises}
 use Rattle.sx_derive.specs.Step.{IsSearchStep}
@@ -53,7 +53,7 @@ sizes modes rules s = record {
 }
 
 -- the premise of the rule at the frame
-pub waits_at : (modes : Modes) (rules : List Rule) (s : Store) (c : Waiting) → IsWaiting modes rules s c → (rule : Rule) → slice_get rules c.rule ≡ Some rule →
+pub waits_at : (modes : Modes) (rules : List Rule) (s : Store) (c : Waiting) → IsWaitingCell modes rules s c → (rule : Rule) → slice_get rules c.rule ≡ Some rule →
     (j : Judgement) × (slice_get rule.premises c.premise ≡ Some (holds j))
 waits_at modes rules s c w rule e =
     let x = w.waits in
@@ -62,7 +62,7 @@ waits_at modes rules s c w rule e =
     (x.1, subst (λ (r : Rule). slice_get r.premises c.premise ≡ Some (holds x.1)) same x.3)
 
 -- the store with the kid of an answer
-pub kid_store : (modes : Modes) (rules : List Rule) (s t u : Store) (c : Waiting) (head : Head) → IsStore modes rules s → IsWaiting modes rules s c → HeadFits (length (store_envs s)) (length (store_kids s)) head →
+pub kid_store : (modes : Modes) (rules : List Rule) (s t u : Store) (c : Waiting) (head : Head) → IsStore modes rules s → IsWaitingCell modes rules s c → HeadFits (length (store_envs s)) (length (store_kids s)) head →
     BindsGrow (trees s.arena) s.binds t.binds → t.arena ≡ s.arena → t.kids.items ≡ s.kids.items → t.frames.items ≡ s.frames.items →
     u.arena ≡ t.arena → u.binds ≡ t.binds → u.kids.items ≡ t.kids.items ++ record { before = c.kids; head = head } ∷ [] → u.frames.items ≡ t.frames.items → IsStore modes rules u
 kid_store modes rules s t u c head h w hf g ta tk tf ua ub uk uf =
@@ -76,7 +76,7 @@ kid_store modes rules s t u c head h w hf g ta tk tf ua ub uk uf =
     (grows_kid modes rules t u (record { before = c.kids; head = head }) st.store hf' (omega arith) ua ub uk uf).0.store
 
 module _ (modes : Modes) (rules : List Rule) (pairs : List Pair) (s t : Store) (c : Waiting) (rule : Rule) (j : Judgement) (head : Head) (outs : List ℕ) (h : IsStore modes rules s)
-    (hp : ArePairs (length (store_trees s)) pairs) (w : IsWaiting modes rules s c) (found : slice_get rules c.rule ≡ Some rule) (prem : slice_get rule.premises c.premise ≡ Some (holds j))
+    (hp : ArePairs (length (store_trees s)) pairs) (w : IsWaitingCell modes rules s c) (found : slice_get rules c.rule ≡ Some rule) (prem : slice_get rule.premises c.premise ≡ Some (holds j))
     (hf : HeadFits (length (store_envs s)) (length (store_kids s)) head) (g : BindsGrow (trees s.arena) s.binds t.binds) (ta : t.arena ≡ s.arena) (tk : t.kids.items ≡ s.kids.items) (tf : t.frames.items ≡ s.frames.items) where
   -- what is made of the answer, by the frame's fields
   abbrev made_of : List Judgement → Option Assignment → Result

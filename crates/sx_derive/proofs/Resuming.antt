@@ -8,10 +8,10 @@ use Rattle.sx_arena.specs.declared.fact.Fact.{Fact}
 use Rattle.sx_arena.specs.declared.pairs.Pair.{Pair}
 use Rattle.sx_derive.specs.Candidates.{AreFacts}
 use Rattle.sx_derive.specs.Passing.{ComeToNothing}
-use Rattle.sx_derive.specs.Resumable.{Takes, IsReachedAt, IsReached, IsSettled}
+use Rattle.sx_derive.specs.Resumable.{TakesTries, IsReachedAt, IsReached, AreTasksSettled}
 use Rattle.sx_derive.specs.Store.{IsStore, StoreGrows, store_trees}
 use Rattle.sx_derive.specs.Tasks.{events_left, TaskFits, TasksFit}
-use Rattle.sx_derive.specs.Turns.{IsMet, IsTaskTurn}
+use Rattle.sx_derive.specs.Turns.{IsMetAfterTry, IsTaskTurn}
 use Rattle.sx_derive.specs.Walk.{Event, try, Answer, tries_then}
 use Rattle.sx_derive.specs.declared.store.Store.{Store}
 use Rattle.sx_derive.specs.declared.tasks.Ending.{Ending as EndingOf}
@@ -121,7 +121,7 @@ module _ (modes : Modes) (rules : List Rule) (pairs : List Pair) (facts : List F
     facts_then js a = facts_stay modes (store_trees old) (store_trees now) w.grows.trees js facts a
 
     pub reaching_settled : (one : List Judgement) → AreFacts modes (store_trees old) one facts → (rest : List TaskOf) (n then_tries then_last : ℕ) → then_tries ≡ tries + n → then_tries ≤ budget → then_last ≡ last + n →
-        ((js : List Judgement) → AreFacts modes (store_trees now) js facts → IsSettled modes rules pairs js now (length facts + length rules) n tasks rest) → Reaching now then_tries then_last rest
+        ((js : List Judgement) → AreFacts modes (store_trees now) js facts → AreTasksSettled modes rules pairs js now (length facts + length rules) n tasks rest) → Reaching now then_tries then_last rest
     reaching_settled one b rest n then_tries then_last e l f x =
         let s = w.steps in
         record {
@@ -135,7 +135,7 @@ module _ (modes : Modes) (rules : List Rule) (pairs : List Pair) (facts : List F
               ∙ tries_both tries n then_tries (events_left modes rules pairs js now rest) e;
         }
 
-    takes : (js : List Judgement) → AreFacts modes (store_trees old) js facts → Takes budget first last (events_first js) (events_left modes rules pairs js now tasks) tries
+    takes : (js : List Judgement) → AreFacts modes (store_trees old) js facts → TakesTries budget first last (events_first js) (events_left modes rules pairs js now tasks) tries
     takes js a = record { within = w.less; counted = w.steps; events = w.goes js a }
 
     pub reaching_end : tasks ≡ [] → (js : List Judgement) → AreFacts modes (store_trees old) js facts →
@@ -164,7 +164,7 @@ module _ (modes : Modes) (rules : List Rule) (pairs : List Pair) (facts : List F
 
       module _ (h : (tries ≡ budget → ⊥)) (after : ℕ) (n : after ≡ last + 1) where
         further : (js : List Judgement) → AreFacts modes (store_trees old) js facts → (es rest_of : List (Event Answer)) → events_left modes rules pairs js now (rest ++ task ∷ []) ≡ try ∷ es → es ≡ rest_of →
-            Takes budget first after (events_first js) rest_of (suc tries)
+            TakesTries budget first after (events_first js) rest_of (suc tries)
         further js a es rest_of q z =
             let m = w.less in
             let k = w.steps in
@@ -200,7 +200,7 @@ module _ (modes : Modes) (rules : List Rule) (pairs : List Pair) (facts : List F
               }
 
           met_at : (js : List Judgement) → AreFacts modes (store_trees old) js facts → (es : List (Event Answer)) → events_left modes rules pairs js now (rest ++ task ∷ []) ≡ try ∷ es → (ending : EndingOf) →
-              IsMet new (Some ending) es (events_left modes rules pairs js new more) → IsReachedAt modes rules pairs js new more budget first after (events_first js) (suc tries) ending
+              IsMetAfterTry new (Some ending) es (events_left modes rules pairs js new more) → IsReachedAt modes rules pairs js new more budget first after (events_first js) (suc tries) ending
           met_at js a es q (Found head outs) m = ((omega arith), m.0, m.1, further js a es _ q m.2)
           met_at js a es q (Passed limit) m = (m.0, m.1, further js a es _ q m.2)
           met_at js a es q DepthSpent m = further js a es _ q m

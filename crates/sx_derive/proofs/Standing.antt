@@ -20,7 +20,7 @@ use Rattle.sx_arena.proofs.Parted.{pairs_more_terms, pairs_stay}
 use Rattle.sx_derive.specs.Candidates.{AreFacts}
 use Rattle.sx_derive.specs.Handing.{answer_in}
 use Rattle.sx_derive.specs.Problems.{IsProblem}
-use Rattle.sx_derive.specs.Resumable.{IsSearchReady, Stands, StandsBefore, Takes, IsNextOf}
+use Rattle.sx_derive.specs.Resumable.{IsSearchReady, StandsForEvents, StandsBefore, TakesTries, IsNextOf}
 use Rattle.sx_derive.specs.Resumable.{IsErrorOf, IsReachedAt, IsReached}
 use Rattle.sx_derive.specs.Store.{StoreGrows, IsStore, store_trees, store_envs, store_kids}
 use Rattle.sx_derive.specs.Tasks.{events_left, TasksFit}
@@ -50,7 +50,7 @@ use Rattle.sx_derive.proofs.Walking.{first_events, first_fits}
 -- the search that begins
 pub begun : (modes : Modes) (rules : List Rule) (hyps : Hypotheses) (form : ℕ) (terms : List Tree) (p : Problem) → IsProblem modes rules hyps terms None p → length hyps.judgements < 2 ^ 32 → (mark : Mark) (tasks : Vec TaskOf Global) →
     tasks.items ≡ record { next = 0; form = form; terms = p.terms; levels = 2999; frames = 0; mark = mark } ∷ [] →
-    Stands modes rules hyps (record { store = p.store; facts = p.facts; pairs = p.pairs; tasks = tasks; state = Open }) (events modes rules hyps (record { form = form; terms = terms }) 1)
+    StandsForEvents modes rules hyps (record { store = p.store; facts = p.facts; pairs = p.pairs; tasks = tasks; state = Open }) (events modes rules hyps (record { form = form; terms = terms }) 1)
 begun modes rules hyps form terms p h few mark tasks e =
     let l = facts_length modes (store_trees p.store) hyps.judgements p.facts.items h.facts in
     record {
@@ -66,11 +66,11 @@ begun modes rules hyps form terms p h few mark tasks e =
     }
 
 -- the events of a search that has come to no limit
-pub open_events : (modes : Modes) (rules : List Rule) (hyps : Hypotheses) (s : Search) (es : List (Event Answer)) → s.state ≡ Open → Stands modes rules hyps s es →
+pub open_events : (modes : Modes) (rules : List Rule) (hyps : Hypotheses) (s : Search) (es : List (Event Answer)) → s.state ≡ Open → StandsForEvents modes rules hyps s es →
     es ≡ events_left modes rules s.pairs.items hyps.judgements s.store s.tasks.items
 open_events modes rules hyps s es o h = subst (λ (st : State). StandsBefore st (events_left modes rules s.pairs.items hyps.judgements s.store s.tasks.items) es) o h.events
 
-module _ (modes : Modes) (rules : List Rule) (hyps : Hypotheses) (old : Search) (es : List (Event Answer)) (h : Stands modes rules hyps old es) (o : old.state ≡ Open) (fs : List Fact) (ps : List Pair) (ef : fs ≡ old.facts.items) (ep : ps ≡ old.pairs.items)
+module _ (modes : Modes) (rules : List Rule) (hyps : Hypotheses) (old : Search) (es : List (Event Answer)) (h : StandsForEvents modes rules hyps old es) (o : old.state ≡ Open) (fs : List Fact) (ps : List Pair) (ef : fs ≡ old.facts.items) (ep : ps ≡ old.pairs.items)
     (s : Store) (ts : Vec TaskOf Global) (budget first last : ℕ) where
   abbrev at : State → Search
   at st = record { store = s; facts = old.facts; pairs = old.pairs; tasks = ts; state = st }
@@ -105,21 +105,21 @@ module _ (modes : Modes) (rules : List Rule) (hyps : Hypotheses) (old : Search) 
       tasks = f;
     }
 
-    stands_at : (rest : List (Event Answer)) → rest ≡ left → Stands modes rules hyps (at old.state) rest
+    stands_at : (rest : List (Event Answer)) → rest ≡ left → StandsForEvents modes rules hyps (at old.state) rest
     stands_at rest e = record { ready = ready_at old.state; events = subst (λ (st : State). StandsBefore st left rest) (sym o) e }
 
   pub next_paused : (r : Reached) → r.ending ≡ Spent → IsReachedWith r → IsNextOf modes rules hyps budget first last es (at old.state) (Ok Paused)
   next_paused r e x =
       let (g, f, (k, t, m)) = met r x Spent e in (
         m.0,
-        subst (λ (n : ℕ). Takes budget first last es (try ∷ m.0) n) k (subst (λ (q : List (Event Answer)). Takes budget first last es q r.tries) m.1 t),
+        subst (λ (n : ℕ). TakesTries budget first last es (try ∷ m.0) n) k (subst (λ (q : List (Event Answer)). TakesTries budget first last es q r.tries) m.1 t),
         stands_at g f (try ∷ m.0) (sym m.1),
       )
 
   pub next_ended : (r : Reached) → r.ending ≡ Exhausted → IsReachedWith r → IsNextOf modes rules hyps budget first last es (at old.state) (Ok Ended)
   next_ended r e x =
       let (g, f, (t, m)) = met r x Exhausted e in
-      (r.tries, subst (λ (q : List (Event Answer)). Takes budget first last es q r.tries) m t, stands_at g f [] (sym m))
+      (r.tries, subst (λ (q : List (Event Answer)). TakesTries budget first last es q r.tries) m t, stands_at g f [] (sym m))
 
   pub next_depth : (r : Reached) → r.ending ≡ DepthSpent → IsReachedWith r → IsNextOf modes rules hyps budget first last es (at AtDepth) (Err (SpentDepth 3000))
   next_depth r e x =
@@ -131,18 +131,18 @@ module _ (modes : Modes) (rules : List Rule) (hyps : Hypotheses) (old : Search) 
       let (g, f, (c, (depth, z, m), t)) = met r x (Passed (DeepTerm k)) e in
       let y : c ≡ too_deep depth = cc in
       subst (λ (d : SearchError). IsNextOf modes rules hyps budget first last es (at (AtLimit (DeepTerm k))) (Err d)) (sym q)
-      (depth, m, (r.tries, left, subst (λ (d : Cause). Takes budget first last es (stop d ∷ left) r.tries) y t, record { ready = ready_at g f (AtLimit (DeepTerm k)); events = (too_deep depth, (depth, refl, m), refl) }))
+      (depth, m, (r.tries, left, subst (λ (d : Cause). TakesTries budget first last es (stop d ∷ left) r.tries) y t, record { ready = ready_at g f (AtLimit (DeepTerm k)); events = (too_deep depth, (depth, refl, m), refl) }))
   next_passed r (BigTerm k) err q e x =
       let (g, f, (c, (size, z, m), t)) = met r x (Passed (BigTerm k)) e in
       let y : c ≡ too_big size = cc in
       subst (λ (d : SearchError). IsNextOf modes rules hyps budget first last es (at (AtLimit (BigTerm k))) (Err d)) (sym q)
-      (size, m, (r.tries, left, subst (λ (d : Cause). Takes budget first last es (stop d ∷ left) r.tries) y t, record { ready = ready_at g f (AtLimit (BigTerm k)); events = (too_big size, (size, refl, m), refl) }))
+      (size, m, (r.tries, left, subst (λ (d : Cause). TakesTries budget first last es (stop d ∷ left) r.tries) y t, record { ready = ready_at g f (AtLimit (BigTerm k)); events = (too_big size, (size, refl, m), refl) }))
 
   pub next_found : (r : Reached) (head : Head) (outs : Vec ℕ Global) → r.ending ≡ IsFound head outs → IsReachedWith r → (d : Derived) →
       (proof d.proof.value, map tree d.outputs.items) ≡ answer_in s head outs.items → IsNextOf modes rules hyps budget first last es (at old.state) (Ok (Next d r.tries))
   next_found r head outs e x d z =
       let (g, f, (l, b, w, t)) = met r x (IsFound head outs) e in
-      (left, subst (λ (a : Answer). Takes budget first last es (give a ∷ left) r.tries) (sym z) t, stands_at g f left refl)
+      (left, subst (λ (a : Answer). TakesTries budget first last es (give a ∷ left) r.tries) (sym z) t, stands_at g f left refl)
 
   -- what is found fits in the store
   pub found_fits : (r : Reached) (head : Head) (outs : Vec ℕ Global) → r.ending ≡ IsFound head outs → IsReachedWith r → IsStore modes rules s × HeadFits (length (store_envs s)) (length (store_kids s)) head × AreBelow (length (store_trees s)) outs.items
@@ -158,7 +158,7 @@ module _ (modes : Modes) (rules : List Rule) (hyps : Hypotheses) (old : Search) 
       let y = x hyps.judgements (subst (λ (gs : List Fact). AreFacts modes (store_trees old.store) hyps.judgements gs) (sym ef) h.ready.facts) in
       let same = ap (λ (qs : List Pair). events_left modes rules qs hyps.judgements old.store old.tasks.items) ep ∙ sym (open_events modes rules hyps old es o h) in
       subst (λ (d : SearchError). IsNextOf modes rules hyps budget first last es new (Err d)) (sym m)
-      (y.0, y.1, subst (λ (q : List (Event Answer)). Takes budget first last q y.1 y.0) same y.2, y.3, failed)
+      (y.0, y.1, subst (λ (q : List (Event Answer)). TakesTries budget first last q y.1 y.0) same y.2, y.3, failed)
 
   pub next_unexported : (r : Reached) (head : Head) (outs : Vec ℕ Global) → r.ending ≡ IsFound head outs → IsReachedWith r → (new : Search) → new.state ≡ Failed → (err : SearchError) → err ≡ Memory
       → IsNextOf modes rules hyps budget first last es new (Err err)
@@ -171,8 +171,8 @@ pub not_failed : (st : State) → st ≡ Open → st ≡ Failed → ⊥
 not_failed st a b = let clash : Open ≡ Failed = sym a ∙ b in cc
 
 -- a search that has come to a limit answers the same
-module _ (modes : Modes) (rules : List Rule) (hyps : Hypotheses) (budget first : ℕ) (s : Search) (es : List (Event Answer)) (h : Stands modes rules hyps s es) where
-  stays_as : (rest : List (Event Answer)) → es ≡ rest → Takes budget first first es rest 0
+module _ (modes : Modes) (rules : List Rule) (hyps : Hypotheses) (budget first : ℕ) (s : Search) (es : List (Event Answer)) (h : StandsForEvents modes rules hyps s es) where
+  stays_as : (rest : List (Event Answer)) → es ≡ rest → TakesTries budget first first es rest 0
   stays_as rest e = record { within = (omega arith); counted = (omega arith); events = e }
 
   pub again_passed : (limit : Limit) (x : SearchError) → s.state ≡ AtLimit limit → IsErrorOf limit x → IsNextOf modes rules hyps budget first first es s (Err x)
@@ -183,9 +183,9 @@ module _ (modes : Modes) (rules : List Rule) (hyps : Hypotheses) (budget first :
           let y : c ≡ too_deep depth = cc in
           let r = j ∙ ap (λ (d : Cause). stop d ∷ events_left modes rules s.pairs.items hyps.judgements s.store s.tasks.items) y in
           subst (λ (d : SearchError). IsNextOf modes rules hyps budget first first es s (Err d)) (sym i)
-          (depth, m, (0, _, stays_as _ r, subst (λ (ds : List (Event Answer)). Stands modes rules hyps s ds) r h))
+          (depth, m, (0, _, stays_as _ r, subst (λ (ds : List (Event Answer)). StandsForEvents modes rules hyps s ds) r h))
       go (BigTerm k) i (c, (size, z, m), j) =
           let y : c ≡ too_big size = cc in
           let r = j ∙ ap (λ (d : Cause). stop d ∷ events_left modes rules s.pairs.items hyps.judgements s.store s.tasks.items) y in
           subst (λ (d : SearchError). IsNextOf modes rules hyps budget first first es s (Err d)) (sym i)
-          (size, m, (0, _, stays_as _ r, subst (λ (ds : List (Event Answer)). Stands modes rules hyps s ds) r h))
+          (size, m, (0, _, stays_as _ r, subst (λ (ds : List (Event Answer)). StandsForEvents modes rules hyps s ds) r h))

@@ -18,7 +18,7 @@ use Rattle.sx_derive.specs.declared.step.Step.TheVariants.{Passed, DepthSpent, D
 use Rattle.sx_arena.specs.Arena.{trees, tree_at, AreBelow}
 use Rattle.sx_arena.specs.Binds.{env_at, bind_step}
 use Rattle.sx_arena.specs.Places.{AreHeld, IsLimit}
-use Rattle.sx_derive.specs.Chains.{kids_at, kid_step, head_proof, patterns_of, no_rule, frame_of, frames_at, waiting_step, WaitingFits}
+use Rattle.sx_derive.specs.Chains.{kids_at, kid_step, head_proof, awaited_patterns, no_rule, frame_of, frames_at, waiting_step, WaitingFits}
 use Rattle.sx_arena.specs.Views.{rule_of}
 use Rattle.sx_derive.specs.Store.{IsStore, store_trees, store_envs, store_kids, store_frames}
 use Rattle.sx_derive.specs.Step.{IsConcluded, Awaits, waiting_frame, asked_result, IsAsked}
@@ -113,8 +113,8 @@ pub frame_is : (modes : Modes) (rules : List Rule) (es ds : List Assignment) (ks
     env_at ds c.env ≡ env_at es c.env → kids_at ls c.kids ≡ kids_at ks c.kids → frame_of modes rules ds ls c ≡ waiting_frame modes rule j (env_at es c.env) (kids_at ks c.kids) c
 frame_is modes rules es ds ks ls j c rule f g x y =
     let r = get_or_from_slice_get rules c.rule rule no_rule f in
-    let p = ap (patterns_of modes) g in
-    (λ i. record { number = c.rule; rule = r i; rest = drop (c.premise + 1) (r i).premises; patterns = patterns_of modes (slice_get (r i).premises c.premise); env = x i; kids = y i; levels = c.levels })
+    let p = ap (awaited_patterns modes) g in
+    (λ i. record { number = c.rule; rule = r i; rest = drop (c.premise + 1) (r i).premises; patterns = awaited_patterns modes (slice_get (r i).premises c.premise); env = x i; kids = y i; levels = c.levels })
     ∙ (λ i. record { number = c.rule; rule = rule; rest = drop (c.premise + 1) rule.premises; patterns = p i; env = env_at es c.env; kids = kids_at ks c.kids; levels = c.levels })
 
 pub asked_goes : (modes : Modes) (rules : List Rule) (s t u : Store) (j : Judgement) (c : Waiting) (outs : Vec ℕ Global) (n : ℕ) → IsStore modes rules s →

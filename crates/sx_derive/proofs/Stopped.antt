@@ -3,7 +3,7 @@ use Rattle.std.proofs.Common.{◌≡◌, ℕ, zero, suc, ◌-◌, ◌^◌, List,
 use Rattle.std.specs.Prelude.{Result, min}
 use Rattle.sx_rules.specs.Rules.{Rule, Hypotheses}
 use Rattle.sx_rules.specs.Modes.{Modes}
-use Rattle.sx_derive.specs.Resumable.{Takes, IsNextOf, SearchesStayStopped}
+use Rattle.sx_derive.specs.Resumable.{TakesTries, IsNextOf, SearchesStayStopped}
 use Rattle.sx_derive.specs.Walk.{Cause, depth_spent, too_deep, too_big, Event, stop, Answer}
 use Rattle.sx_derive.specs.declared.found.Found.{Found}
 use Rattle.sx_derive.specs.declared.found.Found.TheVariants.{Next, Paused, Ended}
@@ -12,12 +12,12 @@ use Rattle.sx_derive.specs.declared.search_error.SearchError.{SearchError}
 use Rattle.sx_derive.specs.declared.search_error.SearchError.TheVariants.{Memory, DepthSpent as SpentDepth, TooDeep, TooBig}
 
 -- no try is taken where a stop is next
-stop_taken : (budget first last : ℕ) (c : Cause) (es rest : List (Event Answer)) (n : ℕ) → Takes budget first last (stop c ∷ es) rest n → (n ≡ 0) × (last ≡ first) × (rest ≡ stop c ∷ es)
+stop_taken : (budget first last : ℕ) (c : Cause) (es rest : List (Event Answer)) (n : ℕ) → TakesTries budget first last (stop c ∷ es) rest n → (n ≡ 0) × (last ≡ first) × (rest ≡ stop c ∷ es)
 stop_taken budget first last c es rest zero t = (refl, (let k = t.counted in omega arith), sym t.events)
 stop_taken budget first last c es rest (suc n) t = absurd (let q = t.events in cc)
 
 -- nor where nothing is left
-end_taken : (budget first last : ℕ) (rest : List (Event Answer)) (n : ℕ) → Takes budget first last [] rest n → (n ≡ 0) × (last ≡ first) × (rest ≡ [])
+end_taken : (budget first last : ℕ) (rest : List (Event Answer)) (n : ℕ) → TakesTries budget first last [] rest n → (n ≡ 0) × (last ≡ first) × (rest ≡ [])
 end_taken budget first last rest zero t = (refl, (let k = t.counted in omega arith), sym t.events)
 end_taken budget first last rest (suc n) t = absurd (let q = t.events in cc)
 

@@ -13,7 +13,7 @@ use Rattle.sx_derive.specs.declared.store.Store.{Store}
 use Rattle.sx_arena.specs.Grown.{Extends}
 use Rattle.sx_arena.specs.Arena.{trees, IsArena}
 use Rattle.sx_arena.specs.Binds.{envs, IsBinds, BindsGrow}
-use Rattle.sx_derive.specs.Chains.{kids_at, head_proof, HeadFits, kids_of, AreKids, frame_of}
+use Rattle.sx_derive.specs.Chains.{kids_at, head_proof, HeadFits, kid_chains, AreKids, frame_of}
 use Rattle.sx_derive.specs.Chains.{frames_at, WaitingFits, frames_of, AreFrames}
 use Rattle.sx_derive.specs.Store.{store_trees, store_envs, store_kids, store_frames, IsStore}
 use Rattle.sx_derive.specs.Store.{StoreGrows}
@@ -50,7 +50,7 @@ pub more_envs : (modes : Modes) (rules : List Rule) (s t : Store) → IsStore mo
     Extends s.binds.cells.items t.binds.cells.items → t.kids.items ≡ s.kids.items → t.frames.items ≡ s.frames.items → StoreGrows modes rules s t
 more_envs modes rules s t h a b x y cells k f =
     let c = kids_stay (store_envs s) (store_envs t) y s.kids.items h.kids in
-    let e : store_kids t ≡ store_kids s = ap (kids_of (store_envs t)) k ∙ c.0 in
+    let e : store_kids t ≡ store_kids s = ap (kid_chains (store_envs t)) k ∙ c.0 in
     let z = extends-is (store_kids s) (store_kids t) e in
     let d = frames_stay modes rules (store_envs s) (store_envs t) (store_kids s) (store_kids t) y z s.frames.items h.frames in
     let g : store_frames modes rules t ≡ store_frames modes rules s = ap (frames_of modes rules (store_envs t) (store_kids t)) f ∙ d.0 in
@@ -91,7 +91,7 @@ pub grows_kid : (modes : Modes) (rules : List Rule) (s t : Store) (c : Kid) → 
 grows_kid modes rules s t c h p l a b k f =
     let e : store_envs t ≡ store_envs s = λ i. envs (trees (a i)) (b i) in
     let o = kids_one (store_envs s) s.kids.items t.kids.items c h.kids p l k in
-    let m : store_kids t ≡ kids_of (store_envs s) t.kids.items = ap (λ es. kids_of es t.kids.items) e in
+    let m : store_kids t ≡ kid_chains (store_envs s) t.kids.items = ap (λ es. kid_chains es t.kids.items) e in
     let z : Extends (store_kids s) (store_kids t) = subst (λ (y : List Proofs). Extends (store_kids s) y) (sym m) o.1 in
     let y : Extends (store_envs s) (store_envs t) = extends-is (store_envs s) (store_envs t) e in
     let d = frames_stay modes rules (store_envs s) (store_envs t) (store_kids s) (store_kids t) y z s.frames.items h.frames in (
@@ -119,7 +119,7 @@ pub grows_frame : (modes : Modes) (rules : List Rule) (s t : Store) (c : Waiting
     StoreGrows modes rules s t × (frames_at (store_frames modes rules t) (length s.frames.items + 1) ≡ frame_of modes rules (store_envs s) (store_kids s) c ∷ frames_at (store_frames modes rules s) c.before)
 grows_frame modes rules s t c h p a b k f =
     let e : store_envs t ≡ store_envs s = λ i. envs (trees (a i)) (b i) in
-    let m : store_kids t ≡ store_kids s = λ i. kids_of (e i) (k i) in
+    let m : store_kids t ≡ store_kids s = λ i. kid_chains (e i) (k i) in
     let o = frames_one modes rules (store_envs s) (store_kids s) s.frames.items t.frames.items c h.frames p f in
     let n : store_frames modes rules t ≡ frames_of modes rules (store_envs s) (store_kids s) t.frames.items = λ i. frames_of modes rules (e i) (m i) t.frames.items in (
       record {

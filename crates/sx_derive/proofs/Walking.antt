@@ -19,8 +19,8 @@ use Rattle.sx_derive.specs.Candidates.{goal_in, AreFacts}
 use Rattle.sx_derive.specs.Handing.{hyps_in}
 use Rattle.sx_derive.specs.Store.{IsStore, StoreGrows, IsMark, IsStoreCut, store_trees}
 use Rattle.sx_derive.specs.Tasks.{events_left, TaskFits, TasksFit, Piled, wanted_in, WantedBelow}
-use Rattle.sx_derive.specs.Tasks.{IsEnding, IsOutcome}
-use Rattle.sx_derive.specs.Turns.{IsPopped, IsTaskTurn}
+use Rattle.sx_derive.specs.Tasks.{IsEnding, IsTryOutcome}
+use Rattle.sx_derive.specs.Turns.{IsTaskPopped, IsTaskTurn}
 use Rattle.sx_derive.specs.Walked.{events_in, IsWalked}
 use Rattle.sx_arena.proofs.Facts.{facts_stay}
 use Rattle.sx_arena.proofs.Arenas.{maps_same, below_more}
@@ -90,7 +90,7 @@ module _ (modes : Modes) (rules : List Rule) (pairs : List Pair) (facts : List F
     -- after tries that come to nothing
     module _ (n then_left then_last : ℕ) (few : n ≤ left) (e : then_left ≡ left - n) (f : then_last ≡ last + n) where
       pub walking_popped : (one : List Judgement) → AreFacts modes (store_trees old) one facts → (task : TaskOf) (rest : List TaskOf) →
-          ((js : List Judgement) → AreFacts modes (store_trees now) js facts → IsPopped modes rules pairs js now (length facts + length rules) n tasks rest (Some task)) → Walking now then_left then_last (rest ++ task ∷ [])
+          ((js : List Judgement) → AreFacts modes (store_trees now) js facts → IsTaskPopped modes rules pairs js now (length facts + length rules) n tasks rest (Some task)) → Walking now then_left then_last (rest ++ task ∷ [])
       walking_popped one b task rest p =
           let v = p one (facts_now one b) in
           let x = w.less in
@@ -115,7 +115,7 @@ module _ (modes : Modes) (rules : List Rule) (pairs : List Pair) (facts : List F
                 (let r = q in omega arith);
           }
 
-      pub walking_end : (rest : List TaskOf) → ((js : List Judgement) → AreFacts modes (store_trees now) js facts → IsPopped modes rules pairs js now (length facts + length rules) n tasks rest None) →
+      pub walking_end : (rest : List TaskOf) → ((js : List Judgement) → AreFacts modes (store_trees now) js facts → IsTaskPopped modes rules pairs js now (length facts + length rules) n tasks rest None) →
           (js : List Judgement) → AreFacts modes (store_trees old) js facts → IsWalked modes rules old now wanted budget (events_first js) first then_last (Ok Exhausted)
       walking_end rest p js a =
           let z : left ≡ n + then_left = omega arith in
@@ -189,10 +189,10 @@ module _ (modes : Modes) (rules : List Rule) (pairs : List Pair) (facts : List F
 
     module _ (l : 0 < left) (hw : WantedBelow (length (store_trees old)) wanted) (new : Store) (more : List TaskOf) where
       turned : (o : Option EndingOf) (x : (js : List Judgement) → AreFacts modes (store_trees now) js facts → IsTaskTurn modes rules pairs js wanted (length facts + length rules) now new task rest more o) →
-          (js : List Judgement) → AreFacts modes (store_trees old) js facts → IsOutcome new (wanted_in old wanted) (left - 1) (events_left modes rules pairs js now (rest ++ task ∷ [])) (events_left modes rules pairs js new more) o
+          (js : List Judgement) → AreFacts modes (store_trees old) js facts → IsTryOutcome new (wanted_in old wanted) (left - 1) (events_left modes rules pairs js now (rest ++ task ∷ [])) (events_left modes rules pairs js new more) o
       turned o x js a =
           let i = (x js (then_facts js a)).outcome (left - 1) in
-          subst (λ v. IsOutcome new v (left - 1) (events_left modes rules pairs js now (rest ++ task ∷ [])) (events_left modes rules pairs js new more) o) (wanted_stays old now w.grows.trees wanted hw) i
+          subst (λ v. IsTryOutcome new v (left - 1) (events_left modes rules pairs js now (rest ++ task ∷ [])) (events_left modes rules pairs js new more) o) (wanted_stays old now w.grows.trees wanted hw) i
 
       pub walking_more : (x : (js : List Judgement) → AreFacts modes (store_trees now) js facts → IsTaskTurn modes rules pairs js wanted (length facts + length rules) now new task rest more None) →
           (js : List Judgement) → AreFacts modes (store_trees old) js facts → (after : ℕ) → after ≡ last + 1 → Walking new (left - 1) after more

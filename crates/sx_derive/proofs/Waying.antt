@@ -16,7 +16,7 @@ use Rattle.sx_rules.specs.Views.{form, forms, is_sub, places_or_none, subjects_i
 use Rattle.sx_rules.specs.Modes.{outputs}
 use Rattle.sx_rules.specs.Deep.{AreShallow}
 use Rattle.sx_arena.proofs.Placed.{selected_more, selected_less, selected_none, maps_drop}
-use Rattle.sx_derive.specs.Stuck.{place_in, place_in_kids, first_place}
+use Rattle.sx_derive.specs.Stuck.{stuck_place_in, place_in_kids, first_place}
 use Rattle.sx_derive.specs.Ways.{IsWay}
 use Rattle.sx_rules.specs.SubjectTerms.{subject_mask}
 
@@ -24,20 +24,20 @@ plus_one : (i : ℕ) → suc i ≡ i + 1
 plus_one i = omega arith
 
 module _ (v : ℕ) (term : Term) (label : ℕ) (kids : Vec Term Global) (e : term ≡ Node label kids) (old now : List ℕ) (h : now ≡ old) (i : ℕ) (before : place_in_kids v 0 (trees kids.items) ≡ place_in_kids v i (trees (drop i kids.items))) where
-  from_here : place_in v (tree term) ≡ place_in_kids v i (trees (drop i kids.items))
-  from_here = ap (place_in v) (tree-at_node term label kids e) ∙ before
+  from_here : stuck_place_in v (tree term) ≡ place_in_kids v i (trees (drop i kids.items))
+  from_here = ap (stuck_place_in v) (tree-at_node term label kids e) ∙ before
 
   -- the way leads through this kid
-  pub way_found : (k : Term) (pushed new : List ℕ) (b : Bool) → i < length kids.items → k ≡ get_or kids.items i k → pushed ≡ now ++ i ∷ [] → IsWay pushed new (place_in v (tree k)) b → b ≡ true → IsWay old new (place_in v (tree term)) true
+  pub way_found : (k : Term) (pushed new : List ℕ) (b : Bool) → i < length kids.items → k ≡ get_or kids.items i k → pushed ≡ now ++ i ∷ [] → IsWay pushed new (stuck_place_in v (tree k)) b → b ≡ true → IsWay old new (stuck_place_in v (tree term)) true
   way_found k pushed new b l g p w t =
-      subst (λ (o : Option (List ℕ)). IsWay old new o true) (sym (from_here ∙ ap (place_in_kids v i) (trees-drop kids.items i k l g))) (go (place_in v (tree k)) w)
+      subst (λ (o : Option (List ℕ)). IsWay old new o true) (sym (from_here ∙ ap (place_in_kids v i) (trees-drop kids.items i k l g))) (go (stuck_place_in v (tree k)) w)
     where
       go : (o : Option (List ℕ)) → IsWay pushed new o b → IsWay old new (first_place i o (place_in_kids v (suc i) (trees (drop (i + 1) kids.items)))) true
       go None x = let q = x.0 in cc
       go (Some way) x = (refl, x.1 ∙ ap (λ y. y ++ way) (p ∙ ap (λ y. y ++ i ∷ []) h) ∙ append_assoc old (i ∷ []) way)
 
   -- no kid has the variable
-  pub way_none : length kids.items ≤ i → IsWay old now (place_in v (tree term)) false
+  pub way_none : length kids.items ≤ i → IsWay old now (stuck_place_in v (tree term)) false
   way_none l = subst (λ (o : Option (List ℕ)). IsWay old now o false) (sym (from_here ∙ ap (place_in_kids v i) (trees-drop_all kids.items i l))) (refl, h)
 
 -- subjects

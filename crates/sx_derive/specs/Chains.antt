@@ -58,18 +58,18 @@ pub record KidFits (es : List Assignment) (ks : List Proofs) (c : Kid) : Type 0 
   pub before : c.before ≤ length ks
 
 -- the chains that cells make, in order
-abbrev pub kids_of : List Assignment → List Kid → List Proofs
-kids_of es cs = grown_from (kid_step es) [] cs
+abbrev pub kid_chains : List Assignment → List Kid → List Proofs
+kid_chains es cs = grown_from (kid_step es) [] cs
 
 -- each cell names only what stands before it
 abbrev pub AreKids : List Assignment → List Kid → Type 0
 AreKids es cs = CellsFit (kid_step es) (KidFits es) [] cs
 
 -- the frame of a cell: the rule is in work at a judgement premise
-abbrev pub patterns_of : Modes → Option Premise → List Tree
-patterns_of modes None = []
-patterns_of modes (Some (holds j)) = outputs_of modes j
-patterns_of modes (Some (apart t u)) = []
+abbrev pub awaited_patterns : Modes → Option Premise → List Tree
+awaited_patterns modes None = []
+awaited_patterns modes (Some (holds j)) = outputs_of modes j
+awaited_patterns modes (Some (apart t u)) = []
 
 -- the rule of a number that has none
 abbrev pub no_rule : Rule
@@ -81,7 +81,7 @@ frame_at_rule modes es ks rule c = record {
   number = c.rule;
   rule = rule;
   rest = drop (c.premise + 1) rule.premises;
-  patterns = patterns_of modes (slice_get rule.premises c.premise);
+  patterns = awaited_patterns modes (slice_get rule.premises c.premise);
   env = env_at es c.env;
   kids = kids_at ks c.kids;
   levels = c.levels;

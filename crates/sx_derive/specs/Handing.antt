@@ -34,8 +34,8 @@ waiting_in modes rules s c =
     waiting_step modes rules (store_envs s) (store_kids s) (store_frames modes rules s) c
 
 -- the cell may stand in the store
-abbrev pub IsWaiting : Modes → List Rule → Store → Waiting → Type 0
-IsWaiting modes rules s c =
+abbrev pub IsWaitingCell : Modes → List Rule → Store → Waiting → Type 0
+IsWaitingCell modes rules s c =
     WaitingFits rules (store_envs s) (store_kids s) (store_frames modes rules s) c
 
 -- what comes of the answer at the frame of the cell, where the frames behind it say what becomes of

@@ -79,7 +79,7 @@ pub record IsSearchReady (modes : Modes) (rules : List Rule) (hyps : Hypotheses)
       search.tasks.items
 
 -- the search stands for the events that are still to come, under the rules and the hypotheses
-pub record Stands (modes : Modes) (rules : List Rule) (hyps : Hypotheses) (search : Search)
+pub record StandsForEvents (modes : Modes) (rules : List Rule) (hyps : Hypotheses) (search : Search)
     (es : List (Event Answer)) : Type 0 where
   pub ready : IsSearchReady modes rules hyps search
   pub events : StandsBefore search.state
@@ -93,10 +93,10 @@ HasFailed search = search.state ≡ Failed
 -- the search stands for some events, or has answered that memory is lacking
 abbrev pub CanGoOn : Modes → List Rule → Hypotheses → Search → Type 0
 CanGoOn modes rules hyps search =
-    ((es : List (Event Answer)) × Stands modes rules hyps search es) ⊎ HasFailed search
+    ((es : List (Event Answer)) × StandsForEvents modes rules hyps search es) ⊎ HasFailed search
 
 -- at most that many tries are taken from the events, and counted; the rest is left
-pub record Takes (budget first last : ℕ) (es rest : List (Event Answer)) (n : ℕ) : Type 0 where
+pub record TakesTries (budget first last : ℕ) (es rest : List (Event Answer)) (n : ℕ) : Type 0 where
   pub within : n ≤ budget
   pub counted : last ≡ first + n
   pub events : es ≡ tries_then n rest
@@ -105,21 +105,22 @@ pub record Takes (budget first last : ℕ) (es rest : List (Event Answer)) (n : 
 abbrev pub StopsAt : Modes → List Rule → Hypotheses → ℕ → ℕ → ℕ → List (Event Answer) → Search →
     Cause → Type 0
 StopsAt modes rules hyps budget first last es new cause =
-    (n : ℕ) × (rest : List (Event Answer)) × Takes budget first last es (stop cause ∷ rest) n
-    × Stands modes rules hyps new (stop cause ∷ rest)
+    (n : ℕ) × (rest : List (Event Answer)) × TakesTries budget first last es (stop cause ∷ rest) n
+    × StandsForEvents modes rules hyps new (stop cause ∷ rest)
 
 -- what is answered of the events, and what the search stands for after it
 abbrev pub IsNextOf : Modes → List Rule → Hypotheses → ℕ → ℕ → ℕ → List (Event Answer) → Search →
     Result Found SearchError → Type 0
 IsNextOf modes rules hyps budget first last es new (Ok (Next d n)) =
     (rest : List (Event Answer))
-    × Takes budget first last es (give (proof d.proof.value, map tree d.outputs.items) ∷ rest) n
-    × Stands modes rules hyps new rest
+    × TakesTries budget first last es (give (proof d.proof.value, map tree d.outputs.items)
+    ∷ rest) n
+    × StandsForEvents modes rules hyps new rest
 IsNextOf modes rules hyps budget first last es new (Ok Paused) =
-    (rest : List (Event Answer)) × Takes budget first last es (try ∷ rest) budget
-    × Stands modes rules hyps new (try ∷ rest)
+    (rest : List (Event Answer)) × TakesTries budget first last es (try ∷ rest) budget
+    × StandsForEvents modes rules hyps new (try ∷ rest)
 IsNextOf modes rules hyps budget first last es new (Ok Ended) =
-    (n : ℕ) × Takes budget first last es [] n × Stands modes rules hyps new []
+    (n : ℕ) × TakesTries budget first last es [] n × StandsForEvents modes rules hyps new []
 IsNextOf modes rules hyps budget first last es new (Err (SpentDepth d)) =
     (d ≡ most_levels) × StopsAt modes rules hyps budget first last es new depth_spent
 IsNextOf modes rules hyps budget first last es new (Err (TooDeep k)) =
@@ -129,7 +130,7 @@ IsNextOf modes rules hyps budget first last es new (Err (TooBig k)) =
     (size : ℕ) × (k ≡ min size (2 ^ 64 - 1))
     × StopsAt modes rules hyps budget first last es new (too_big size)
 IsNextOf modes rules hyps budget first last es new (Err Memory) =
-    (n : ℕ) × (rest : List (Event Answer)) × Takes budget first last es rest n × (0 < n)
+    (n : ℕ) × (rest : List (Event Answer)) × TakesTries budget first last es rest n × (0 < n)
     × HasFailed new
 
 -- the error of a limit
@@ -143,18 +144,18 @@ abbrev pub IsReachedAt : Modes → List Rule → List Pair → List Judgement �
 IsReachedAt modes rules pairs js s tasks budget first last es n (IsFound head outs) =
     (0 < n) × HeadFits (length (store_envs s)) (length (store_kids s)) head
     × AreBelow (length (store_trees s)) outs.items
-    × Takes budget first last es (give (answer_in s head outs.items)
+    × TakesTries budget first last es (give (answer_in s head outs.items)
     ∷ events_left modes rules pairs js s tasks) n
 IsReachedAt modes rules pairs js s tasks budget first last es n (Passed limit) =
     (cause : Cause) × IsLimit (Some cause) (Some limit)
-    × Takes budget first last es (stop cause ∷ events_left modes rules pairs js s tasks) n
+    × TakesTries budget first last es (stop cause ∷ events_left modes rules pairs js s tasks) n
 IsReachedAt modes rules pairs js s tasks budget first last es n DepthSpent =
-    Takes budget first last es (stop depth_spent ∷ events_left modes rules pairs js s tasks) n
+    TakesTries budget first last es (stop depth_spent ∷ events_left modes rules pairs js s tasks) n
 IsReachedAt modes rules pairs js s tasks budget first last es n Spent =
-    (n ≡ budget) × Takes budget first last es (events_left modes rules pairs js s tasks) n
+    (n ≡ budget) × TakesTries budget first last es (events_left modes rules pairs js s tasks) n
     × ((more : List (Event Answer)) × (events_left modes rules pairs js s tasks ≡ try ∷ more))
 IsReachedAt modes rules pairs js s tasks budget first last es n Exhausted =
-    Takes budget first last es (events_left modes rules pairs js s tasks) n
+    TakesTries budget first last es (events_left modes rules pairs js s tasks) n
     × (events_left modes rules pairs js s tasks ≡ [])
 
 -- the store goes on and the tasks that are left fit in it; without memory some tries were made
@@ -164,11 +165,12 @@ IsReached modes rules pairs js candidates old new tasks budget first last es (Ok
     StoreGrows modes rules old new × TasksFit modes rules new candidates tasks
     × IsReachedAt modes rules pairs js new tasks budget first last es r.tries r.ending
 IsReached modes rules pairs js candidates old new tasks budget first last es (Err e) =
-    (n : ℕ) × (rest : List (Event Answer)) × Takes budget first last es rest n × (0 < n)
+    (n : ℕ) × (rest : List (Event Answer)) × TakesTries budget first last es rest n × (0 < n)
 
 -- after that many tries that come to nothing, the tasks are left whose last one has a candidate,
 -- where there is one
-pub record IsSettled (modes : Modes) (rules : List Rule) (pairs : List Pair) (js : List Judgement)
+pub record AreTasksSettled (modes : Modes) (rules : List Rule) (pairs : List Pair)
+    (js : List Judgement)
     (s : Store) (candidates n : ℕ) (old new : List TaskOf) : Type 0 where
   pub same : events_left modes rules pairs js s old
       ≡ tries_then n (events_left modes rules pairs js s new)

@@ -12,7 +12,7 @@ use Rattle.sx_arena.specs.Grown.{Extends}
 use Rattle.sx_arena.specs.Arena.{trees, IsArena}
 use Rattle.sx_arena.specs.Binds.{envs, IsBinds}
 use Rattle.sx_arena.specs.Places.{AreHeld}
-use Rattle.sx_derive.specs.Chains.{kids_of, AreKids, frames_of, AreFrames}
+use Rattle.sx_derive.specs.Chains.{kid_chains, AreKids, frames_of, AreFrames}
 
 -- the terms of a store by their numbers
 abbrev pub store_trees : Store → List Tree
@@ -24,7 +24,7 @@ store_envs s = envs (trees s.arena) s.binds
 
 -- its chains of proofs
 abbrev pub store_kids : Store → List Proofs
-store_kids s = kids_of (store_envs s) s.kids.items
+store_kids s = kid_chains (store_envs s) s.kids.items
 
 -- its chains of frames
 abbrev pub store_frames : Modes → List Rule → Store → List (List Frame)

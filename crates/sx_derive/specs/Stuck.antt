@@ -59,14 +59,14 @@ first_place i (Some place) later = Some (i ∷ place)
 first_place i None later = later
 
 abbrev mutual
-  pub place_in : ℕ → Tree → Option (List ℕ)
-  place_in v (node label kids) = place_in_kids v 0 kids
-  place_in v (lexeme kind text) = None
-  place_in v (hole w) = here_when (nat_eq v w)
+  pub stuck_place_in : ℕ → Tree → Option (List ℕ)
+  stuck_place_in v (node label kids) = place_in_kids v 0 kids
+  stuck_place_in v (lexeme kind text) = None
+  stuck_place_in v (hole w) = here_when (nat_eq v w)
 
   pub place_in_kids : ℕ → ℕ → Trees → Option (List ℕ)
   place_in_kids v i none = None
-  place_in_kids v i (t ▹ ts) = first_place i (place_in v t) (place_in_kids v (suc i) ts)
+  place_in_kids v i (t ▹ ts) = first_place i (stuck_place_in v t) (place_in_kids v (suc i) ts)
 
 -- the path of a premise's goal: on to the place of the premise's subject in the conclusion's
 -- subject; without subjects it stays
@@ -76,7 +76,7 @@ longer_path path (Some place) = path ++ place
 
 -- the path on to the place of the first variable of one list in the first term of the other
 abbrev pub path_on : List ℕ → List Tree → List Tree → List ℕ
-path_on path (hole v ∷ _) (t ∷ _) = longer_path path (place_in v t)
+path_on path (hole v ∷ _) (t ∷ _) = longer_path path (stuck_place_in v t)
 path_on path _ _ = path
 
 -- the path of the goal of a premise of a rule

@@ -150,10 +150,11 @@ IsEnding s Spent e = e ≡ spent
 IsEnding s Exhausted e = e ≡ exhausted
 
 -- where a walk goes on, or how it ends, after a try
-abbrev pub IsOutcome : Store → Option (List Tree) → ℕ → List (Event Answer) → List (Event Answer) →
+abbrev pub IsTryOutcome : Store → Option (List Tree) → ℕ → List (Event Answer) →
+    List (Event Answer) →
     Option EndingOf → Type 0
-IsOutcome s wanted left es rest None =
+IsTryOutcome s wanted left es rest None =
     (walk wanted (suc left) es ≡ walk wanted left rest)
     × (tries_of wanted (suc left) es ≡ suc (tries_of wanted left rest))
-IsOutcome s wanted left es rest (Some ending) =
+IsTryOutcome s wanted left es rest (Some ending) =
     IsEnding s ending (walk wanted (suc left) es) × (tries_of wanted (suc left) es ≡ 1)

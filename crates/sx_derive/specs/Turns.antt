@@ -20,15 +20,15 @@ use Rattle.sx_arena.specs.Places.{IsLimit}
 use Rattle.sx_derive.specs.Chains.{HeadFits}
 use Rattle.sx_derive.specs.Handing.{answer_in}
 use Rattle.sx_derive.specs.Store.{StoreGrows, IsMark, store_trees, store_envs, store_kids}
-use Rattle.sx_derive.specs.Tasks.{events_left, TaskFits, TasksFit, Piled, wanted_in, IsOutcome}
+use Rattle.sx_derive.specs.Tasks.{events_left, TaskFits, TasksFit, Piled, wanted_in, IsTryOutcome}
 
 -- after that many tries that come to nothing, the last task that has a candidate left, and the tasks
 -- before it; or none has one
-abbrev pub IsPopped : Modes → List Rule → List Pair → List Judgement → Store → ℕ → ℕ →
+abbrev pub IsTaskPopped : Modes → List Rule → List Pair → List Judgement → Store → ℕ → ℕ →
     List TaskOf → List TaskOf → Option TaskOf → Type 0
-IsPopped modes rules pairs js s candidates n old new None =
+IsTaskPopped modes rules pairs js s candidates n old new None =
     events_left modes rules pairs js s old ≡ tries_then n []
-IsPopped modes rules pairs js s candidates n old new (Some t) =
+IsTaskPopped modes rules pairs js s candidates n old new (Some t) =
     (t.next < candidates)
     × (events_left modes rules pairs js s old
     ≡ tries_then n (events_left modes rules pairs js s (new ++ t ∷ [])))
@@ -37,17 +37,18 @@ IsPopped modes rules pairs js s candidates n old new (Some t) =
     Piled modes rules candidates first (new ++ t ∷ []) s)
 
 -- what is met after a try: nothing, an answer or a stop; and then the rest of the events
-abbrev pub IsMet : Store → Option EndingOf → List (Event Answer) → List (Event Answer) → Type 0
-IsMet s None es rest = es ≡ rest
-IsMet s (Some (Found head outs)) es rest =
+abbrev pub IsMetAfterTry : Store → Option EndingOf → List (Event Answer) →
+    List (Event Answer) → Type 0
+IsMetAfterTry s None es rest = es ≡ rest
+IsMetAfterTry s (Some (Found head outs)) es rest =
     HeadFits (length (store_envs s)) (length (store_kids s)) head
     × AreBelow (length (store_trees s)) outs.items
     × (es ≡ give (answer_in s head outs.items) ∷ rest)
-IsMet s (Some (Passed limit)) es rest =
+IsMetAfterTry s (Some (Passed limit)) es rest =
     (cause : Cause) × IsLimit (Some cause) (Some limit) × (es ≡ stop cause ∷ rest)
-IsMet s (Some DepthSpent) es rest = es ≡ stop depth_spent ∷ rest
-IsMet s (Some Spent) es rest = ⊥
-IsMet s (Some Exhausted) es rest = ⊥
+IsMetAfterTry s (Some DepthSpent) es rest = es ≡ stop depth_spent ∷ rest
+IsMetAfterTry s (Some Spent) es rest = ⊥
+IsMetAfterTry s (Some Exhausted) es rest = ⊥
 
 -- after a try of the task the walk goes on with the tasks that are left, or ends
 pub record IsTaskTurn (modes : Modes) (rules : List Rule) (pairs : List Pair) (js : List Judgement)
@@ -60,8 +61,8 @@ pub record IsTaskTurn (modes : Modes) (rules : List Rule) (pairs : List Pair) (j
       Piled modes rules candidates first left_over new
   pub meets : wanted ≡ None → (es : List (Event Answer))
       × (events_left modes rules pairs js old (tasks ++ t ∷ []) ≡ try ∷ es)
-      × IsMet new o es (events_left modes rules pairs js new left_over)
+      × IsMetAfterTry new o es (events_left modes rules pairs js new left_over)
   pub outcome : (left : ℕ) →
-      IsOutcome new (wanted_in old wanted) left
+      IsTryOutcome new (wanted_in old wanted) left
       (events_left modes rules pairs js old (tasks ++ t ∷ []))
       (events_left modes rules pairs js new left_over) o

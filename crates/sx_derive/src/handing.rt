@@ -5,7 +5,7 @@ ghost use Rattle.sx_rules.specs.Deep.{RulesAreShallow};
 ghost use Rattle.sx_arena.specs.Arena.{AreBelow};
 ghost use Rattle.sx_derive.specs.Chains.{HeadFits};
 ghost use Rattle.sx_derive.specs.Givens.{IsStoreOf};
-ghost use Rattle.sx_derive.specs.Handing.{IsWaiting, IsResumed, IsHanded};
+ghost use Rattle.sx_derive.specs.Handing.{IsWaitingCell, IsResumed, IsHanded};
 ghost use Rattle.sx_arena.specs.Pairs.{ArePairs};
 ghost use Rattle.sx_derive.specs.Store.{store_trees, store_envs, store_kids};
 ghost use Rattle.sx_arena.specs.Views.{rules_of, set_modes};
@@ -30,7 +30,7 @@ fn resume(
     requires shallow { RulesAreShallow (rules_of given.now.rules.now) }
     requires store { IsStoreOf given.now store.old }
     requires pairs { ArePairs (length (store_trees store.old)) given.now.pairs.now }
-    requires frame { IsWaiting (set_modes given.now.rules.now) (rules_of given.now.rules.now)
+    requires frame { IsWaitingCell (set_modes given.now.rules.now) (rules_of given.now.rules.now)
         store.old frame }
     requires head { HeadFits (length (store_envs store.old)) (length (store_kids store.old)) head }
     requires outputs { AreBelow (length (store_trees store.old)) outputs.now }

@@ -18,7 +18,7 @@ ghost use Rattle.sx_rules.specs.Rules.{Judgement};
 ghost use Rattle.sx_arena.specs.Pairs.{ArePairs};
 ghost use Rattle.sx_arena.specs.Views.{rules_of, set_modes};
 ghost use Rattle.sx_derive.specs.Givens.{IsStoreOf, HasFacts};
-ghost use Rattle.sx_derive.specs.Resumable.{IsReached, IsSettled};
+ghost use Rattle.sx_derive.specs.Resumable.{IsReached, AreTasksSettled};
 ghost use Rattle.sx_derive.specs.Store.{store_trees};
 ghost use Rattle.sx_derive.specs.Tasks.{events_left, TasksFit};
 ghost use Rattle.sx_derive.specs.declared.tasks.Task.{Task as TaskOf};
@@ -55,7 +55,7 @@ fn settle<L: Ledger>(
     ensures less { left.new ≤ left.old }
     ensures counted { steps.new ≡ steps.old + (left.old - left.new) }
     ensures settled { (js : List Judgement) → HasFacts given.now store.now js →
-        IsSettled (set_modes given.now.rules.now) (rules_of given.now.rules.now)
+        AreTasksSettled (set_modes given.now.rules.now) (rules_of given.now.rules.now)
         given.now.pairs.now js store.now
         (length given.now.facts.now + length (rules_of given.now.rules.now))
         (left.old - left.new) tasks.old.items tasks.new.items }

@@ -3,7 +3,8 @@
 ghost use Rattle.std.specs.Prelude.{◌≡◌, ◌^◌, ◌<◌, List, Err, IfOk, length};
 ghost use Rattle.sx_arena.specs.Entered.{ArePairsShallow};
 ghost use Rattle.sx_arena.specs.Views.{rules_of, set_modes};
-ghost use Rattle.sx_derive.specs.Resumable.{Stands, HasFailed, CanGoOn, IsNextOf, IsErrorOf};
+ghost use Rattle.sx_derive.specs.Resumable.{StandsForEvents, HasFailed, CanGoOn, IsNextOf};
+ghost use Rattle.sx_derive.specs.Resumable.{IsErrorOf};
 ghost use Rattle.sx_derive.specs.Walk.{Event, Answer, events};
 ghost use Rattle.sx_derive.specs.declared.search_error.SearchError.TheVariants.{Memory};
 ghost use Rattle.sx_derive.specs.declared.state.State.TheVariants.{Open, Failed};
@@ -62,7 +63,8 @@ impl Search {
         requires apart { ArePairsShallow (hypotheses given.now).pairs }
         requires goal { AreShallow (goal_of goal).terms }
         ensures { IfOk result
-            (λ search. Stands (set_modes rules.now) (rules_of rules.now) (hypotheses given.now)
+            (λ search. StandsForEvents (set_modes rules.now) (rules_of rules.now)
+            (hypotheses given.now)
             search
             (events (set_modes rules.now) (rules_of rules.now) (hypotheses given.now) (goal_of goal)
             1)) }
@@ -104,7 +106,8 @@ impl Search {
         requires stands { CanGoOn (set_modes rules.now) (rules_of rules.now) (hypotheses given.now)
             self.old }
         ensures next { (es : List (Event Answer)) →
-            Stands (set_modes rules.now) (rules_of rules.now) (hypotheses given.now) self.old es →
+            StandsForEvents (set_modes rules.now) (rules_of rules.now) (hypotheses given.now)
+            self.old es →
             IsNextOf (set_modes rules.now) (rules_of rules.now) (hypotheses given.now) budget
             steps.old steps.new es self.new result }
         ensures goes_on { CanGoOn (set_modes rules.now) (rules_of rules.now) (hypotheses given.now)
@@ -129,10 +132,12 @@ impl Search {
         steps: &mut Steps<L>,
     ) -> Result<Found, SearchError>
         requires stands { (es : List (Event Answer))
-            × Stands (set_modes rules.now) (rules_of rules.now) (hypotheses given.now) self.old es }
+            × StandsForEvents (set_modes rules.now) (rules_of rules.now) (hypotheses given.now)
+            self.old es }
         requires open { self.old.state ≡ Open }
         ensures { (es : List (Event Answer)) →
-            Stands (set_modes rules.now) (rules_of rules.now) (hypotheses given.now) self.old es →
+            StandsForEvents (set_modes rules.now) (rules_of rules.now) (hypotheses given.now)
+            self.old es →
             IsNextOf (set_modes rules.now) (rules_of rules.now) (hypotheses given.now) budget
             steps.old steps.new es self.new result }
     {

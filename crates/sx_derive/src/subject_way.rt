@@ -18,7 +18,7 @@ ghost use Rattle.sx_term.specs.Term.{tree};
 ghost use Rattle.sx_rules.specs.Modes.{outputs, outputs_of};
 ghost use Rattle.sx_rules.specs.Deep.{AreShallow};
 ghost use Rattle.sx_arena.specs.Views.{judgement_of, rule_of};
-ghost use Rattle.sx_derive.specs.Stuck.{place_in, path_of};
+ghost use Rattle.sx_derive.specs.Stuck.{stuck_place_in, path_of};
 ghost use Rattle.sx_derive.specs.Ways.{subject_modes, IsWay};
 ghost use Rattle.sx_rules.specs.SubjectTerms.{subject_mask};
 ghost use Rattle.sx_term.specs.Limits.{most_depth};
@@ -31,7 +31,8 @@ use sx_term::{NoMemory, Role, Term};
 fn put_way(term: &Term, variable: u32, path: &mut Vec<usize>) -> Result<bool, NoMemory>
     requires depth { depth_of (tree term.now) ≤ most_depth }
     ensures { IfOk result
-        (λ found. IsWay path.old.items path.new.items (place_in variable (tree term.now)) found) }
+        (λ found. IsWay path.old.items path.new.items (stuck_place_in variable (tree term.now))
+        found) }
 {
     match term {
         Term::Node { label: _, kids } => {

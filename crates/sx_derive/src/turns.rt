@@ -20,7 +20,7 @@ ghost use Rattle.sx_arena.specs.Pairs.{ArePairs};
 ghost use Rattle.sx_derive.specs.Givens.{IsStoreOf, HasFacts};
 ghost use Rattle.sx_derive.specs.Store.{store_trees};
 ghost use Rattle.sx_derive.specs.Tasks.{TaskFits, TasksFit, WantedBelow, IsNextCandidate};
-ghost use Rattle.sx_derive.specs.Turns.{IsPopped, IsTaskTurn};
+ghost use Rattle.sx_derive.specs.Turns.{IsTaskPopped, IsTaskTurn};
 ghost use Rattle.sx_arena.specs.Views.{rules_of, set_modes};
 
 use crate::given::Given;
@@ -56,7 +56,7 @@ pub(crate) fn next_task(
         (length given.now.facts.now + length (rules_of given.now.rules.now)) tasks.old.items }
     ensures less { left.new ≤ left.old }
     ensures popped { (js : List Judgement) → HasFacts given.now store.now js →
-        IsPopped (set_modes given.now.rules.now) (rules_of given.now.rules.now)
+        IsTaskPopped (set_modes given.now.rules.now) (rules_of given.now.rules.now)
         given.now.pairs.now js store.now
         (length given.now.facts.now + length (rules_of given.now.rules.now))
         (left.old - left.new) tasks.old.items tasks.new.items result }

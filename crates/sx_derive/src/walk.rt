@@ -7,7 +7,7 @@ ghost use Rattle.sx_arena.specs.Pairs.{ArePairs};
 ghost use Rattle.sx_derive.specs.Givens.{IsStoreOf, HasFacts};
 ghost use Rattle.sx_derive.specs.Store.{store_trees};
 ghost use Rattle.sx_derive.specs.Tasks.{events_left, Piled, TasksFit, WantedBelow};
-ghost use Rattle.sx_derive.specs.Turns.{IsPopped};
+ghost use Rattle.sx_derive.specs.Turns.{IsTaskPopped};
 ghost use Rattle.sx_derive.specs.Walked.{events_in, IsWalked, IsWalkedTo};
 ghost use Rattle.sx_arena.specs.Views.{rules_of, set_modes};
 
@@ -36,7 +36,7 @@ fn next_counted<L: Ledger>(
     ensures less { left.new ≤ left.old }
     ensures counted { steps.new ≡ steps.old + (left.old - left.new) }
     ensures popped { (js : List Judgement) → HasFacts given.now store.now js →
-        IsPopped (set_modes given.now.rules.now) (rules_of given.now.rules.now)
+        IsTaskPopped (set_modes given.now.rules.now) (rules_of given.now.rules.now)
         given.now.pairs.now js store.now
         (length given.now.facts.now + length (rules_of given.now.rules.now))
         (left.old - left.new) tasks.old.items tasks.new.items result }

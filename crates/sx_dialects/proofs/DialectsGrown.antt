@@ -34,7 +34,7 @@ use Rattle.sx_accepting.specs.Extending.{Accepts, ExtendsBy, ExtendsLanguage}
 use Rattle.sx_accepting.specs.Laws.{IsAcceptedOver}
 use Rattle.sx_accepting.proofs.AcceptedExtended.{accepted_by, checks_of, next_of, stored_soundly}
 use Rattle.sx_typing.specs.Dialects.{IsDialect}
-use Rattle.sx_typing.specs.Growing.{Added, IsAddedTo, with_added}
+use Rattle.sx_typing.specs.Growing.{Added, IsAddedToDialect, with_added}
 use Rattle.sx_typing.proofs.Grown.{dialects_grow}
 use Rattle.sx_typing.proofs.Lexemes.{extension_to_tokens, from_tokens, table_to_tokens}
 use Rattle.sx_dialects.specs.Dialects.{dialect_in}
@@ -104,7 +104,7 @@ module _ (l : BaseLanguage) (x : ExtendedData) (h : IsGrown l x) (bytes : List â
   -- the extension can be added to the dialect, where it is sound by what is stored
   is_added : AreSoundBy (subjects_in l.content.forms) (length (shapes_of l.content.parts))
       (with_table x.set.kept table) (map ext_rule es) stored â†’
-      IsAddedTo (dialect_in l.content x) added
+      IsAddedToDialect (dialect_in l.content x) added
   is_added sound =
       let literals = literals_of l.content.parts in
       record {

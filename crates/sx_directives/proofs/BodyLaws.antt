@@ -4,10 +4,10 @@ use Rattle.std.specs.Prelude.{MatchResult, codes}
 use Rattle.std.specs.List.{repeat}
 use Rattle.std.proofs.lemmas.List.{take-append-drop}
 use Rattle.sx_lines.specs.Bytes.{is_blank}
-use Rattle.sx_directives.specs.Parts.{AllBlank, IsBlankFront, Starts}
+use Rattle.sx_directives.specs.Parts.{AllBlank, IsBlankFront, NoBlankFirst}
 use Rattle.sx_directives.specs.Spelling.{NoneIs, IsTextOf}
 use Rattle.sx_directives.specs.Rows.{BeginsBlank, Follows, IsToBody, IsBodyText, IsToCut, IsRowOf}
-use Rattle.sx_directives.specs.Rows.{word_of}
+use Rattle.sx_directives.specs.Rows.{row_word}
 use Rattle.sx_directives.specs.declared.row_error.RowError.{RowError}
 use Rattle.sx_directives.specs.declared.row.Row.{Row}
 use Rattle.sx_directives.specs.declared.row.Row.TheVariants.{To as ToRow}
@@ -26,10 +26,10 @@ clash true e f = cc
 clash false e f = cc
 
 -- two ways to cut the blanks off a text's front are one
-one_front : (a b x y : List ℕ) → AllBlank a → AllBlank b → Starts x → Starts y → a ++ x ≡ b ++ y → (length a ≡ length b) × (x ≡ y)
+one_front : (a b x y : List ℕ) → AllBlank a → AllBlank b → NoBlankFirst x → NoBlankFirst y → a ++ x ≡ b ++ y → (length a ≡ length b) × (x ≡ y)
 one_front [] [] x y h k s t e = (refl, e)
-one_front [] (c ∷ b) x y h k s t e = absurd (clash (is_blank c) k.0 (subst Starts e s))
-one_front (c ∷ a) [] x y h k s t e = absurd (clash (is_blank c) h.0 (subst Starts (sym e) t))
+one_front [] (c ∷ b) x y h k s t e = absurd (clash (is_blank c) k.0 (subst NoBlankFirst e s))
+one_front (c ∷ a) [] x y h k s t e = absurd (clash (is_blank c) h.0 (subst NoBlankFirst (sym e) t))
 one_front (c ∷ a) (d ∷ b) x y h k s t e =
     let w = one_front a b x y h.1 k.1 s t (tail_same c d (a ++ x) (b ++ y) e) in
     (ap suc w.0, w.1)
@@ -37,7 +37,7 @@ one_front (c ∷ a) (d ∷ b) x y h k s t e =
 -- behind its blanks the text of a cut goes on with `to`
 behind : (text word rest : List ℕ) (at n : ℕ) → IsBlankFront text at → word ≡ drop at text → IsToCut text n rest → word ≡ codes "to" ++ rest
 behind text word rest at n f e c =
-    (one_front (take at text) c.blanks word (codes "to" ++ rest) f.blanks c.blank (subst Starts (sym e) f.starts) refl
+    (one_front (take at text) c.blanks word (codes "to" ++ rest) f.blanks c.blank (subst NoBlankFirst (sym e) f.starts) refl
     (ap (λ (x : List ℕ). take at text ++ x) e ∙ take-append-drop at text ∙ c.text_is)).1
 
 -- a text is cut in one way
@@ -89,7 +89,7 @@ abbrev is_to : Keyword → Type 0
 is_to To = Unit {0}
 is_to _ = ⊥
 
-body_in : (text : List ℕ) (parts : List (List ℕ)) (r : Row) → To ≡ word_of r → Follows text parts r → (body : List ℕ) × IsBodyText text body
+body_in : (text : List ℕ) (parts : List (List ℕ)) (r : Row) → To ≡ row_word r → Follows text parts r → (body : List ℕ) × IsBodyText text body
 body_in text parts (ToRow body) e h = (body, h)
 body_in text parts r e h = absurd (subst is_to e tt)
 

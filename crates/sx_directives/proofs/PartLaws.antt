@@ -2,7 +2,7 @@
 use Rattle.std.proofs.Common.{◌≡◌, ◌≢◌, ℕ, zero, suc, ◌<◌, ◌≤◌, Bool, true, false, List, [], ◌∷◌, ◌++◌, length, get_or, take, drop, refl, sym, ap, subst, ◌∙◌, arith}
 use Rattle.std.proofs.lemmas.List.{drop_more, drop_all, take-append-drop}
 use Rattle.sx_lines.specs.Bytes.{is_blank}
-use Rattle.sx_directives.specs.Parts.{parts_of, begun_part, NoBlank, AllBlank, Stops, Starts}
+use Rattle.sx_directives.specs.Parts.{parts_of, begun_part, NoBlank, AllBlank, Stops, NoBlankFirst}
 use Rattle.sx_directives.specs.Parts.{IsBlankFront, IsPartEnd}
 
 all_blank-take : (text : List ℕ) (n : ℕ) → ((k : ℕ) → k < n → is_blank (get_or text k 0) ≡ true) → n ≤ length text → AllBlank (take n text)
@@ -19,14 +19,14 @@ pub blank_front : (text : List ℕ) (at : ℕ) → ((k : ℕ) → k < at → is_
 blank_front text at h lt e = record {
   inside = omega arith;
   blanks = all_blank-take text at h (omega arith);
-  starts = subst Starts (sym (drop_more text at 0 lt)) e;
+  starts = subst NoBlankFirst (sym (drop_more text at 0 lt)) e;
 }
 
 pub blank_all : (text : List ℕ) → ((k : ℕ) → k < length text → is_blank (get_or text k 0) ≡ true) → IsBlankFront text (length text)
 blank_all text h = record {
   inside = omega arith;
   blanks = all_blank-take text (length text) h (omega arith);
-  starts = subst Starts (sym (drop_all (length text) text (omega arith))) tt;
+  starts = subst NoBlankFirst (sym (drop_all (length text) text (omega arith))) tt;
 }
 
 pub part_end : (text : List ℕ) (at : ℕ) → ((k : ℕ) → k < at → is_blank (get_or text k 0) ≡ false) → at < length text → is_blank (get_or text at 0) ≡ true → IsPartEnd text at
@@ -74,9 +74,9 @@ clash true e f = cc
 clash false e f = cc
 
 -- a text without blanks at its front that is cut where its first part ends
-cut_at : (rest part more : List ℕ) → rest ≡ part ++ more → NoBlank part → Stops more → Starts rest → rest ≢ [] → parts_of rest ≡ part ∷ parts_of more
+cut_at : (rest part more : List ℕ) → rest ≡ part ++ more → NoBlank part → Stops more → NoBlankFirst rest → rest ≢ [] → parts_of rest ≡ part ∷ parts_of more
 cut_at rest [] [] e h s t n = absurd (n e)
-cut_at rest [] (c ∷ more) e h s t n = absurd (clash (is_blank c) (subst Starts e t) s)
+cut_at rest [] (c ∷ more) e h s t n = absurd (clash (is_blank c) (subst NoBlankFirst e t) s)
 cut_at rest (b ∷ part) more e h s t n = ap parts_of e ∙ parts_part b part more h s
 
 pub first_cut : (text rest part more : List ℕ) (at end : ℕ) → IsBlankFront text at → rest ≡ drop at text → IsPartEnd rest end → rest ≢ []
@@ -84,7 +84,7 @@ pub first_cut : (text rest part more : List ℕ) (at end : ℕ) → IsBlankFront
 first_cut text rest part more at end f e p n g k =
     let whole : rest ≡ part ++ more = sym (take-append-drop end rest) ∙ ap (λ (x : List ℕ). x ++ drop end rest) (sym g) ∙ ap (λ (x : List ℕ). part ++ x) (sym k) in
     ap parts_of (sym (take-append-drop at text)) ∙ parts_blank (take at text) (drop at text) f.blanks ∙ ap parts_of (sym e)
-    ∙ cut_at rest part more whole (subst NoBlank (sym g) p.part) (subst Stops (sym k) p.stops) (subst Starts (sym e) f.starts) n
+    ∙ cut_at rest part more whole (subst NoBlank (sym g) p.part) (subst Stops (sym k) p.stops) (subst NoBlankFirst (sym e) f.starts) n
 
 pub no_part : (text rest : List ℕ) (at : ℕ) → IsBlankFront text at → rest ≡ drop at text → rest ≡ [] → parts_of text ≡ []
 unfolding parts_of

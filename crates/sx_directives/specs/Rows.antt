@@ -165,20 +165,20 @@ abbrev pub IsDirective : List ℕ → Directive → Type 0
 IsDirective text d = IsDirectiveOf (parts_of text) d
 
 -- the word of a row
-abbrev pub word_of : Row → Keyword
-word_of (LanguageRow name) = Language
-word_of (SortRow s) = Sort
-word_of (ProdRow p) = Prod
-word_of (VarRow v) = Var
-word_of (FormRow f) = Form
-word_of (MainRow m) = Main
-word_of (RuleRow name) = Rule
-word_of BarRow = Bar
-word_of EndRow = End
-word_of (ExtensionRow name) = Extension
-word_of (UseRow name) = Use
-word_of (PlainRow p) = Plain
-word_of (ToRow body) = To
+abbrev pub row_word : Row → Keyword
+row_word (LanguageRow name) = Language
+row_word (SortRow s) = Sort
+row_word (ProdRow p) = Prod
+row_word (VarRow v) = Var
+row_word (FormRow f) = Form
+row_word (MainRow m) = Main
+row_word (RuleRow name) = Rule
+row_word BarRow = Bar
+row_word EndRow = End
+row_word (ExtensionRow name) = Extension
+row_word (UseRow name) = Use
+row_word (PlainRow p) = Plain
+row_word (ToRow body) = To
 
 -- what follows the word of a row in its line, whose parts after the word are these
 abbrev pub Follows : List ℕ → List (List ℕ) → Row → Type 0
@@ -198,7 +198,7 @@ Follows text parts (ToRow body) = IsBodyText text body
 
 -- the line, whose parts after the word are these, is that of the row
 pub record IsRowOf (k : Keyword) (text : List ℕ) (parts : List (List ℕ)) (r : Row) : Type 0 where
-  pub word : k ≡ word_of r
+  pub word : k ≡ row_word r
   pub follows : Follows text parts r
 
 -- a `to` line has a body
@@ -213,8 +213,8 @@ IsLineOf kind word text = IsTrue (is_word_of kind word) × HasBody word text
 -- in a file of this kind the line is that of this row
 pub record IsRow (kind : FileKind) (text : List ℕ) (r : Row) : Type 0 where
   pub rest : List (List ℕ)
-  pub parts_are : parts_of text ≡ keyword_text (word_of r) ∷ rest
-  pub word : IsTrue (is_word_of kind (word_of r))
+  pub parts_are : parts_of text ≡ keyword_text (row_word r) ∷ rest
+  pub word : IsTrue (is_word_of kind (row_word r))
   pub follows : Follows text rest r
 
 -- in a file of this kind the line begins with a word of the table

@@ -11,7 +11,7 @@ use Rattle.sx_grammar.specs.Items as items
 use Rattle.sx_grammar.specs.Items.{ReadsToken, Makes, NextIs, AtEnd, started, predicted, scanned}
 use Rattle.sx_grammar.specs.Items.{completed}
 use Rattle.sx_grammar.specs.declared.item.Item.{Item}
-use Rattle.sx_earley.specs.Growth.{GoesOnFrom, Only}
+use Rattle.sx_earley.specs.Growth.{GoesOnFrom, AllNew}
 use Rattle.sx_earley.specs.Chart.{Foresees, FollowsFrom, by_prediction, by_scanning, by_filling}
 use Rattle.sx_earley.specs.Chart.{by_waiting, AllFollow, Joins, ReadsNext, next_symbol}
 use Rattle.sx_earley.specs.Chart.{symbol_after, as_part, IsOfSort, HasDotAtEnd, IsPredicted, moved}
@@ -175,7 +175,7 @@ module _ (g : Grammar) (tokens : List Token) (start : ℕ) where
       empty : (x : Item) → Contains done x → ⊥
       empty x there = let h : Contains [] x = subst (λ l. Contains l x) none there in let low = h.1 in omega arith
 
-  pub starts_hold : (old keys : List Item) → old ≡ [] → Only old keys (IsBusy g tokens (IsPredicted g start 0 0)) → (i : Item) → Contains keys i → Holds g tokens start i
+  pub starts_hold : (old keys : List Item) → old ≡ [] → AllNew old keys (IsBusy g tokens (IsPredicted g start 0 0)) → (i : Item) → Contains keys i → Holds g tokens start i
   starts_hold old keys none only i there = ⊎_elim (λ was. absurd (empty was)) (λ p. start_holds i p.0) (only i there)
     where
       empty : Contains old i → ⊥
@@ -183,7 +183,7 @@ module _ (g : Grammar) (tokens : List Token) (start : ℕ) where
 
   pub more_hold : (old keys : List Item) (IsBefore IsFilling : Item → Type 0) (item : Item) → ((i : Item) → Contains old i → Holds g tokens start i) → Holds g tokens start item →
       ((x : Item) → IsBefore x → Holds g tokens start x) → ((x : Item) → IsFilling x → Holds g tokens start x) →
-      Only old keys (FollowsFrom g tokens IsBefore IsFilling item) → (i : Item) → Contains keys i → Holds g tokens start i
+      AllNew old keys (FollowsFrom g tokens IsBefore IsFilling item) → (i : Item) → Contains keys i → Holds g tokens start i
   more_hold old keys IsBefore IsFilling item sound h all every only i there = ⊎_elim (λ was. sound i was) (λ f. follows_hold IsBefore IsFilling item h all every i f) (only i there)
 
 -- the element at a place is in the list

@@ -1,6 +1,6 @@
 use Rattle.std.proofs.Common.{length, ◌≤◌, arith, length-append, Result, Ok, Err, OnOk, ◌≡◌, List, [], ◌++◌, inl, inr, ⊎_elim, sym, subst, ap, ◌∙◌, append_assoc, append-nil, Contains}
 use Rattle.std.proofs.lemmas.List.Elements.{Contains-append_left}
-use Rattle.sx_earley.specs.Growth.{GoesOnFrom, Only}
+use Rattle.sx_earley.specs.Growth.{GoesOnFrom, AllNew}
 
 pub extends_self : {X : Type 0} (xs : List X) → GoesOnFrom xs xs
 extends_self xs = ([], sym (append-nil xs))
@@ -11,10 +11,10 @@ extends_on a b c h k = (h.0 ++ k.0, k.1 ∙ (ap (λ l. l ++ k.0) h.1 ∙ append_
 pub still_there : {X : Type 0} (a b : List X) (x : X) → GoesOnFrom a b → Contains a x → Contains b x
 still_there a b x h there = subst (λ l. Contains l x) (sym h.1) (Contains-append_left a h.0 x there)
 
-pub only_more : {X : Type 0} (a b : List X) (P Q : X → Type 0) → ((i : X) → P i → Q i) → Only a b P → Only a b Q
+pub only_more : {X : Type 0} (a b : List X) (P Q : X → Type 0) → ((i : X) → P i → Q i) → AllNew a b P → AllNew a b Q
 only_more a b P Q weaker h = λ i there. ⊎_elim (λ old. inl old) (λ p. inr (weaker i p)) (h i there)
 
-pub only_on : {X : Type 0} (a b c : List X) (P : X → Type 0) → Only a b P → Only b c P → Only a c P
+pub only_on : {X : Type 0} (a b c : List X) (P : X → Type 0) → AllNew a b P → AllNew b c P → AllNew a c P
 only_on a b c P h k = λ i there. ⊎_elim (λ old. h i old) (λ p. inr p) (k i there)
 
 -- what follows where there is a value

@@ -4,7 +4,7 @@ use Rattle.std.proofs.lemmas.List.Elements.{Contains-push_cases}
 use Rattle.sx_grammar.specs.Grammar.{Grammar}
 use Rattle.sx_grammar.specs.declared.head.Head.TheVariants.{Labelled}
 use Rattle.sx_grammar.specs.declared.item.Item.{Item}
-use Rattle.sx_earley.specs.Growth.{Only}
+use Rattle.sx_earley.specs.Growth.{AllNew}
 use Rattle.sx_earley.specs.Chart.{Joins, IsJoined, moved, beginning}
 use Rattle.sx_earley.proofs.Growth.{only_on, only_more}
 
@@ -23,15 +23,15 @@ pub all_done : {X : Type 0} (xs : List X) (index : ℕ) (P : X → Type 0) → l
 all_done xs index P long before x there = before x (subst (λ l. Contains l x) (sym (take_all index xs long)) there)
 
 -- what one turn adds is joined
-pub each_only : (g : Grammar) (IsBefore : Item → Type 0) (filling before : Item) (old mid new : List Item) → IsBefore before → Only old mid (IsJoined g IsBefore (λ x. x ≡ filling)) →
-    Only mid new (λ i. Joins g before filling × (i ≡ moved before filling.end)) → Only old new (IsJoined g IsBefore (λ x. x ≡ filling))
+pub each_only : (g : Grammar) (IsBefore : Item → Type 0) (filling before : Item) (old mid new : List Item) → IsBefore before → AllNew old mid (IsJoined g IsBefore (λ x. x ≡ filling)) →
+    AllNew mid new (λ i. Joins g before filling × (i ≡ moved before filling.end)) → AllNew old new (IsJoined g IsBefore (λ x. x ≡ filling))
 each_only g IsBefore filling before old mid new is h k =
     only_on old mid new (IsJoined g IsBefore (λ x. x ≡ filling)) h
     (only_more mid new (λ i. Joins g before filling × (i ≡ moved before filling.end)) (IsJoined g IsBefore (λ x. x ≡ filling))
     (λ i j. (before, filling, is, refl, j.0, j.1)) k)
 
-pub over_only : (g : Grammar) (IsFilling : Item → Type 0) (before filling : Item) (old mid new : List Item) → IsFilling filling → Only old mid (IsJoined g (λ x. x ≡ before) IsFilling) →
-    Only mid new (λ i. Joins g before filling × (i ≡ moved before filling.end)) → Only old new (IsJoined g (λ x. x ≡ before) IsFilling)
+pub over_only : (g : Grammar) (IsFilling : Item → Type 0) (before filling : Item) (old mid new : List Item) → IsFilling filling → AllNew old mid (IsJoined g (λ x. x ≡ before) IsFilling) →
+    AllNew mid new (λ i. Joins g before filling × (i ≡ moved before filling.end)) → AllNew old new (IsJoined g (λ x. x ≡ before) IsFilling)
 over_only g IsFilling before filling old mid new is h k =
     only_on old mid new (IsJoined g (λ x. x ≡ before) IsFilling) h
     (only_more mid new (λ i. Joins g before filling × (i ≡ moved before filling.end)) (IsJoined g (λ x. x ≡ before) IsFilling)

@@ -10,7 +10,7 @@ use Rattle.sx_earley.specs.Growth.{GoesOnFrom}
 use Rattle.sx_earley.specs.Chart.{IsOfSort, HasDotAtEnd, sort_made, as_part, symbol_after, Joins}
 use Rattle.sx_earley.specs.Dotted.{WaitsFor, HasMade}
 use Rattle.sx_earley.specs.Keys.{waiting_key, complete_key, before_key, filling_key, own_key, IsKey}
-use Rattle.sx_earley.specs.Keys.{of_waiting, of_complete, IsAddedTo, AreWithin, IsFiled, IsKeyed}
+use Rattle.sx_earley.specs.Keys.{of_waiting, of_complete, IsAddedTo, AreNumbersWithin, IsFiled, IsKeyed}
 use Rattle.sx_earley.specs.declared.filed.Filed.{Filed}
 use Rattle.std.proofs.lemmas.Bool.{cases_lt}
 use Rattle.sx_earley.proofs.Closing.{part_is, there_at}
@@ -91,7 +91,7 @@ module _ (old new : Filed) (number : ℕ) where
       (λ e. subst (IsFiled g items new) e (λ key k. added key (subst (λ (o : Option ℕ). IsAddedTo o number old new) (is key k) a) many items item at))
       (Contains-push_cases done item x there)
 
-  pub within_on : (own : Option ℕ) (bound : ℕ) → IsAddedTo own number old new → AreWithin old bound → number < bound → AreWithin new bound
+  pub within_on : (own : Option ℕ) (bound : ℕ) → IsAddedTo own number old new → AreNumbersWithin old bound → number < bound → AreNumbersWithin new bound
   within_on None bound a w low = record {
     same = ap length a.1 ∙ w.same ∙ sym (ap length a.0);
     within = λ n l. subst (λ (m : List ℕ). get_or m n 0 < bound) (sym a.1) (w.within n (subst (λ (m : List ℕ). n < length m) a.0 l));
@@ -108,13 +108,13 @@ module _ (old new : Filed) (number : ℕ) where
         ]);
       }
 
-pub within_none : (filed : Filed) (bound : ℕ) → filed.keys ≡ [] → filed.numbers.items ≡ [] → AreWithin filed bound
+pub within_none : (filed : Filed) (bound : ℕ) → filed.keys ≡ [] → filed.numbers.items ≡ [] → AreNumbersWithin filed bound
 within_none filed bound none nothing = record {
   same = ap length nothing ∙ sym (ap length none);
   within = λ n low. let empty : n < 0 = subst (λ (l : List ℕ). n < length l) none low in absurd (omega arith);
 }
 
-pub within_longer : (filed : Filed) (bound wider : ℕ) → bound ≤ wider → AreWithin filed bound → AreWithin filed wider
+pub within_longer : (filed : Filed) (bound wider : ℕ) → bound ≤ wider → AreNumbersWithin filed bound → AreNumbersWithin filed wider
 within_longer filed bound wider le w = record {
   same = w.same;
   within = λ n l. let low = w.within n l in omega arith;
@@ -125,7 +125,7 @@ pub keyed_later : (old new : List Item) (filed : Filed) (key : Option ℕ) (x : 
 keyed_later old new filed None x grown h = absurd h
 keyed_later old new filed (Some key) x grown h = (h.0, h.1, h.2, got_later old new (get_or filed.numbers.items h.0 0) x grown h.3)
 
-pub keyed_earlier : (old new : List Item) (filed : Filed) (key : Option ℕ) (x : Item) → GoesOnFrom old new → AreWithin filed (length old) → IsKeyed new filed key x → IsKeyed old filed key x
+pub keyed_earlier : (old new : List Item) (filed : Filed) (key : Option ℕ) (x : Item) → GoesOnFrom old new → AreNumbersWithin filed (length old) → IsKeyed new filed key x → IsKeyed old filed key x
 keyed_earlier old new filed None x grown w h = absurd h
 keyed_earlier old new filed (Some key) x grown w h =
     (h.0, h.1, h.2, got_earlier old new (get_or filed.numbers.items h.0 0) x grown (w.within h.0 h.1) h.3)

@@ -10,7 +10,7 @@ use Rattle.sx_grammar.specs.Tables.{GrammarData}
 use Rattle.sx_grammar.specs.declared.item.Item.{Item}
 use Rattle.sx_earley.specs.declared.ask.Ask.{Ask}
 use Rattle.sx_earley.specs.declared.opening.Opening.{Opening}
-use Rattle.sx_earley.specs.Growth.{GoesOnFrom, Only}
+use Rattle.sx_earley.specs.Growth.{GoesOnFrom, AllNew}
 use Rattle.sx_earley.specs.Shown.{plain, literal_texts, IsLiteralBelow}
 use Rattle.sx_earley.specs.AskSet.{IsLevelReached, IsOfSortFrom, IsNewLevel}
 use Rattle.sx_earley.specs.Chart.{IsOfSort, IsPredicted, IsMissed, IsIdle, beginning}
@@ -67,7 +67,7 @@ module _ (d : GrammarData) (tokens : List Token) (ask : Ask) (before : Option �
   -- so far, from these openings, with at most so many counted
   pub record Progress (front : List Opening) (bound : ℕ) (old new : List Item) (n : ℕ) : Type 0 where
     pub extends : GoesOnFrom old new
-    pub only : Only old new (IsBusy g tokens Wanted)
+    pub only : AllNew old new (IsBusy g tokens Wanted)
     pub every : (i : Item) → Wanted i → IsFrom front i → Contains new i ⊎ IsIdle g tokens i
     pub idle : IsCount (λ i. IsIdle g tokens i × Wanted i × IsFrom front i) n
     pub few : n ≤ bound
@@ -164,7 +164,7 @@ module _ (d : GrammarData) (tokens : List Token) (ask : Ask) (before : Option �
             few = (let few = so_far.few in omega arith);
           }
 
-          progress_added : (IsMissed tokens (option_map (symbol (literal_texts d)) o.first) ask.place → ⊥) → (new : List Item) → GoesOnFrom mid new → Only mid new (λ i. i ≡ x) →
+          progress_added : (IsMissed tokens (option_map (symbol (literal_texts d)) o.first) ask.place → ⊥) → (new : List Item) → GoesOnFrom mid new → AllNew mid new (λ i. i ≡ x) →
               Contains new x → Progress more (bound + 1) old new n
           progress_added met new grown only there = record {
             extends = extends_on old mid new so_far.extends grown;

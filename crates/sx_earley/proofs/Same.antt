@@ -3,7 +3,7 @@ use Rattle.std.proofs.lemmas.Map.Keys.{IsDistinct-head, IsDistinct-tail}
 use Rattle.sx_grammar.specs.Tally.{Among, EachOnce}
 use Rattle.std.proofs.Common.{sym, subst, true≢false, ◌∙◌, List, [], ◌∷◌, ◌++◌, inl, inr, ⊎_elim, if◌then◌else◌, ◌≡◌, Bool, true, false, arith}
 use Rattle.std.proofs.lemmas.List.Elements.{Contains-push_cases}
-use Rattle.sx_earley.specs.Growth.{Only}
+use Rattle.sx_earley.specs.Growth.{AllNew}
 use Rattle.std.proofs.lemmas.Bool.Decides.{nat_tests}
 use Rattle.sx_grammar.specs.declared.head.Head.{Head}
 use Rattle.sx_grammar.specs.declared.head.Head.TheVariants.{Labelled, Bracketed}
@@ -21,7 +21,7 @@ pub same_items : (x y : Item) → (item_eq.ghosts).eq x y ≡ true → x ≡ y
 same_items x y h = grind (arith, nat_tests, same_heads)
 
 -- what an insert adds is the item
-pub only_inserted : {T : Type 0} (keys : List T) (item : T) (b : Bool) → Only keys (if b then keys else keys ++ item ∷ []) (λ i. i ≡ item)
+pub only_inserted : {T : Type 0} (keys : List T) (item : T) (b : Bool) → AllNew keys (if b then keys else keys ++ item ∷ []) (λ i. i ≡ item)
 only_inserted keys item true i h = inl h
 only_inserted keys item false i h = ⊎_elim (λ old. inl old) (λ e. inr (sym e)) (Contains-push_cases keys item i h)
 

@@ -3,7 +3,7 @@ use Rattle.std.proofs.Common.{◌≡◌, subst, ⊎_elim, ℕ, ◌+◌, List, []
 use Rattle.std.specs.List.{slice_get}
 use Rattle.sx_grammar.specs.Grammar.{Grammar, Token}
 use Rattle.sx_grammar.specs.declared.item.Item.{Item}
-use Rattle.sx_earley.specs.Growth.{GoesOnFrom, Only}
+use Rattle.sx_earley.specs.Growth.{GoesOnFrom, AllNew}
 use Rattle.sx_earley.specs.Chart.{FollowsFrom, AllFollow, Treated, AllHold, Joins, WasAsked, IsIdle}
 use Rattle.sx_earley.specs.declared.ask.Ask.{Ask}
 use Rattle.sx_earley.specs.Keys.{IsKey, IsAddedTo, IsFiled, IsKeyed}
@@ -34,12 +34,12 @@ module _ (g : Grammar) (tokens : List Token) (start : ℕ) (items : List Item) (
 
   module _ (new : List Item) where
     -- what is added holds
-    pub turn_holds : Only items new (FollowsFrom g tokens (IsKeyed items more before) (IsKeyed items more filling) item) → AllHold g tokens start new
+    pub turn_holds : AllNew items new (FollowsFrom g tokens (IsKeyed items more before) (IsKeyed items more filling) item) → AllHold g tokens start new
     turn_holds only = more_hold g tokens start items new (IsKeyed items more before) (IsKeyed items more filling) item t.sound (t.sound item here)
         (λ x is. t.sound x (keyed_there items more before x is)) (λ x is. t.sound x (keyed_there items more filling x is)) only
 
     -- and is not idle
-    pub turn_busy : ((i : Item) → Contains items i → IsIdle g tokens i → ⊥) → Only items new (FollowsFrom g tokens (IsKeyed items more before) (IsKeyed items more filling) item) →
+    pub turn_busy : ((i : Item) → Contains items i → IsIdle g tokens i → ⊥) → AllNew items new (FollowsFrom g tokens (IsKeyed items more before) (IsKeyed items more filling) item) →
         (i : Item) → Contains new i → IsIdle g tokens i → ⊥
     turn_busy busy only i there = ⊎_elim (λ was. busy i was)
         (λ f. follows_busy g tokens (IsKeyed items more before) (IsKeyed items more filling) item i f) (only i there)

@@ -5,7 +5,7 @@ use Rattle.std.proofs.lemmas.Option.{same_Some}
 use Rattle.sx_slots.specs.Slots.{IsLastWith}
 use Rattle.sx_grammar.specs.declared.item.Item.{Item}
 use Rattle.sx_earley.specs.Growth.{GoesOnFrom}
-use Rattle.sx_earley.specs.Keys.{AreWithin, IsKeyed}
+use Rattle.sx_earley.specs.Keys.{AreNumbersWithin, IsKeyed}
 use Rattle.sx_earley.specs.declared.filed.Filed.{Filed}
 use Rattle.sx_earley.proofs.Numbering.{got_earlier}
 use Rattle.sx_earley.proofs.Passing.{ArePassed, passed_on, passed_next}
@@ -17,7 +17,7 @@ IsDone items filed Told n = (x : Item) → slice_get items (get_or filed.numbers
 module _ (items : List Item) (filed : Filed) (near : Option ℕ) (key : ℕ) (is : near ≡ Some key) (Told : Item → Type 0) where
   module _ (n : ℕ) (here : Item) (passed : ArePassed filed.keys (IsDone items filed Told) key (Some n)) where
     -- the item stood there before more were found
-    pub walk_at : (mid : List Item) (number : ℕ) → GoesOnFrom items mid → AreWithin filed (length items) → number ≡ get_or filed.numbers.items n 0 →
+    pub walk_at : (mid : List Item) (number : ℕ) → GoesOnFrom items mid → AreNumbersWithin filed (length items) → number ≡ get_or filed.numbers.items n 0 →
         slice_get mid number ≡ Some here → slice_get items (get_or filed.numbers.items n 0) ≡ Some here
     walk_at mid number grown w same at =
         got_earlier items mid (get_or filed.numbers.items n 0) here grown (w.within n passed.0) (subst (λ (m : ℕ). slice_get mid m ≡ Some here) same at)

@@ -8,7 +8,7 @@ use Rattle.sx_grammar.specs.declared.item.Item.{Item}
 use Rattle.sx_grammar.specs.Tally.{EachOnce}
 use Rattle.sx_grammar.specs.ReadOne.{Holds, MoreHold}
 use Rattle.sx_earley.specs.declared.ask.Ask.{Ask}
-use Rattle.sx_earley.specs.Growth.{Only}
+use Rattle.sx_earley.specs.Growth.{AllNew}
 use Rattle.sx_earley.specs.Chart.{IsPredicted, IsIdle, WasAsked, Foresees, AllHold, Treated}
 use Rattle.sx_earley.specs.Counted.{IsBusy, IsCount, IsIdleAsked, AllAsked, AsksMore, AreItems}
 use Rattle.sx_earley.proofs.Asking.{nothing_asked}
@@ -28,7 +28,7 @@ pub record SoFar (g : Grammar) (tokens : List Token) (start : ℕ) (asked : List
 
 module _ (g : Grammar) (tokens : List Token) (start : ℕ) where
   -- what begins is predicted
-  pub so_far_first : (none asks : List Ask) (nothing keys : List Item) (n : ℕ) → none ≡ [] → nothing ≡ [] → Only nothing keys (IsBusy g tokens (IsPredicted g start 0 0)) →
+  pub so_far_first : (none asks : List Ask) (nothing keys : List Item) (n : ℕ) → none ≡ [] → nothing ≡ [] → AllNew nothing keys (IsBusy g tokens (IsPredicted g start 0 0)) →
       AllAsked g tokens asks keys → AsksMore g tokens (IsPredicted g start 0 0) none asks n → SoFar g tokens start asks keys n
   so_far_first none asks nothing keys n no_ask no_key only asked_there more = record {
     sound = starts_hold g tokens start nothing keys no_key only;

@@ -5,7 +5,7 @@ use Rattle.sx_grammar.specs.Grammar.{Grammar, Token, production_of}
 use Rattle.sx_grammar.specs.ReadOne.{Holds}
 use Rattle.sx_grammar.specs.Tally.{EachOnce}
 use Rattle.sx_earley.specs.declared.ask.Ask.{Ask}
-use Rattle.sx_earley.specs.Growth.{GoesOnFrom, Only}
+use Rattle.sx_earley.specs.Growth.{GoesOnFrom, AllNew}
 use Rattle.sx_earley.specs.AskSet.{IsOfSortFrom}
 use Rattle.sx_earley.specs.Chart.{IsPredicted, IsIdle, WasAsked}
 
@@ -38,14 +38,14 @@ pub data AddsOrCounts (IsWanted IsMissed : Type 0) (item : Item) (old new : List
   unwanted : (IsWanted → ⊥) → new ≡ old → n ≡ 0 → AddsOrCounts IsWanted IsMissed item old new n
   missed : IsWanted → IsMissed → new ≡ old → n ≡ 1 →
       AddsOrCounts IsWanted IsMissed item old new n
-  added : IsWanted → (IsMissed → ⊥) → GoesOnFrom old new → Only old new (λ i. i ≡ item) →
+  added : IsWanted → (IsMissed → ⊥) → GoesOnFrom old new → AllNew old new (λ i. i ≡ item) →
       Contains new item → n ≡ 0 → AddsOrCounts IsWanted IsMissed item old new n
 
 -- what is wanted is added, or idle and counted
 pub record Predicts (g : Grammar) (tokens : List Token) (IsWanted : Item → Type 0)
     (old new : List Item) (n : ℕ) : Type 0 where
   pub extends : GoesOnFrom old new
-  pub only : Only old new (IsBusy g tokens IsWanted)
+  pub only : AllNew old new (IsBusy g tokens IsWanted)
   pub every : (i : Item) → IsWanted i → Contains new i ⊎ IsIdle g tokens i
   pub idle : IsCount (λ i. IsIdle g tokens i × IsWanted i) n
   pub small : n < 2 ^ 63

@@ -46,7 +46,7 @@ IsAddedTo (Some key) number old new = (new.keys ≡ old.keys ++ key ∷ []) ×
     (new.numbers.items ≡ old.numbers.items ++ number ∷ [])
 
 -- there are as many numbers as keys, and all are below the bound
-pub record AreWithin (filed : Filed) (bound : ℕ) : Type 0 where
+pub record AreNumbersWithin (filed : Filed) (bound : ℕ) : Type 0 where
   pub same : length filed.numbers.items ≡ length filed.keys
   pub within : (n : ℕ) → n < length filed.keys → get_or filed.numbers.items n 0 < bound
 

@@ -31,12 +31,12 @@ abbrev pub tokens_of : GrammarData → List Shown → List Token
 tokens_of d shown = map (token_of (literal_texts d)) shown
 
 -- the symbol reads what is shown
-abbrev pub Takes : NumberedSymbol → Shown → Type 0
-Takes (symbols.Lit a) (Lit b) = a ≡ b
-Takes (symbols.Lex a) (Lex b) = a ≡ b
-Takes (symbols.Lex a) (Kind b) = a ≡ b
-Takes (symbols.Part sort least) (Sort b) = sort ≡ b
-Takes _ _ = ⊥
+abbrev pub TakesShown : NumberedSymbol → Shown → Type 0
+TakesShown (symbols.Lit a) (Lit b) = a ≡ b
+TakesShown (symbols.Lex a) (Lex b) = a ≡ b
+TakesShown (symbols.Lex a) (Kind b) = a ≡ b
+TakesShown (symbols.Part sort least) (Sort b) = sort ≡ b
+TakesShown _ _ = ⊥
 
 -- the number of a literal is below the bound
 abbrev pub IsLiteralBelow : ℕ → NumberedSymbol → Type 0

@@ -8,10 +8,10 @@ use Rattle.sx_earley.specs.declared.table.Table.{Table}
 abbrev pub same_slot : Slot → Slot → Bool
 same_slot x y = (x.place == y.place) && (x.sort == y.sort)
 
-abbrev pub row_in : {T : Type 0} → Option (Vec T) → List T
-row_in None = []
-row_in (Some row) = row.items
+abbrev pub sort_row_in : {T : Type 0} → Option (Vec T) → List T
+sort_row_in None = []
+sort_row_in (Some row) = row.items
 
 -- the row of the slot
 abbrev pub row_at : {T : Type 0} → Table T → Slot → List T
-row_at t slot = row_in (get_by (same_slot slot) t.rows)
+row_at t slot = sort_row_in (get_by (same_slot slot) t.rows)

@@ -10,12 +10,12 @@ abbrev pub IsUnknownStem : Stems → Token → Type 0
 IsUnknownStem stems t = (t.mark ≡ Meta) × (stem_sort stems (meta_stem t.text) ≡ None)
 
 -- if the token is a metavariable, its stem has a sort
-abbrev pub HasStem : Stems → Token → Type 0
-HasStem stems t = t.mark ≡ Meta → is_some (stem_sort stems (meta_stem t.text)) ≡ true
+abbrev pub HasKnownStem : Stems → Token → Type 0
+HasKnownStem stems t = t.mark ≡ Meta → is_some (stem_sort stems (meta_stem t.text)) ≡ true
 
 -- so it is of each token
 abbrev pub HaveStems : Stems → List Token → Type 0
-HaveStems stems ts = AllByRecursion (HasStem stems) ts
+HaveStems stems ts = AllByRecursion (HasKnownStem stems) ts
 
 -- the token at the place is the first that is unknown, or none is
 abbrev pub IsFirstUnknown : Stems → List Token → Option ℕ → Type 0

@@ -2,14 +2,14 @@
 
 ghost use Rattle.std.specs.Prelude.{◌≡◌, ◌+◌, ◌≤◌, OnOk, IfOk, Contains};
 ghost use Rattle.std.specs.Prelude.{length, IsTrue, IfSome};
-ghost use Rattle.sx_earley.specs.Growth.{GoesOnFrom, Only};
+ghost use Rattle.sx_earley.specs.Growth.{GoesOnFrom, AllNew};
 ghost use Rattle.sx_earley.specs.Shown.{plain, literal_texts, tokens_of, ShownBelow};
 ghost use Rattle.sx_earley.specs.Chart.{FollowsFrom, Foresees};
 ghost use Rattle.sx_earley.specs.Chart.{AllFollow, Joins, IsJoined, moved};
 ghost use Rattle.sx_earley.specs.Chart.{next_symbol, ReadsNext};
 ghost use Rattle.sx_earley.specs.Counted.{AllAsked, AsksMore};
 ghost use Rattle.sx_earley.specs.Dotted.{IsNextSymbol, WaitsFor, HasEnded};
-ghost use Rattle.sx_earley.specs.Keys.{AreWithin, IsKeyed};
+ghost use Rattle.sx_earley.specs.Keys.{AreNumbersWithin, IsKeyed};
 ghost use Rattle.sx_earley.specs.Openings.{HasAllOpenings};
 ghost use Rattle.sx_term.specs.Limits.{most_tokens};
 
@@ -31,7 +31,7 @@ use sx_grammar::{Grammar, Item};
 pub(crate) fn add(found: &mut ItemSet, item: Item) -> Result<(), AllocError>
     ensures added { OnOk result (Contains found.new item) }
     ensures extends { GoesOnFrom found.old found.new }
-    ensures only { Only found.old found.new (λ i. i ≡ item) }
+    ensures only { AllNew found.old found.new (λ i. i ≡ item) }
 {
     found.add(item)
 }
@@ -57,7 +57,7 @@ fn is_known(found: &ItemSet, hints: &Hints, before: Item, filling: Item) -> bool
 fn add_noted(found: &mut ItemSet, hints: &mut Hints, item: Item) -> Result<(), AllocError>
     ensures added { OnOk result (Contains found.new item) }
     ensures extends { GoesOnFrom found.old found.new }
-    ensures only { Only found.old found.new (λ i. i ≡ item) }
+    ensures only { AllNew found.old found.new (λ i. i ≡ item) }
 {
     let place = found.len();
     add(found, item)?;
@@ -80,7 +80,7 @@ fn join_complete(
     requires waits { WaitsFor (plain grammar.now) before part }
     requires complete { HasEnded (plain grammar.now) filling }
     ensures extends { GoesOnFrom found.old found.new }
-    ensures only { Only found.old found.new
+    ensures only { AllNew found.old found.new
         (λ i. Joins (plain grammar.now) before filling × (i ≡ moved before filling.end)) }
     ensures every { OnOk result (Joins (plain grammar.now) before filling →
         Contains found.new (moved before filling.end)) }
@@ -117,7 +117,7 @@ fn join(
 ) -> Result<(), AllocError>
     requires waits { WaitsFor (plain grammar.now) before part }
     ensures extends { GoesOnFrom found.old found.new }
-    ensures only { Only found.old found.new
+    ensures only { AllNew found.old found.new
         (λ i. Joins (plain grammar.now) before filling × (i ≡ moved before filling.end)) }
     ensures every { OnOk result (Joins (plain grammar.now) before filling →
         Contains found.new (moved before filling.end)) }
@@ -137,10 +137,10 @@ fn join_each(
     near: Neighbours,
     filling: Item,
 ) -> Result<(), AllocError>
-    requires within { AreWithin near.filed.now (length found.old) }
+    requires within { AreNumbersWithin near.filed.now (length found.old) }
     requires complete { IfSome near.before (λ _. HasEnded (plain grammar.now) filling) }
     ensures extends { GoesOnFrom found.old found.new }
-    ensures only { Only found.old found.new (IsJoined (plain grammar.now)
+    ensures only { AllNew found.old found.new (IsJoined (plain grammar.now)
         (IsKeyed found.old near.entry.filed.now near.entry.before) (λ x. x ≡ filling)) }
     ensures every { OnOk result ((before : Item) →
         IsKeyed found.old near.entry.filed.now near.entry.before before →
@@ -173,10 +173,10 @@ fn join_over(
     before: Item,
     part: Option<(u32, u8)>,
 ) -> Result<(), AllocError>
-    requires within { AreWithin near.filed.now (length found.old) }
+    requires within { AreNumbersWithin near.filed.now (length found.old) }
     requires waits { WaitsFor (plain grammar.now) before part }
     ensures extends { GoesOnFrom found.old found.new }
-    ensures only { Only found.old found.new (IsJoined (plain grammar.now) (λ x. x ≡ before)
+    ensures only { AllNew found.old found.new (IsJoined (plain grammar.now) (λ x. x ≡ before)
         (IsKeyed found.old near.entry.filed.now near.entry.filling)) }
     ensures every { OnOk result ((filling : Item) →
         IsKeyed found.old near.entry.filed.now near.entry.filling filling →
@@ -209,7 +209,7 @@ fn scan(
     requires short { length shown.now ≤ most_tokens }
     requires below { ShownBelow (length (literal_texts grammar.now)) shown.now }
     ensures extends { GoesOnFrom found.old found.new }
-    ensures only { Only found.old found.new
+    ensures only { AllNew found.old found.new
         (λ i. ReadsNext (tokens_of grammar.now shown.now)
         (next_symbol (plain grammar.now) dotted.item.head dotted.item.dot) dotted.item.end ×
         (i ≡ moved dotted.item (dotted.item.end + 1))) }
@@ -252,11 +252,11 @@ pub(crate) fn treat(
     requires openings { HasAllOpenings given.grammar.now given.openings.now }
     requires asked { AllAsked (plain given.grammar.now)
         (tokens_of given.grammar.now given.shown.now) asked.old found.old }
-    requires within { AreWithin near.filed.now (length found.old) }
+    requires within { AreNumbersWithin near.filed.now (length found.old) }
     requires complete { IfSome near.before
         (λ _. HasEnded (plain given.grammar.now) dotted.item) }
     ensures extends { IfOk result (λ _. GoesOnFrom found.old found.new) }
-    ensures only { IfOk result (λ _. Only found.old found.new
+    ensures only { IfOk result (λ _. AllNew found.old found.new
         (FollowsFrom (plain given.entry.grammar.now)
         (tokens_of given.entry.grammar.now given.entry.shown.now)
         (IsKeyed found.old near.entry.filed.now near.entry.before)

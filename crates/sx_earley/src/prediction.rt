@@ -2,7 +2,7 @@
 
 ghost use Rattle.std.specs.Prelude.{◌↔◌, IfOk, IfSome, IsTrue, length, option_map};
 ghost use Rattle.sx_grammar.specs.Numbered.{symbol};
-ghost use Rattle.sx_earley.specs.Growth.{GoesOnFrom, Only};
+ghost use Rattle.sx_earley.specs.Growth.{GoesOnFrom, AllNew};
 ghost use Rattle.sx_earley.specs.Shown.{plain, literal_texts, tokens_of, ShownBelow};
 ghost use Rattle.sx_earley.specs.Shown.{IsLiteralBelow};
 ghost use Rattle.sx_earley.specs.AskSet.{IsLevelReached, IsNewLevel};
@@ -128,7 +128,7 @@ pub(crate) fn predict_once(
     requires asked { AllAsked (plain given.grammar.now)
         (tokens_of given.grammar.now given.shown.now) asked.old found.old }
     ensures extends { IfOk result (λ _. GoesOnFrom found.old found.new) }
-    ensures only { IfOk result (λ _. Only found.old found.new (IsBusy
+    ensures only { IfOk result (λ _. AllNew found.old found.new (IsBusy
         (plain given.entry.grammar.now) (tokens_of given.entry.grammar.now given.entry.shown.now)
         (IsPredicted (plain given.entry.grammar.now) ask.sort ask.least ask.place))) }
     ensures asked { IfOk result (λ _. AllAsked (plain given.entry.grammar.now)
@@ -166,7 +166,7 @@ pub(crate) fn predict_next(
     requires asked { AllAsked (plain given.grammar.now)
         (tokens_of given.grammar.now given.shown.now) asked.old found.old }
     ensures extends { IfOk result (λ _. GoesOnFrom found.old found.new) }
-    ensures only { IfOk result (λ _. Only found.old found.new (IsBusy
+    ensures only { IfOk result (λ _. AllNew found.old found.new (IsBusy
         (plain given.entry.grammar.now) (tokens_of given.entry.grammar.now given.entry.shown.now)
         (Foresees (plain given.entry.grammar.now) item))) }
     ensures asked { IfOk result (λ _. AllAsked (plain given.entry.grammar.now)

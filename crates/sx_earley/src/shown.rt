@@ -3,7 +3,7 @@
 ghost use Rattle.std.specs.Prelude.{◌≡◌, ◌↔◌, IsTrue, Some, length, slice_get};
 ghost use Rattle.sx_grammar.specs.Items.{ReadsToken};
 ghost use Rattle.sx_grammar.specs.Numbered.{symbol};
-ghost use Rattle.sx_earley.specs.Shown.{Takes, IsLiteralBelow, ShownBelow, literal_texts};
+ghost use Rattle.sx_earley.specs.Shown.{TakesShown, IsLiteralBelow, ShownBelow, literal_texts};
 ghost use Rattle.sx_earley.specs.Shown.{tokens_of};
 ghost use Rattle.sx_earley.specs.Showing.{IsLiteralShown};
 
@@ -48,7 +48,7 @@ pub(crate) fn literal_shown(grammar: &Grammar, number: u32, text: &[u8]) -> Show
 
 /// Whether the symbol reads what is shown.
 fn takes(expected: NumberedSymbol, shown: Shown) -> bool
-    ensures { IsTrue result ↔ Takes expected shown }
+    ensures { IsTrue result ↔ TakesShown expected shown }
 {
     match (expected, shown) {
         (NumberedSymbol::Lit(a), Shown::Lit(b)) => a == b,

@@ -7,7 +7,7 @@ ghost use Rattle.sx_term.specs.declared.sort.Sort.{Sort};
 ghost use Rattle.sx_earley.specs.Tokens.{without_digits, meta_stem, stem_sort};
 ghost use Rattle.sx_earley.specs.Shown.{literal_texts};
 ghost use Rattle.sx_earley.specs.Showing.{IsStems, TokenShows, shown_stem};
-ghost use Rattle.sx_earley.specs.Unknown.{HasStem, IsUnknownStem};
+ghost use Rattle.sx_earley.specs.Unknown.{HasKnownStem, IsUnknownStem};
 
 use crate::metas::Metas;
 use crate::shown::{Shown, literal_shown};
@@ -101,7 +101,7 @@ impl<'a> StemTable<'a> {
     /// Whether the token is no metavariable, or its stem has a sort.
     pub(crate) fn knows(&self, token: &Token) -> bool
         ensures yes { (stems : List (List ℕ × Sort)) → IsStems stems self.now → IsTrue result →
-            HasStem stems token.now }
+            HasKnownStem stems token.now }
         ensures not { (stems : List (List ℕ × Sort)) → IsStems stems self.now → result ≡ false →
             IsUnknownStem stems token.now }
     {

@@ -11,7 +11,7 @@ use Rattle.sx_environment.specs.declared.import_error.ImportError.TheVariants.{L
 use Rattle.sx_environment.specs.declared.import_error.ImportError.TheVariants.{Differs, Token, Read}
 use Rattle.sx_environment.specs.declared.import_error.ImportError.TheVariants.{StatedDiffers}
 use Rattle.sx_environment.specs.declared.import_error.ImportError.TheVariants.{TooDeep}
-use Rattle.sx_environment.specs.Alike.{AreAlike, OneEnvironment}
+use Rattle.sx_environment.specs.Alike.{AreImportsAlike, OneEnvironment}
 use Rattle.sx_environment.specs.Environments.{empty_environment, with_import, AddsImports}
 use Rattle.sx_environment.specs.ImportErrors.{IsBadImport, IsImportRefused, HasNoEnvironment}
 use Rattle.sx_environment.specs.Seen.{IsGoodImport}
@@ -62,7 +62,7 @@ module _ (s : SeenFrom) where
 
     refused_alike : (before : Tree) (number : ℕ) (its : List InterfaceParts) (e d : ImportError) →
         StandFrom number its → RefusedFrom before number its e → RefusedFrom before number its d →
-        AreAlike s whole e d
+        AreImportsAlike s whole e d
     refused_alike before number [] e d stand h k = absurd h
     refused_alike before number (it ∷ its) e d stand (inl h) (inl k) =
         steps_alike s number before it whole (is_at_head number it its stand) e d h k
@@ -138,7 +138,7 @@ module _ (s : SeenFrom) where
   refused_of its (TooDeep depth) h not = h
 
   all_alike : (its : List InterfaceParts) (e d : ImportError) → HasNoEnvironment s its e → HasNoEnvironment s its d →
-      e ≢ Memory → d ≢ Memory → AreAlike s its e d
+      e ≢ Memory → d ≢ Memory → AreImportsAlike s its e d
   all_alike its e d h k not other =
       refused_alike its (empty_environment s) 0 its e d (stand_all its)
       (from_record its e (refused_of its e h not) not)

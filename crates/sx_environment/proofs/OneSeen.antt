@@ -28,11 +28,11 @@ use Rattle.sx_environment.specs.declared.import_error.ImportError.TheVariants.{S
 use Rattle.sx_environment.specs.declared.import_error.ImportError.TheVariants.{Token as BadTokens}
 use Rattle.sx_environment.specs.declared.row.Row.{Row}
 use Rattle.sx_environment.specs.declared.row.Row.TheVariants.{Signature, Stated}
-use Rattle.sx_environment.specs.Alike.{AreAlike}
+use Rattle.sx_environment.specs.Alike.{AreImportsAlike}
 use Rattle.sx_environment.specs.Environments.{with_import}
-use Rattle.sx_environment.specs.ImportErrors.{IsUncut, IsUnread, StatesOther, IsTooDeep}
+use Rattle.sx_environment.specs.ImportErrors.{IsRowUncut, IsUnread, StatesOther, IsImportTooDeep}
 use Rattle.sx_environment.specs.ImportErrors.{IsBadImport}
-use Rattle.sx_environment.specs.Seen.{row_text, row_parts, row_sort, IsImportRowRead}
+use Rattle.sx_environment.specs.Seen.{import_row_text, row_parts, row_sort, IsImportRowRead}
 use Rattle.sx_environment.specs.Seen.{SeesStated, Sees, IsGoodImport}
 use Rattle.sx_environment.specs.SeenFrom.{SeenFrom}
 
@@ -42,7 +42,7 @@ module _ (s : SeenFrom) where
   pub read_one : (it : InterfaceParts) (row : Row) (t u : Tree) → IsImportRowRead s it row t →
       IsImportRowRead s it row u → t ≡ u
   read_one it row t u h k =
-      (body_one (row_parts s row) (row_sort s) (row_text it row) h.0 k.0 h.1 k.1 t u h.2 k.2).term_same
+      (body_one (row_parts s row) (row_sort s) (import_row_text it row) h.0 k.0 h.1 k.1 t u h.2 k.2).term_same
 
   seen_one : (it : InterfaceParts) (one other t u : Tree) → one ≡ other → Sees s it one t →
       Sees s it other u → t ≡ u
@@ -65,7 +65,7 @@ module _ (s : SeenFrom) where
       column : ℕ
       defect : TokenError
       is : e ≡ BadTokens number line column defect
-      uncut : IsUncut s it row line column defect
+      uncut : IsRowUncut s it row line column defect
 
     pub record Unreads (row : Row) (e : ImportError) : Type 0 where
       line : ℕ
@@ -79,18 +79,18 @@ module _ (s : SeenFrom) where
 
     uncut_unread : (row : Row) (e d : ImportError) → Uncut row e → Unreads row d → ⊥
     uncut_unread row e d h k =
-        defect_or_cut (row_parts s row) (row_text it row) h.defect k.unread.0.0 h.uncut.0 k.unread.0.1
+        defect_or_cut (row_parts s row) (import_row_text it row) h.defect k.unread.0.0 h.uncut.0 k.unread.0.1
 
     -- a row that is read is not refused
     row_none : (row : Row) (t : Tree) → IsImportRowRead s it row t → (e : ImportError) → BadRow row e → ⊥
     row_none row t read e (inl h) =
-        defect_or_cut (row_parts s row) (row_text it row) h.defect read.0 h.uncut.0 read.2.cut
+        defect_or_cut (row_parts s row) (import_row_text it row) h.defect read.0 h.uncut.0 read.2.cut
     row_none row t read e (inr h) =
         let p = row_parts s row in
         let there = subst (λ (ts : List Token). IsUnreadAs p [] (row_sort s) ts
-        (length (row_text it row)) h.why)
-        (one_cut p (row_text it row) h.unread.0.0 read.0 h.unread.0.1 read.2.cut) h.unread.0.2 in
-        unread_or_read p [] (row_sort s) read.0 (length (row_text it row)) h.why read.1 there
+        (length (import_row_text it row)) h.why)
+        (one_cut p (import_row_text it row) h.unread.0.0 read.0 h.unread.0.1 read.2.cut) h.unread.0.2 in
+        unread_or_read p [] (row_sort s) read.0 (length (import_row_text it row)) h.why read.1 there
         read.2.answer
 
     -- ---- the steps
@@ -134,7 +134,7 @@ module _ (s : SeenFrom) where
 
     -- the environment is too deep with it
     abbrev Deep : ImportError → Type 0
-    Deep e = (depth : ℕ) × (e ≡ TooDeep depth) × IsTooDeep s before it depth
+    Deep e = (depth : ℕ) × (e ≡ TooDeep depth) × IsImportTooDeep s before it depth
 
     abbrev FromOther : ImportError → Type 0
     FromOther = Step Other IsSeen Deep
@@ -307,12 +307,12 @@ module _ (s : SeenFrom) where
 
     module _ (its : List InterfaceParts) (at : slice_get its number ≡ Some it) where
       abbrev Alike : ImportError → ImportError → Type 0
-      Alike e d = AreAlike s its e d
+      Alike e d = AreImportsAlike s its e d
 
       uncut_one : (row : Row) (e d : ImportError) → Uncut row e → Uncut row d → Alike e d
       uncut_one row e d h k =
           let same =
-          defect_one (row_parts s row) (row_text it row) h.defect k.defect h.uncut.0 k.uncut.0
+          defect_one (row_parts s row) (import_row_text it row) h.defect k.defect h.uncut.0 k.uncut.0
           in
           let line : h.line ≡ k.line = h.uncut.1.0 ∙ sym k.uncut.1.0 in
           let column : h.column ≡ k.column =
@@ -321,7 +321,7 @@ module _ (s : SeenFrom) where
 
       reads_alike : (row : Row) (e d : ImportError) (h : Unreads row e) (k : Unreads row d) →
           (h.why ≡ k.why) ⊎ (ShowTwo h.why k.why × HasThree (row_parts s row) (row_sort s)
-          (row_text it row)) → Alike e d
+          (import_row_text it row)) → Alike e d
       reads_alike row e d h k (inl same) =
           let line : h.line ≡ k.line = h.unread.1.0 ∙ sym k.unread.1.0 in
           let column : h.column ≡ k.column =
@@ -353,7 +353,7 @@ module _ (s : SeenFrom) where
       row_alike row e d (inr h) (inl k) = absurd (uncut_unread row d e k h)
       row_alike row e d (inr h) (inr k) =
           reads_alike row e d h k
-          (unread_one (row_parts s row) (row_sort s) (row_text it row) (length (row_text it row))
+          (unread_one (row_parts s row) (row_sort s) (import_row_text it row) (length (import_row_text it row))
           h.unread.0.0 k.unread.0.0 h.why k.why h.unread.0.1 k.unread.0.1 h.unread.0.2 k.unread.0.2)
 
       apart_alike : steps.AreAlike Alike Apart

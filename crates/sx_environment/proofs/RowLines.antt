@@ -4,12 +4,12 @@ use Rattle.std.proofs.Common.{◌∙◌, arith}
 use Rattle.std.specs.Prelude.{Some, codes, slice_get}
 use Rattle.std.proofs.lemmas.List.{length-map}
 use Rattle.sx_grammar.specs.Grammar.{Text}
-use Rattle.sx_interface.specs.Interfaces.{InterfaceParts, Mark, first_lines, interface_lines}
+use Rattle.sx_interface.specs.Interfaces.{InterfaceParts, MarkData, first_lines, interface_lines}
 use Rattle.sx_interface.specs.Interfaces.{mark_lines, mark_text}
 use Rattle.sx_environment.specs.declared.row.Row.{Row}
 use Rattle.sx_environment.specs.declared.row.Row.TheVariants.{Signature, Stated}
 use Rattle.sx_environment.specs.Alike.{RowsHaveLines}
-use Rattle.sx_environment.specs.Seen.{row_line, row_text}
+use Rattle.sx_environment.specs.Seen.{row_line, import_row_text}
 
 behind : (xs ys : List Text) (n k : ℕ) → n ≡ length xs + k →
     slice_get (xs ++ ys) n ≡ slice_get ys k
@@ -17,7 +17,7 @@ behind [] ys n k e = let same : n ≡ k = omega (arith, e) in ap (slice_get ys) 
 behind (x ∷ xs) ys zero k e = absurd (omega (arith, e))
 behind (x ∷ xs) ys (suc n) k e = behind xs ys n k (omega (arith, e))
 
-as_many : (front : Text) (marks : List Mark) → length (mark_lines front marks) ≡ length marks
+as_many : (front : Text) (marks : List MarkData) → length (mark_lines front marks) ≡ length marks
 as_many front marks = length-map marks (λ m. front ++ mark_text m)
 
 -- what stands behind three lines, some, one more and some
@@ -58,7 +58,7 @@ first_at it n k e =
     (codes "---" ∷ it.signature ∷ []) n k (omega (arith, e, is))
 
 second_has : (it : InterfaceParts) (row : Row) →
-    slice_get (interface_lines it) (row_line it row - 1) ≡ Some (row_text it row)
+    slice_get (interface_lines it) (row_line it row - 1) ≡ Some (import_row_text it row)
 second_has it Signature = second_at it (row_line it Signature - 1) 1 (omega arith)
 second_has it Stated = second_at it (row_line it Stated - 1) 2 (omega arith)
 

@@ -17,7 +17,7 @@ use Rattle.sx_typing.proofs.MainSorts.{signature_is_sort}
 use Rattle.sx_typing.proofs.ReadSorted.{read_good}
 use Rattle.sx_environment.specs.declared.row.Row.{Row}
 use Rattle.sx_environment.specs.declared.row.Row.TheVariants.{Signature, Stated}
-use Rattle.sx_environment.specs.Seen.{row_text, row_parts, row_sort, IsImportRowRead}
+use Rattle.sx_environment.specs.Seen.{import_row_text, row_parts, row_sort, IsImportRowRead}
 use Rattle.sx_environment.specs.SeenFrom.{SeenFrom, IsShort}
 
 -- each row is read as a sort of its grammar
@@ -29,7 +29,7 @@ row_is_sort s Signature is =
 row_is_sort s Stated is = signature_is_sort s.dialect is
 
 -- each row is short
-pub row_is_short : (it : InterfaceParts) (row : Row) → IsShort it → length (row_text it row) ≤ 262144
+pub row_is_short : (it : InterfaceParts) (row : Row) → IsShort it → length (import_row_text it row) ≤ 262144
 row_is_short it Signature short = short.signature
 row_is_short it Stated short = short.stated
 
@@ -46,5 +46,5 @@ pub row_good : (s : SeenFrom) (it : InterfaceParts) (row : Row) (t : Tree) → I
     IsImportRowRead s it row t → IsGoodTerm (literals_of (row_parts s row)) (shapes_of (row_parts s row))
     (row_sort s) t
 row_good s it row t is read =
-    read_good (row_parts s row) (row_sort s) (row_text it row) read.0 read.1 t (row_is_sort s row is)
+    read_good (row_parts s row) (row_sort s) (import_row_text it row) read.0 read.1 t (row_is_sort s row is)
     read.2

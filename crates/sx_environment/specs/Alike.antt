@@ -12,18 +12,19 @@ use Rattle.sx_environment.specs.declared.row.Row.{Row}
 use Rattle.sx_environment.specs.declared.row.Row.TheVariants.{Signature}
 use Rattle.sx_environment.specs.Environments.{IsEnvironment}
 use Rattle.sx_environment.specs.ImportErrors.{HasNoEnvironment}
-use Rattle.sx_environment.specs.Seen.{row_text, row_line, row_parts, row_sort}
+use Rattle.sx_environment.specs.Seen.{import_row_text, row_line, row_parts, row_sort}
 use Rattle.sx_environment.specs.SeenFrom.{SeenFrom}
 use Rattle.sx_term.specs.Limits.{most_depth}
 
 -- a row of the import has more than two readings
 abbrev pub HasRowOfThree : SeenFrom → InterfaceParts → Type 0
 HasRowOfThree s it =
-    (row : Row) × HasThree (row_parts s row) (row_sort s) (row_text it row)
+    (row : Row) × HasThree (row_parts s row) (row_sort s) (import_row_text it row)
 
 -- both say that the same row of an import has more than one reading, and show two of them; it has
 -- more than two
-pub record ReadOthers (s : SeenFrom) (its : List InterfaceParts) (e d : ImportError) : Type 0 where
+pub record RowReadsOthers (s : SeenFrom) (its : List InterfaceParts)
+    (e d : ImportError) : Type 0 where
   pub import : ℕ
   pub line : ℕ
   pub column : ℕ
@@ -38,8 +39,8 @@ pub record ReadOthers (s : SeenFrom) (its : List InterfaceParts) (e d : ImportEr
   pub three : HasRowOfThree s it
 
 -- the same refusal, but for the two readings that it shows of a text with more than two
-abbrev pub AreAlike : SeenFrom → List InterfaceParts → ImportError → ImportError → Type 0
-AreAlike s its e d = (e ≡ d) ⊎ ReadOthers s its e d
+abbrev pub AreImportsAlike : SeenFrom → List InterfaceParts → ImportError → ImportError → Type 0
+AreImportsAlike s its e d = (e ≡ d) ⊎ RowReadsOthers s its e d
 
 -- Imports have one environment or one refusal. Two readings that a refusal shows are the same two
 -- in the same order, that of their tree texts by bytes, unless the text has more than two. Out of
@@ -51,11 +52,11 @@ pub record OneEnvironment : Type 0 where
       IsEnvironment s its t → depth_of t ≤ most_depth → HasNoEnvironment s its e → e ≡ Memory
   pub refused : (s : SeenFrom) (its : List InterfaceParts) (e d : ImportError) →
       HasNoEnvironment s its e → HasNoEnvironment s its d → e ≢ Memory → d ≢ Memory →
-      AreAlike s its e d
+      AreImportsAlike s its e d
 
 -- the rows stand on their lines in the text of an interface, in both versions
 pub record RowsHaveLines : Type 0 where
   pub first : (it : InterfaceParts) → it.uses ≡ [] →
       slice_get (first_lines it) (row_line it Signature - 1) ≡ Some it.signature
   pub second : (it : InterfaceParts) (row : Row) →
-      slice_get (interface_lines it) (row_line it row - 1) ≡ Some (row_text it row)
+      slice_get (interface_lines it) (row_line it row - 1) ≡ Some (import_row_text it row)

@@ -18,7 +18,8 @@ use Rattle.sx_environment.specs.declared.import_error.ImportError.TheVariants.{T
 use Rattle.sx_environment.specs.declared.row.Row.{Row}
 use Rattle.sx_environment.specs.declared.row.Row.TheVariants.{Signature, Stated}
 use Rattle.sx_environment.specs.Environments.{IsEnvironment, with_import}
-use Rattle.sx_environment.specs.Seen.{row_text, row_line, row_parts, row_sort, IsImportRowRead}
+use Rattle.sx_environment.specs.Seen.{import_row_text, row_line, row_parts, row_sort}
+use Rattle.sx_environment.specs.Seen.{IsImportRowRead}
 use Rattle.sx_environment.specs.Seen.{HasLanguage}
 use Rattle.sx_environment.specs.Seen.{SeesStated, IsPlainOf, IsGoodImport}
 use Rattle.sx_environment.specs.SeenFrom.{SeenFrom}
@@ -35,20 +36,21 @@ IsImportRowDue s it Stated =
     SeesStated s it
 
 -- line and column are those of this place in the row, in the interface's file
-abbrev pub IsSpot : InterfaceParts → Row → (place line column : ℕ) → Type 0
-IsSpot it row place line column = (line ≡ row_line it row) × (column ≡ 1 + place)
+abbrev pub IsRowSpot : InterfaceParts → Row → (place line column : ℕ) → Type 0
+IsRowSpot it row place line column = (line ≡ row_line it row) × (column ≡ 1 + place)
 
 -- the row has no tokens: this is its first defect
-abbrev pub IsUncut : SeenFrom → InterfaceParts → Row → (line column : ℕ) → TokenError → Type 0
-IsUncut s it row line column e =
-    HasDefect (row_parts s row) (row_text it row) e × IsSpot it row (defect_place e) line column
+abbrev pub IsRowUncut : SeenFrom → InterfaceParts → Row → (line column : ℕ) → TokenError → Type 0
+IsRowUncut s it row line column e =
+    HasDefect (row_parts s row) (import_row_text it row) e
+    × IsRowSpot it row (defect_place e) line column
 
 -- its tokens have not one reading
 abbrev pub IsUnread : SeenFrom → InterfaceParts → Row → (line column : ℕ) → Unread → Type 0
 IsUnread s it row line column u =
-    ((ts : List Token) × IsCut (row_parts s row) (row_text it row) ts ×
-    IsUnreadAs (row_parts s row) [] (row_sort s) ts (length (row_text it row)) u)
-    × IsSpot it row (unread_place u) line column
+    ((ts : List Token) × IsCut (row_parts s row) (import_row_text it row) ts ×
+    IsUnreadAs (row_parts s row) [] (row_sort s) ts (length (import_row_text it row)) u)
+    × IsRowSpot it row (unread_place u) line column
 
 -- ---- an import that is refused
 
@@ -62,7 +64,7 @@ pub record StatesOther (s : SeenFrom) (it : InterfaceParts) : Type 0 where
   pub other : IsPlainOf s stated signature → ⊥
 
 -- the environment with the import is deeper than 1,000, and this deep
-pub record IsTooDeep (s : SeenFrom) (before : Tree) (it : InterfaceParts) (depth : ℕ) : Type 0
+pub record IsImportTooDeep (s : SeenFrom) (before : Tree) (it : InterfaceParts) (depth : ℕ) : Type 0
   where
     pub seen : Tree
     pub good : IsGoodImport s it seen
@@ -80,12 +82,12 @@ IsBadImport s number before it (Differs import kept found) = (import ≡ number)
     (it.language.name ≡ s.language.name) × (kept.bytes ≡ it.language.digest) ×
     (found.bytes ≡ s.language.digest) × (it.language.digest ≢ s.language.digest)
 IsBadImport s number before it (BadTokens import line column e) = (import ≡ number) ×
-    ((row : Row) × IsImportRowDue s it row × IsUncut s it row line column e)
+    ((row : Row) × IsImportRowDue s it row × IsRowUncut s it row line column e)
 IsBadImport s number before it (Read import line column u) = (import ≡ number) ×
     ((row : Row) × IsImportRowDue s it row × IsUnread s it row line column u)
 IsBadImport s number before it (StatedDiffers import kept found) = (import ≡ number) ×
     (kept ≡ it.signature) × (found ≡ it.stated) × StatesOther s it
-IsBadImport s number before it (TooDeep depth) = IsTooDeep s before it depth
+IsBadImport s number before it (TooDeep depth) = IsImportTooDeep s before it depth
 
 -- ---- the first of them
 

@@ -16,9 +16,9 @@ use Rattle.sx_environment.specs.SeenFrom.{SeenFrom}
 -- ---- the rows that are read
 
 -- the text of a row
-abbrev pub row_text : InterfaceParts → Row → Text
-row_text it Signature = it.signature
-row_text it Stated = it.stated
+abbrev pub import_row_text : InterfaceParts → Row → Text
+import_row_text it Signature = it.signature
+import_row_text it Stated = it.stated
 
 -- its line in the interface's file, which stands behind a line for each use and each import
 abbrev pub row_line : InterfaceParts → Row → ℕ
@@ -36,7 +36,7 @@ row_sort s = main_sort s.dialect.language Out
 
 -- the row has only one reading, with this term
 abbrev pub IsImportRowRead : SeenFrom → InterfaceParts → Row → Tree → Type 0
-IsImportRowRead s it row t = ReadsOnly (row_parts s row) (row_sort s) (row_text it row) t
+IsImportRowRead s it row t = ReadsOnly (row_parts s row) (row_sort s) (import_row_text it row) t
 
 -- ---- what is seen
 

@@ -4,9 +4,9 @@ use Rattle.std.specs.List.{AllByRecursion}
 use Rattle.sx_lines.specs.Words.{is_name}
 use Rattle.sx_grammar.specs.Grammar.{Text}
 use Rattle.sx_grammar.specs.Tables.{literals_of}
-use Rattle.sx_interface.specs.Interfaces.{InterfaceParts, Mark}
+use Rattle.sx_interface.specs.Interfaces.{InterfaceParts, MarkData}
 use Rattle.sx_interface.specs.InterfaceView.{interface_view, mark_view}
-use Rattle.sx_interface.specs.Stated.{IsWithin}
+use Rattle.sx_interface.specs.Stated.{IsWithinSize}
 use Rattle.sx_typing.specs.Dialects.{DialectData, IsDialectOf, dialect_of}
 use Rattle.sx_interface.specs.declared.import.Import.{Import}
 use Rattle.sx_environment.specs.declared.surroundings.Surroundings.{Surroundings}
@@ -16,8 +16,8 @@ use Rattle.sx_term.specs.Limits.{most_bytes}
 -- the extensions in use, in order, with the digests of their files
 pub record SeenFrom : Type 0 where
   pub dialect : DialectData
-  pub language : Mark
-  pub uses : List Mark
+  pub language : MarkData
+  pub uses : List MarkData
 
 -- the view of surroundings
 abbrev pub seen_from : Surroundings → SeenFrom
@@ -34,7 +34,7 @@ interfaces_of imports = map (λ i. interface_view i.interface) imports
 -- a file can hold the interface: neither the signature and the stated signature nor the list of its
 -- uses and imports is longer than a file may be
 abbrev pub IsShort : InterfaceParts → Type 0
-IsShort it = IsWithin most_bytes it
+IsShort it = IsWithinSize most_bytes it
 
 -- the import has a name, which is none of the literals
 abbrev pub HasFreeName : List Text → InterfaceParts → Type 0

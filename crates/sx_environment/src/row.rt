@@ -2,7 +2,7 @@
 
 ghost use Rattle.std.specs.Prelude.{◌≡◌};
 ghost use Rattle.sx_interface.specs.InterfaceView.{interface_view};
-ghost use Rattle.sx_environment.specs.Seen.{row_line, row_text};
+ghost use Rattle.sx_environment.specs.Seen.{row_line, import_row_text};
 ghost use Rattle.sx_environment.specs.SeenFrom.{IsShort};
 
 use sx_interface::Interface;
@@ -23,7 +23,7 @@ pub(crate) enum Row {
 impl Row {
     /// The text of the row.
     pub(crate) fn text(self, interface: &Interface) -> &Text
-        ensures { result.now ≡ row_text (interface_view interface.now) self }
+        ensures { result.now ≡ import_row_text (interface_view interface.now) self }
     {
         match self {
             Row::Signature => &interface.signature,

@@ -7,7 +7,7 @@ ghost use Rattle.sx_interface.specs.InterfaceView.{interface_view};
 ghost use Rattle.sx_typing.specs.Dialects.{IsDialectOf};
 ghost use Rattle.sx_typing.specs.Unread.{IsUnreadText};
 ghost use Rattle.sx_environment.specs.ImportErrors.{IsBadImport, IsImportRowDue};
-ghost use Rattle.sx_environment.specs.Seen.{IsImportRowRead, row_parts, row_sort, row_text};
+ghost use Rattle.sx_environment.specs.Seen.{IsImportRowRead, row_parts, row_sort, import_row_text};
 ghost use Rattle.sx_environment.specs.SeenFrom.{IsShort, SeenFrom, seen_from};
 
 use crate::import_error::ImportError;
@@ -33,10 +33,10 @@ fn row_grammar<'a>(given: &Surroundings<'a>, row: Row) -> &'a Grammar
 fn refusal(import: &Numbered, row: Row, error: UnreadText) -> ImportError
     requires short { IsShort (interface_view import.now.interface.now) }
     requires unread { (s : SeenFrom) × IsUnreadText (row_parts s row) (row_sort s)
-        (row_text (interface_view import.now.interface.now) row) error }
+        (import_row_text (interface_view import.now.interface.now) row) error }
     ensures { (s : SeenFrom) (before : Tree) →
         IsUnreadText (row_parts s row) (row_sort s)
-        (row_text (interface_view import.now.interface.now) row) error →
+        (import_row_text (interface_view import.now.interface.now) row) error →
         IsImportRowDue s (interface_view import.now.interface.now) row →
         IsBadImport s import.now.number before (interface_view import.now.interface.now) result }
 {

@@ -20,7 +20,7 @@ use Rattle.sx_arena.proofs.BindChains.{envs_stay}
 use Rattle.sx_arena.proofs.Growing.{extends-then}
 use Rattle.sx_expand.specs.declared.reader.Reader.{Reader}
 use Rattle.sx_expand.specs.declared.work.Work.{Work}
-use Rattle.sx_expand.specs.Followed.{Follows, IsWork, bindings_of}
+use Rattle.sx_expand.specs.Followed.{FollowsNode, IsWork, bindings_of}
 use Rattle.sx_expand.specs.Readers.{terms_in, IsLoweringReader, ReaderGoesOn}
 use Rattle.sx_expand.proofs.Following.{Matched, follows-start, follows-inputs, follows-outputs, follows-bound, follows-binds, follows-concluded}
 use Rattle.sx_expand.proofs.KidsStay.{found-is, rule-within}
@@ -46,11 +46,11 @@ is-by rules hyps r rule j binds kids found (other, at, many, concluded, apart_on
     subst (λ (x : Rule). IsBy rules hyps x j binds kids) same (record { many = many; concluded = concluded; each = each })
 
 -- what is found is what is followed
-pub matched-follows : (modes : Modes) (rule : Rule) (s : ℕ → Tree) (patterns terms : List Tree) (env more : Assignment) (ps : List Premise) → Matched modes rule s patterns terms env ps → match_all patterns terms env ≡ Some more → Follows modes rule s ps more
+pub matched-follows : (modes : Modes) (rule : Rule) (s : ℕ → Tree) (patterns terms : List Tree) (env more : Assignment) (ps : List Premise) → Matched modes rule s patterns terms env ps → match_all patterns terms env ≡ Some more → FollowsNode modes rule s ps more
 matched-follows modes rule s patterns terms env more ps m e =
     let q : Some m.more ≡ Some more = sym m.found ∙ e in
     let same : m.more ≡ more = cc in
-    subst (λ (x : Assignment). Follows modes rule s ps x) same m.follows
+    subst (λ (x : Assignment). FollowsNode modes rule s ps x) same m.follows
 
 -- the same by the rules and the modes of the code
 module _ (modes own : Modes) (same_modes : own ≡ modes) where
@@ -65,10 +65,10 @@ module _ (modes own : Modes) (same_modes : own ≡ modes) where
       pub begins : (more : Assignment) × (match_all (inputs_of own code.conclusion) terms nothing_bound ≡ Some more)
       begins = (begun.more, ap (λ (us : List Tree). match_all us terms nothing_bound) patterns-are ∙ begun.found)
 
-      pub begins-followed : (more : Assignment) → match_all (inputs_of own code.conclusion) terms nothing_bound ≡ Some more → Follows modes rule (bound_by binds) rule.premises more
+      pub begins-followed : (more : Assignment) → match_all (inputs_of own code.conclusion) terms nothing_bound ≡ Some more → FollowsNode modes rule (bound_by binds) rule.premises more
       begins-followed more e = matched-follows modes rule (bound_by binds) (inputs_of modes rule.conclusion) terms nothing_bound more rule.premises begun (sym (ap (λ (us : List Tree). match_all us terms nothing_bound) patterns-are) ∙ e)
 
-    module _ (env : Assignment) (f : Follows modes rule (bound_by binds) [] env) where
+    module _ (env : Assignment) (f : FollowsNode modes rule (bound_by binds) [] env) where
       pub ends-concluded : outputs_of own (judgement_instance (filled env) code.conclusion) ≡ outputs_of modes j
       ends-concluded =
           ap (λ (m : Modes). outputs_of m (judgement_instance (filled env) code.conclusion)) same_modes
@@ -76,7 +76,7 @@ module _ (modes own : Modes) (same_modes : own ≡ modes) where
           ∙ follows-concluded modes rule (bound_by binds) env f
           ∙ ap (outputs_of modes) (is-by rules hyps r rule j binds kids found d).concluded
 
-  module _ (rule : Rule) (s : ℕ → Tree) (j : Judgement) (ps : List Premise) (env : Assignment) (f : Follows modes rule s (holds j ∷ ps) env) where
+  module _ (rule : Rule) (s : ℕ → Tree) (j : Judgement) (ps : List Premise) (env : Assignment) (f : FollowsNode modes rule s (holds j ∷ ps) env) where
     pub kid-asks : inputs_of own (judgement_instance (filled env) j) ≡ inputs_of modes (judgement_instance s j)
     kid-asks = ap (λ (m : Modes). inputs_of m (judgement_instance (filled env) j)) same_modes ∙ follows-inputs modes rule s j ps env f
 
@@ -86,14 +86,14 @@ module _ (modes own : Modes) (same_modes : own ≡ modes) where
           let m = follows-outputs modes rule s j ps env f outs is in
           (m.more, ap (λ (x : Modes). match_all (outputs_of x j) outs env) same_modes ∙ m.found)
 
-      pub kid-followed : (more : Assignment) → match_all (outputs_of own j) outs env ≡ Some more → Follows modes rule s ps more
+      pub kid-followed : (more : Assignment) → match_all (outputs_of own j) outs env ≡ Some more → FollowsNode modes rule s ps more
       kid-followed more e =
           matched-follows modes rule s (outputs_of modes j) outs env more ps (follows-outputs modes rule s j ps env f outs is)
           (sym (ap (λ (x : Modes). match_all (outputs_of x j) outs env) same_modes) ∙ e)
 
 -- the terms of a node
 module _ (modes : Modes) (rules : List Rule) (hyps : Hypotheses) (r : ℕ) (rule code : Rule) (same : code ≡ rule) (found : slice_get rules r ≡ Some rule) (j : Judgement) (binds : List Tree) (kids : Proofs) (d : Derives rules hyps j (by r binds kids))
-    (env : Assignment) (f : Follows modes rule (bound_by binds) [] env) where
+    (env : Assignment) (f : FollowsNode modes rule (bound_by binds) [] env) where
   count-is : length code.sorts ≡ length rule.sorts
   count-is = ap (λ (x : Rule). length x.sorts) same
 

@@ -28,7 +28,7 @@ use Rattle.sx_expand.specs.declared.origin.Origin.{Origin}
 use Rattle.sx_expand.specs.Boxes.{rules_from, modes_from, hyps_from, entries_from, CanBox}
 use Rattle.sx_expand.specs.Boxes.{HaveInputs, IsBoxNode, IsBoxed, IsFollowed}
 use Rattle.sx_expand.specs.ReadNodes.{NodeData, KidData}
-use Rattle.sx_expand.specs.Standing.{StandsAt}
+use Rattle.sx_expand.specs.Standing.{StandsInList}
 use Rattle.sx_expand.proofs.Bindings.{rule-same, begins, begins-followed, kid-asks, kid-gives, kid-followed, ends-concluded, node-binds}
 use Rattle.sx_expand.proofs.Standing.{nodes-some, stands-within, kids-stand, rule-stands, given-stands}
 
@@ -118,7 +118,7 @@ module _ (o : Origin) (at : ℕ) (j : Judgement) (p : Proof) (can : CanBox o at 
     box-rule is =
         let b = rule-stands o.list.now at x n p box-within here is can.stands in
         let d = subst (Derives (rules_from o) (hyps_from o) j) b.is can.derives in
-        let s = subst (StandsAt (entries_from o) at) b.is can.stands in
+        let s = subst (StandsInList (entries_from o) at) b.is can.stands in
         record {
           rule = d.0;
           binds = b.binds;

@@ -17,10 +17,10 @@ use Rattle.sx_arena.proofs.Growing.{extends-then}
 use Rattle.sx_expand.specs.declared.cursor.Cursor.{Cursor}
 use Rattle.sx_expand.specs.declared.origin.Origin.{Origin}
 use Rattle.sx_expand.specs.declared.work.Work.{Work}
-use Rattle.sx_expand.specs.Boxes.{rules_from, modes_from, hyps_from, entries_from, terms_of, Advances, IsBoxNode, IsBoxKid, IsFollowed}
+use Rattle.sx_expand.specs.Boxes.{rules_from, modes_from, hyps_from, entries_from, cursor_terms, Advances, IsBoxNode, IsBoxKid, IsFollowed}
 use Rattle.sx_expand.specs.Followed.{IsWork, bindings_of}
 use Rattle.sx_expand.specs.ReadNodes.{NodeData, KidData}
-use Rattle.sx_expand.specs.Standing.{StandsAt, StandEach}
+use Rattle.sx_expand.specs.Standing.{StandsInList, StandEach}
 use Rattle.sx_expand.proofs.Bindings.{is-by}
 use Rattle.sx_expand.proofs.Following.{follows-apart}
 use Rattle.sx_expand.proofs.Standing.{first-stands, joined}
@@ -28,7 +28,7 @@ use Rattle.sx_expand.proofs.Steps.{premise-drop}
 
 -- one cursor after another
 pub advances-then : (old mid new : Cursor) → Advances old mid → Advances mid new → Advances old new
-advances-then old mid new g h = record { arena = h.arena; extends = extends-then (terms_of old) (terms_of mid) (terms_of new) g.extends h.extends }
+advances-then old mid new g h = record { arena = h.arena; extends = extends-then (cursor_terms old) (cursor_terms mid) (cursor_terms new) g.extends h.extends }
 
 -- a row with one more, and with none after it
 joined-push : (made : List (Box ProofOf Global)) (b : Box ProofOf Global) (rest : Proofs) → joined (boxed (made ++ b ∷ [])) rest ≡ joined (boxed made) (proof b.value ⊳ rest)
@@ -114,7 +114,7 @@ module _ (o : Origin) (d : NodeData) (ps : List PremiseOf) where
           pub first_kid : Proof
           pub rest : Proofs
           pub is_left : so.left ≡ first_kid ⊳ rest
-          pub stands : StandsAt (entries_from o) at first_kid
+          pub stands : StandsInList (entries_from o) at first_kid
           pub next : StandEach (entries_from o) (at + nodes_of first_kid) rest
           pub derives : Derives (rules_from o) (hyps_from o) (judgement_instance (bound_by d.binds) (judgement j)) first_kid
           pub each : Asked (map premise (drop (i + 1) ps)) rest
@@ -158,9 +158,9 @@ module _ (o : Origin) (d : NodeData) (ps : List PremiseOf) where
 -- in the loop over the premises the cursor goes on, and the kids up to here are made
 pub record IsBoxing (o : Origin) (r : ℕ) (ps : List PremiseOf) (i : ℕ) (start now : Cursor) (old w : Work) (made : List (Box ProofOf Global)) : Type 0 where
   pub on : Advances start now
-  pub work : IsWork (terms_of now) w
+  pub work : IsWork (cursor_terms now) w
   pub after : start.next ≤ now.next
-  pub kids : (d : NodeData) → IsBoxNode o start.next r d → IsFollowed o d.rule d.binds d.rule.premises (bindings_of (terms_of start) old) → BoxedSoFar o ps i start.next now.next (terms_of now) w made d
+  pub kids : (d : NodeData) → IsBoxNode o start.next r d → IsFollowed o d.rule d.binds d.rule.premises (bindings_of (cursor_terms start) old) → BoxedSoFar o ps i start.next now.next (cursor_terms now) w made d
 
 pub boxing-is : (o : Origin) (r : ℕ) (ps : List PremiseOf) (i : ℕ) (start : Cursor) (old : Work) (now cursor : Cursor) (w work : Work) (kids made : List (Box ProofOf Global)) → now ≡ cursor → w ≡ work → kids ≡ made →
     IsBoxing o r ps i start cursor old work made → IsBoxing o r ps i start now old w kids

@@ -9,7 +9,7 @@ use Rattle.sx_arena.specs.Matching.{Assignment, nothing_bound, match_all, filled
 use Rattle.sx_arena.specs.Limits.{first_values}
 use Rattle.sx_arena.proofs.Matchings.{match_all-matches, match_all_found, stays-bound}
 use Rattle.sx_arena.proofs.Filled.{filled-agrees, filled-inputs, filled-outputs, first_values-bound}
-use Rattle.sx_expand.specs.Followed.{Follows, HasInputs}
+use Rattle.sx_expand.specs.Followed.{FollowsNode, NodeHasInputs}
 
 -- what is bound may be told in another way
 moded-same : (modes : Modes) (rule : Rule) (ps : List Premise) (P Q : ℕ → Type 0) → ((v : ℕ) → P v → Q v) → ((v : ℕ) → Q v → P v) → AreModed modes P ps rule → AreModed modes Q ps rule
@@ -25,11 +25,11 @@ moded-same modes rule (holds j ∷ ps) P Q f g m = (
 pub record Matched (modes : Modes) (rule : Rule) (s : ℕ → Tree) (patterns terms : List Tree) (env : Assignment) (ps : List Premise) : Type 0 where
   pub more : Assignment
   pub found : match_all patterns terms env ≡ Some more
-  pub follows : Follows modes rule s ps more
+  pub follows : FollowsNode modes rule s ps more
 
 module _ (modes : Modes) (rule : Rule) (s : ℕ → Tree) where
   -- the inputs of the conclusion are matched
-  pub follows-start : (terms : List Tree) → IsModed modes rule → HasInputs modes rule s terms → Matched modes rule s (inputs_of modes rule.conclusion) terms nothing_bound rule.premises
+  pub follows-start : (terms : List Tree) → IsModed modes rule → NodeHasInputs modes rule s terms → Matched modes rule s (inputs_of modes rule.conclusion) terms nothing_bound rule.premises
   follows-start terms m is =
       let patterns = inputs_of modes rule.conclusion in
       let n = match_all_found patterns terms nothing_bound s (λ v u e. cc) (sym (inputs-map s (modes rule.conclusion.form) rule.conclusion.places) ∙ sym is) in
@@ -48,10 +48,10 @@ module _ (modes : Modes) (rule : Rule) (s : ℕ → Tree) where
       only v (inr h) = h
 
   -- a premise that asks for no derivation
-  pub follows-apart : (t u : Tree) (ps : List Premise) (env : Assignment) → Follows modes rule s (apart t u ∷ ps) env → Follows modes rule s ps env
+  pub follows-apart : (t u : Tree) (ps : List Premise) (env : Assignment) → FollowsNode modes rule s (apart t u ∷ ps) env → FollowsNode modes rule s ps env
   follows-apart t u ps env f = record { agrees = f.agrees; moded = f.moded.1 }
 
-  module _ (j : Judgement) (ps : List Premise) (env : Assignment) (f : Follows modes rule s (holds j ∷ ps) env) where
+  module _ (j : Judgement) (ps : List Premise) (env : Assignment) (f : FollowsNode modes rule s (holds j ∷ ps) env) where
     -- the inputs of the next judgement
     pub follows-inputs : inputs_of modes (judgement_instance (filled env) j) ≡ inputs_of modes (judgement_instance s j)
     follows-inputs = filled-inputs modes env s f.agrees j f.moded.0
@@ -73,13 +73,13 @@ module _ (modes : Modes) (rule : Rule) (s : ℕ → Tree) where
         }
 
   -- at the end all variables are bound
-  pub follows-bound : (env : Assignment) → Follows modes rule s [] env → (v : ℕ) → v < length rule.sorts → IsBound env v
+  pub follows-bound : (env : Assignment) → FollowsNode modes rule s [] env → (v : ℕ) → v < length rule.sorts → IsBound env v
   follows-bound env f v l = (f.moded.1 v).1 l
 
-  pub follows-concluded : (env : Assignment) → Follows modes rule s [] env → outputs_of modes (judgement_instance (filled env) rule.conclusion) ≡ outputs_of modes (judgement_instance s rule.conclusion)
+  pub follows-concluded : (env : Assignment) → FollowsNode modes rule s [] env → outputs_of modes (judgement_instance (filled env) rule.conclusion) ≡ outputs_of modes (judgement_instance s rule.conclusion)
   follows-concluded env f = filled-outputs modes env s f.agrees rule.conclusion f.moded.0
 
 -- and are those of the node
-pub follows-binds : (modes : Modes) (rule : Rule) (binds : List Tree) (env : Assignment) → Follows modes rule (bound_by binds) [] env → length binds ≡ length rule.sorts → first_values (length rule.sorts) (filled env) ≡ binds
+pub follows-binds : (modes : Modes) (rule : Rule) (binds : List Tree) (env : Assignment) → FollowsNode modes rule (bound_by binds) [] env → length binds ≡ length rule.sorts → first_values (length rule.sorts) (filled env) ≡ binds
 follows-binds modes rule binds env f many =
     first_values-bound binds (length rule.sorts) (filled env) many (λ v l. filled-agrees env (bound_by binds) f.agrees v (follows-bound modes rule (bound_by binds) env f v l))

@@ -16,7 +16,7 @@ use Rattle.sx_plain.specs.Tables.{LabelsBelow, AllLabelsBelow, IsPlainTable, Has
 use Rattle.sx_plain.specs.Tables.{FitsTable, FitTable}
 use Rattle.sx_rewrite.specs.declared.accepted.Accepted.{Accepted as AcceptedOf}
 use Rattle.sx_rewrite.specs.Lowers.{TreeLabelsBelow, JudgementsBelow}
-use Rattle.sx_expand.specs.Readings.{AllSmall, IsGiven, AreGiven}
+use Rattle.sx_expand.specs.Readings.{AllSmall, IsGivenJudgement, AreGiven}
 
 each-at : (P : Judgement → Type 0) (js : List Judgement) (i : ℕ) (j : Judgement) →
     AllByRecursion P js → slice_get js i ≡ Some j → P j
@@ -35,7 +35,7 @@ small-shallow : (ts : List Tree) → AllSmall ts → AreShallow ts
 small-shallow [] h = tt
 small-shallow (t ∷ ts) h = (h.0.0, small-shallow ts h.1)
 
-all-shallow : (forms : List FormData) (js : List Judgement) → AllByRecursion (IsGiven forms) js →
+all-shallow : (forms : List FormData) (js : List Judgement) → AllByRecursion (IsGivenJudgement forms) js →
     ShallowJudgements js
 all-shallow forms [] h = tt
 all-shallow forms (j ∷ js) h = (small-shallow j.places h.0.small, all-shallow forms js h.1)
@@ -74,8 +74,8 @@ module _ (set : AcceptedOf) (hyps : Hypotheses) (good : AreGiven set hyps) where
   given-near = all-shallow (forms_in set.base) hyps.judgements good.each
 
   module _ (i : ℕ) (j : Judgement) (at_i : slice_get hyps.judgements i ≡ Some j) where
-    here : IsGiven (forms_in set.base) j
-    here = each-at (IsGiven (forms_in set.base)) hyps.judgements i j good.each at_i
+    here : IsGivenJudgement (forms_in set.base) j
+    here = each-at (IsGivenJudgement (forms_in set.base)) hyps.judgements i j good.each at_i
 
     pub given-small : AllSmall j.places
     given-small = here.small

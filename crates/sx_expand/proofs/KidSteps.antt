@@ -27,7 +27,7 @@ use Rattle.sx_rewrite.specs.LoweredSizes.{proof_count}
 use Rattle.sx_rewrite.specs.Measured.{Measures, MeasuresEach}
 use Rattle.sx_rewrite.specs.Needed.{needed}
 use Rattle.sx_rewrite.specs.Puts.{Tells}
-use Rattle.sx_rewrite.specs.Rewriting.{Refusal, first_over}
+use Rattle.sx_rewrite.specs.Rewriting.{RewriteRefusal, first_over}
 use Rattle.sx_rewrite.specs.Stored.{certificate_at}
 use Rattle.sx_rewrite.proofs.LoweredBy.{by-can, by-refuse}
 use Rattle.sx_rewrite.proofs.Puts.{over-left, over-right}
@@ -83,7 +83,7 @@ refused-at a subjects hyps need e n (x ⊳ ps) (suc i) p (ts ∷ tss) f g k h =
     let z : n + suc i ≡ n + 1 + i = omega arith in
     let rest = refused-at a subjects hyps need e (n + 1) ps i p tss (λ m y l w c. f (suc m) y (omega (arith, l)) (let v : n + suc m ≡ n + 1 + m = omega arith in ap need v ∙ w) c) g
     (subst (λ (l : ℕ). IsKidRefused a subjects hyps (need l) p e) z k) h.1 in
-    subst (λ (o : Option Refusal). Tells o e) (sym (over-right (if need n then ts else []) (needed_terms need (n + 1) tss) (here (need n) refl))) rest
+    subst (λ (o : Option RewriteRefusal). Tells o e) (sym (over-right (if need n then ts else []) (needed_terms need (n + 1) tss) (here (need n) refl))) rest
   where
     here : (b : Bool) → need n ≡ b → first_over (if b then ts else []) ≡ None
     here true c = f 0 x (omega arith) (let v : n + 0 ≡ n = omega arith in ap need v ∙ c) refl ts h.0

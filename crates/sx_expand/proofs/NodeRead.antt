@@ -16,7 +16,7 @@ use Rattle.sx_rewrite.specs.Needed.{needed}
 use Rattle.sx_rewrite.specs.PutImages.{images_for}
 use Rattle.sx_rewrite.specs.PutSubjects.{ArePutBelow}
 use Rattle.sx_rewrite.specs.Puts.{Tells}
-use Rattle.sx_rewrite.specs.Rewriting.{Refusal, first_over}
+use Rattle.sx_rewrite.specs.Rewriting.{RewriteRefusal, first_over}
 use Rattle.sx_rewrite.specs.Stored.{stored_in, certificate_at}
 use Rattle.sx_rewrite.proofs.LoweredKids.{need_of}
 use Rattle.sx_rewrite.proofs.LoweredNode as node
@@ -28,7 +28,7 @@ own-same : (a : Accepted) (known : Known) (r : ℕ) (more : List Tree) → node.
 own-same a (basic rule) r more = refl
 own-same a (checked c) r more = refl
 
-pub tells-memory : (o : Option Refusal) (e : RewriteError) → e ≡ Memory → Tells o e
+pub tells-memory : (o : Option RewriteRefusal) (e : RewriteError) → e ≡ Memory → Tells o e
 tells-memory o e same = subst (λ (x : RewriteError). Tells o x) (sym same) tt
 
 module _ (sig : Signature) (base shapes : List Shape) (a : Accepted) (ok : IsAccepted sig base shapes a) (hyps : Hypotheses) (below : HypothesesBelow (length base) hyps) (near : ShallowJudgements hyps.judgements)

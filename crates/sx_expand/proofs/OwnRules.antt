@@ -18,7 +18,7 @@ use Rattle.sx_rewrite.specs.Stored.{stored_in, body_in, certificate_at, flat_bod
 use Rattle.sx_rewrite.proofs.PlainSets.{plain_rules_are_accepted}
 use Rattle.sx_rewrite.proofs.PlainSizes.{plain_rules_count_alike}
 use Rattle.sx_expand.specs.LoweredOrders.{order_at, lowered_order, lowered_orders}
-use Rattle.sx_expand.specs.Readings.{set_with, CountsAs, AreRules}
+use Rattle.sx_expand.specs.Readings.{set_with, CountsAs, AreAcceptedRules}
 
 -- the plain rule of an extension rule, and a base rule as it is
 abbrev plain_known : Table → Known → Known
@@ -104,8 +104,8 @@ module _ (set : AcceptedOf) (rules : RuleSet) where
     pub extended-rules :
         IsAccepted (signature set) (shapes_in set.base) (shapes_in set.rules) (accepted set) →
         bare_rules_in set.rules ≡ extended_rules (accepted set) → forms_in set.rules ≡ forms_in set.base →
-        AreRules set rules
-    extended-rules ok bare forms = subst (AreRules set) (sym same) (record {
+        AreAcceptedRules set rules
+    extended-rules ok bare forms = subst (AreAcceptedRules set) (sym same) (record {
       accepted_with = ok;
       rules_are = bare;
       forms_are = forms;
@@ -123,7 +123,7 @@ module _ (set : AcceptedOf) (rules : RuleSet) where
   pub plain-rules : rules ≡ set.plain_rules → set_with set rules ≡ plain_of (accepted set) →
       IsAccepted (signature set) (shapes_in set.base) (shapes_in set.rules) (accepted set) →
       bare_rules_in set.plain_rules ≡ extended_rules (plain_of (accepted set)) →
-      forms_in set.plain_rules ≡ forms_in set.base → AreRules set rules
+      forms_in set.plain_rules ≡ forms_in set.base → AreAcceptedRules set rules
   plain-rules same is ok bare forms = record {
     accepted_with =
         subst (IsAccepted (signature set) (shapes_in set.base) (shapes_in set.rules)) (sym is)

@@ -10,7 +10,7 @@ use Rattle.sx_rewrite.specs.declared.lowered.Lowered.{Lowered}
 use Rattle.sx_rewrite.specs.declared.rewrite_error.RewriteError.{RewriteError}
 use Rattle.sx_rewrite.specs.declared.rewrite_error.RewriteError.TheVariants.{Memory, RewriteSpent, RewriteDeep, TooDeep, TooBig}
 use Rattle.sx_rewrite.specs.Accepted.{Accepted, Signature, IsAccepted}
-use Rattle.sx_rewrite.specs.Rewriting.{Refusal, Rewritten, IsRewritten, spent, deep, too_deep, too_big}
+use Rattle.sx_rewrite.specs.Rewriting.{RewriteRefusal, Rewritten, IsRewritten, spent, deep, too_deep, too_big}
 use Rattle.sx_rewrite.specs.RewrittenView.{IsRewriting, rewritten}
 use Rattle.sx_rewrite.proofs.Rewriting.{rewriting_is_unique}
 use Rattle.sx_expand.specs.declared.expanded.Expanded.{Expanded}
@@ -18,7 +18,7 @@ use Rattle.sx_expand.specs.Expansions.{IsExpanding, TellsAlike, ExpandingIsRewri
 
 module _ (sig : Signature) (base shapes : List Shape) (a : Accepted) (ok : IsAccepted sig base shapes a) (hyps : Hypotheses) (p : Proof) (budget : ℕ) where
   abbrev Answer : Type 0
-  Answer = Result Rewritten Refusal
+  Answer = Result Rewritten RewriteRefusal
 
   one : (x y : Answer) → IsRewritten a sig.subjects hyps p budget x → IsRewritten a sig.subjects hyps p budget y → x ≡ y
   one x y h k = rewriting_is_unique sig base shapes a ok hyps p budget x y h k

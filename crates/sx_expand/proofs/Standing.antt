@@ -10,7 +10,7 @@ use Rattle.sx_rules.specs.Orders.{Entry, of_given, of_rule, order_of, order_of_a
 use Rattle.sx_rules.specs.EntryView.{entry, entries}
 use Rattle.sx_rewrite.specs.Accepted.{Accepted}
 use Rattle.sx_rewrite.specs.LoweredSizes.{HasFitKids, HaveFitKids}
-use Rattle.sx_expand.specs.Standing.{StandsAt, StandEach, IsDerivationListed, AreListed}
+use Rattle.sx_expand.specs.Standing.{StandsInList, StandEach, IsDerivationListed, AreListed}
 
 -- a derivation has as many entries as nodes
 mutual
@@ -30,7 +30,7 @@ nodes-some (by r binds kids) = omega arith
 nodes-some (given i) = omega arith
 
 -- it ends within the list
-pub stands-within : (list : List Entry) (i : ℕ) (p : Proof) → StandsAt list i p → i + nodes_of p ≤ length list
+pub stands-within : (list : List Entry) (i : ℕ) (p : Proof) → StandsInList list i p → i + nodes_of p ≤ length list
 stands-within list i p (rest, e) =
     let a = ap length e in
     let b = length-drop i list in
@@ -43,11 +43,11 @@ pub drop-on : (list : List Entry) (i n : ℕ) (xs ys : List Entry) → drop i li
 drop-on list i n xs ys e l = sym (drop-drop n i list) ∙ ap (drop n) e ∙ drop_at xs ys n l
 
 -- the kids stand after their node
-pub kids-stand : (list : List Entry) (i r : ℕ) (binds : List Tree) (kids : Proofs) → StandsAt list i (by r binds kids) → StandEach list (i + 1) kids
+pub kids-stand : (list : List Entry) (i r : ℕ) (binds : List Tree) (kids : Proofs) → StandsInList list i (by r binds kids) → StandEach list (i + 1) kids
 kids-stand list i r binds kids (rest, e) = (rest, drop-on list i 1 (of_rule r ∷ []) (order_of_all kids ++ rest) e refl)
 
 -- the first of a row, and the others after it
-pub first-stands : (list : List Entry) (i : ℕ) (p : Proof) (ps : Proofs) → StandEach list i (p ⊳ ps) → StandsAt list i p × StandEach list (i + nodes_of p) ps
+pub first-stands : (list : List Entry) (i : ℕ) (p : Proof) (ps : Proofs) → StandEach list i (p ⊳ ps) → StandsInList list i p × StandEach list (i + nodes_of p) ps
 first-stands list i p ps (rest, e) =
     let f : drop i list ≡ order_of p ++ (order_of_all ps ++ rest) = e ∙ append_assoc (order_of p) (order_of_all ps) rest in
     ((order_of_all ps ++ rest, f), (rest, drop-on list i (nodes_of p) (order_of p) (order_of_all ps ++ rest) f (order-length p)))
@@ -72,7 +72,7 @@ pub record IsBy (p : Proof) (r : ℕ) : Type 0 where
   pub kids : Proofs
   pub is : p ≡ by r binds kids
 
-pub rule-stands : (list : List EntryOf) (i : ℕ) (x : EntryOf) (r : ℕ) (p : Proof) → i < length list → x ≡ get_or list i x → x ≡ Rule r → StandsAt (entries list) i p → IsBy p r
+pub rule-stands : (list : List EntryOf) (i : ℕ) (x : EntryOf) (r : ℕ) (p : Proof) → i < length list → x ≡ get_or list i x → x ≡ Rule r → StandsInList (entries list) i p → IsBy p r
 rule-stands list i x r (by s binds kids) l same is (rest, d) =
     let e = entry-is list i x (of_rule s) (order_of_all kids ++ rest) l same d in
     let f : of_rule r ≡ of_rule s = sym (ap entry is) ∙ e in
@@ -83,7 +83,7 @@ rule-stands list i x r (given s) l same is (rest, d) =
     let f : of_rule r ≡ of_given s = sym (ap entry is) ∙ e in cc
 
 -- at a given stands that given
-pub given-stands : (list : List EntryOf) (i : ℕ) (x : EntryOf) (n : ℕ) (p : Proof) → i < length list → x ≡ get_or list i x → x ≡ Given n → StandsAt (entries list) i p → p ≡ given n
+pub given-stands : (list : List EntryOf) (i : ℕ) (x : EntryOf) (n : ℕ) (p : Proof) → i < length list → x ≡ get_or list i x → x ≡ Given n → StandsInList (entries list) i p → p ≡ given n
 given-stands list i x n (by s binds kids) l same is (rest, d) =
     let e = entry-is list i x (of_rule s) (order_of_all kids ++ rest) l same d in
     let f : of_given n ≡ of_rule s = sym (ap entry is) ∙ e in cc

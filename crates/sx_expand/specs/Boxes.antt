@@ -16,9 +16,9 @@ use Rattle.sx_arena.specs.Matching.{Assignment}
 use Rattle.sx_expand.specs.declared.cursor.Cursor.{Cursor}
 use Rattle.sx_expand.specs.declared.made.Made.{Made}
 use Rattle.sx_expand.specs.declared.origin.Origin.{Origin}
-use Rattle.sx_expand.specs.Followed.{Follows}
+use Rattle.sx_expand.specs.Followed.{FollowsNode}
 use Rattle.sx_expand.specs.ReadNodes.{NodeData, KidData}
-use Rattle.sx_expand.specs.Standing.{StandsAt, StandEach}
+use Rattle.sx_expand.specs.Standing.{StandsInList, StandEach}
 use Rattle.sx_rules.specs.Limits.{most_levels}
 
 -- the derivation of the judgement from the hypotheses has the list, and is no deeper than 3,000
@@ -46,17 +46,17 @@ abbrev pub HasShallowGiven : Origin → Type 0
 HasShallowGiven o = ShallowJudgements (hyps_from o).judgements
 
 -- the terms of a cursor
-abbrev pub terms_of : Cursor → List Tree
-terms_of c = trees c.arena
+abbrev pub cursor_terms : Cursor → List Tree
+cursor_terms c = trees c.arena
 
 -- the one cursor goes on from the other
 pub record Advances (old new : Cursor) : Type 0 where
   pub arena : IsArena new.arena
-  pub extends : Extends (terms_of old) (terms_of new)
+  pub extends : Extends (cursor_terms old) (cursor_terms new)
 
 -- a derivation of the judgement stands in the list from the number on
 pub record CanBox (o : Origin) (at : ℕ) (j : Judgement) (p : Proof) : Type 0 where
-  pub stands : StandsAt (entries_from o) at p
+  pub stands : StandsInList (entries_from o) at p
   pub derives : Derives (rules_from o) (hyps_from o) j p
 
 -- the terms with these numbers are the inputs of the judgement
@@ -78,7 +78,7 @@ pub record IsBoxNode (o : Origin) (at r : ℕ) (d : NodeData) : Type 0 where
 
 -- of a node with these terms so much is bound with these premises left
 abbrev pub IsFollowed : Origin → Rule → List Tree → List Premise → Assignment → Type 0
-IsFollowed o rule binds ps env = Follows (modes_from o) rule (bound_by binds) ps env
+IsFollowed o rule binds ps env = FollowsNode (modes_from o) rule (bound_by binds) ps env
 
 -- the kid derives the instance of its premise, which is the first that is left
 pub record IsBoxKid (o : Origin) (at : ℕ) (j : JudgementOf) (env : Assignment) (d : KidData) :

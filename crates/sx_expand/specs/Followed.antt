@@ -9,7 +9,7 @@ use Rattle.sx_expand.specs.declared.work.Work.{Work}
 
 -- The variables that are bound have the node's terms, and with these premises left each variable
 -- is bound before it is used.
-pub record Follows (modes : Modes) (rule : Rule) (s : ℕ → Tree) (ps : List Premise)
+pub record FollowsNode (modes : Modes) (rule : Rule) (s : ℕ → Tree) (ps : List Premise)
     (env : Assignment) : Type 0 where
   pub agrees : Agrees env s
   pub moded : AreModed modes (IsBound env) ps rule
@@ -24,5 +24,5 @@ pub record IsWork (terms : List Tree) (w : Work) : Type 0 where
   pub within : w.env ≤ length w.binds.cells.items
 
 -- the node's terms give the rule's conclusion these inputs
-abbrev pub HasInputs : Modes → Rule → (ℕ → Tree) → List Tree → Type 0
-HasInputs modes rule s terms = terms ≡ inputs_of modes (judgement_instance s rule.conclusion)
+abbrev pub NodeHasInputs : Modes → Rule → (ℕ → Tree) → List Tree → Type 0
+NodeHasInputs modes rule s terms = terms ≡ inputs_of modes (judgement_instance s rule.conclusion)

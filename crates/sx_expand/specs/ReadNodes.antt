@@ -16,7 +16,7 @@ use Rattle.sx_expand.specs.declared.kid.Kid.{Kid}
 use Rattle.sx_expand.specs.declared.node.Node.{Node}
 use Rattle.sx_expand.specs.declared.reading.Reading.{Reading}
 use Rattle.sx_expand.specs.declared.work.Work.{Work}
-use Rattle.sx_expand.specs.Followed.{Follows, bindings_of}
+use Rattle.sx_expand.specs.Followed.{FollowsNode, bindings_of}
 use Rattle.sx_expand.specs.KidsRead.{IsKidRead, AreKidsRead}
 use Rattle.sx_expand.specs.ReadDerivations.{CanReadDerivation, IsReadRefused}
 use Rattle.sx_expand.specs.Readings.{set_by, signature_by, hyps_by}
@@ -39,7 +39,7 @@ pub record IsNodeIn (l : Reading) (n : Node) (d : NodeData) : Type 0 where
 
 -- of a node with these terms so much is bound with these premises left
 abbrev pub AreFollowed : Reading → Rule → List Tree → List Premise → Assignment → Type 0
-AreFollowed l rule binds ps env = Follows (signature_by l).modes rule (bound_by binds) ps env
+AreFollowed l rule binds ps env = FollowsNode (signature_by l).modes rule (bound_by binds) ps env
 
 -- all premises are followed, and the kids of a node that is needed are read
 pub record IsNodeRead (l : Reading) (n : Node) (terms : List Tree) (w : Work)

@@ -37,7 +37,7 @@ pub record CountsAs (a b : Accepted) (p : Proof) : Type 0 where
 
 -- The set is accepted with these rules, and has its certificates and flat bodies; derivations by
 -- them count as much as those by its extended rules.
-pub record AreRules (set : AcceptedOf) (rules : RuleSet) : Type 0 where
+pub record AreAcceptedRules (set : AcceptedOf) (rules : RuleSet) : Type 0 where
   pub accepted_with : IsAccepted (signature set) (shapes_in set.base) (shapes_in set.rules)
       (set_with set rules)
   pub rules_are : bare_rules_in rules ≡ extended_rules (set_with set rules)
@@ -62,17 +62,17 @@ AllSmall [] = Unit {0}
 AllSmall (t ∷ ts) = IsSmallTerm t × AllSmall ts
 
 -- the judgement has a term for each place of its form, and none of them passes a limit
-pub record IsGiven (forms : List FormData) (j : Judgement) : Type 0 where
+pub record IsGivenJudgement (forms : List FormData) (j : Judgement) : Type 0 where
   pub many : length j.places ≡ length (places_at forms j.form)
   pub small : AllSmall j.places
 
 -- so it is of each hypothesis, and their labels are base
 pub record AreGiven (set : AcceptedOf) (hyps : Hypotheses) : Type 0 where
   pub below : HypothesesBelow (length (shapes_in set.base)) hyps
-  pub each : AllByRecursion (IsGiven (forms_in set.base)) hyps.judgements
+  pub each : AllByRecursion (IsGivenJudgement (forms_in set.base)) hyps.judgements
 
 -- the ends are those of the entries, and the rules and the hypotheses are good
 pub record IsListReading (r : Reading) : Type 0 where
   pub ends : HasEnds r.listing
-  pub rules : AreRules r.listing.set.now r.rules.now
+  pub rules : AreAcceptedRules r.listing.set.now r.rules.now
   pub given : AreGiven r.listing.set.now (hyps_by r)

@@ -7,8 +7,8 @@ use Rattle.sx_rewrite.specs.LoweredSizes.{HasFitKids, HaveFitKids}
 use Rattle.sx_rules.specs.Limits.{most_levels}
 
 -- the entries of the derivation stand in the list from the number on
-abbrev pub StandsAt : List Entry → ℕ → Proof → Type 0
-StandsAt list i p = (rest : List Entry) × (drop i list ≡ order_of p ++ rest)
+abbrev pub StandsInList : List Entry → ℕ → Proof → Type 0
+StandsInList list i p = (rest : List Entry) × (drop i list ≡ order_of p ++ rest)
 
 -- so do those of the derivations, one after another
 abbrev pub StandEach : List Entry → ℕ → Proofs → Type 0
@@ -17,7 +17,7 @@ StandEach list i ps = (rest : List Entry) × (drop i list ≡ order_of_all ps ++
 -- the derivation has the kids that the rules ask for, and stands in the list from the number on
 pub record IsDerivationListed (a : Accepted) (list : List Entry) (i : ℕ) (p : Proof) : Type 0 where
   pub fit : HasFitKids a p
-  pub stands : StandsAt list i p
+  pub stands : StandsInList list i p
 
 -- so it is of the derivations, one after another
 pub record AreListed (a : Accepted) (list : List Entry) (i : ℕ) (ps : Proofs) : Type 0 where

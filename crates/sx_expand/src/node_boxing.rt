@@ -9,7 +9,7 @@ ghost use Rattle.sx_rules.specs.Rules as known;
 ghost use Rattle.sx_rules.specs.Views.{judgement};
 ghost use Rattle.sx_arena.specs.Arena.{IsArena, AreBelow};
 ghost use Rattle.sx_expand.specs.Boxes.{CanBox, HaveInputs, IsBoxed, IsBoxNode, IsFollowed};
-ghost use Rattle.sx_expand.specs.Boxes.{IsBoxKid, HasShallowGiven, Advances, terms_of};
+ghost use Rattle.sx_expand.specs.Boxes.{IsBoxKid, HasShallowGiven, Advances, cursor_terms};
 ghost use Rattle.sx_expand.specs.Followed.{IsWork, bindings_of};
 ghost use Rattle.sx_expand.specs.ReadNodes.{NodeData, KidData};
 
@@ -36,15 +36,15 @@ pub(crate) fn box_node(
 ) -> Result<Made, NoMemory>
     requires shallow { HasShallowGiven origin.now }
     requires arena { IsArena cursor.old.arena }
-    requires below { AreBelow (length (terms_of cursor.old)) inputs.now }
+    requires below { AreBelow (length (cursor_terms cursor.old)) inputs.now }
     requires derived { (j : known.Judgement) × (p : spec.Proof)
         × CanBox origin.now cursor.old.next j p
-        × HaveInputs origin.now (terms_of cursor.old) inputs.now j }
+        × HaveInputs origin.now (cursor_terms cursor.old) inputs.now j }
     ensures on { OnOk result (Advances cursor.old cursor.new) }
     ensures made { IfOk result (λ m. (j : known.Judgement) (p : spec.Proof) →
         CanBox origin.now cursor.old.next j p →
-        HaveInputs origin.now (terms_of cursor.old) inputs.now j →
-        IsBoxed origin.now (terms_of cursor.new) j p m
+        HaveInputs origin.now (cursor_terms cursor.old) inputs.now j →
+        IsBoxed origin.now (cursor_terms cursor.new) j p m
         × (cursor.new.next ≡ cursor.old.next + nodes_of p)) }
 {
     let entry = entry_at(origin.list, cursor.next);
@@ -67,14 +67,14 @@ fn box_by_rule(
 ) -> Result<Made, NoMemory>
     requires shallow { HasShallowGiven origin.now }
     requires arena { IsArena cursor.old.arena }
-    requires below { AreBelow (length (terms_of cursor.old)) inputs.now }
+    requires below { AreBelow (length (cursor_terms cursor.old)) inputs.now }
     requires node { (d : NodeData) × IsBoxNode origin.now cursor.old.next number d
-        × HaveInputs origin.now (terms_of cursor.old) inputs.now d.judgement }
+        × HaveInputs origin.now (cursor_terms cursor.old) inputs.now d.judgement }
     ensures on { OnOk result (Advances cursor.old cursor.new) }
     ensures made { IfOk result (λ m. (d : NodeData) →
         IsBoxNode origin.now cursor.old.next number d →
-        HaveInputs origin.now (terms_of cursor.old) inputs.now d.judgement →
-        IsBoxed origin.now (terms_of cursor.new) d.judgement (by number d.binds d.kids) m
+        HaveInputs origin.now (cursor_terms cursor.old) inputs.now d.judgement →
+        IsBoxed origin.now (cursor_terms cursor.new) d.judgement (by number d.binds d.kids) m
         × (cursor.new.next ≡ cursor.old.next + nodes_of_all d.kids)) }
 {
     let mut work = begin_box(alloc, origin, &cursor.arena, number, inputs)?;
@@ -102,19 +102,20 @@ fn box_kids(
 ) -> Result<Vec<Box<Proof>>, NoMemory>
     requires shallow { HasShallowGiven origin.now }
     requires arena { IsArena cursor.old.arena }
-    requires work { IsWork (terms_of cursor.old) work.old }
+    requires work { IsWork (cursor_terms cursor.old) work.old }
     requires node { (d : NodeData) × IsBoxNode origin.now cursor.old.next number d
         × IsFollowed origin.now d.rule d.binds d.rule.premises
-        (bindings_of (terms_of cursor.old) work.old) }
+        (bindings_of (cursor_terms cursor.old) work.old) }
     ensures on { OnOk result (Advances cursor.old cursor.new) }
-    ensures work { OnOk result (IsWork (terms_of cursor.new) work.new) }
+    ensures work { OnOk result (IsWork (cursor_terms cursor.new) work.new) }
     ensures made { IfOk result (λ kids. (d : NodeData) →
         IsBoxNode origin.now cursor.old.next number d →
         IsFollowed origin.now d.rule d.binds d.rule.premises
-        (bindings_of (terms_of cursor.old) work.old) →
+        (bindings_of (cursor_terms cursor.old) work.old) →
         (view.boxed kids.items ≡ d.kids)
         × (cursor.new.next ≡ cursor.old.next + nodes_of_all d.kids)
-        × IsFollowed origin.now d.rule d.binds [] (bindings_of (terms_of cursor.new) work.new)) }
+        × IsFollowed origin.now d.rule d.binds []
+        (bindings_of (cursor_terms cursor.new) work.new)) }
 {
     let rules = origin.rules;
     rules.facts();
@@ -140,19 +141,19 @@ fn box_kid(
 ) -> Result<Box<Proof>, NoMemory>
     requires shallow { HasShallowGiven origin.now }
     requires arena { IsArena cursor.old.arena }
-    requires work { IsWork (terms_of cursor.old) work.old }
+    requires work { IsWork (cursor_terms cursor.old) work.old }
     requires places { AreShallow (judgement premise.now).places }
     requires kid { (d : KidData) × IsBoxKid origin.now cursor.old.next premise.now
-        (bindings_of (terms_of cursor.old) work.old) d }
+        (bindings_of (cursor_terms cursor.old) work.old) d }
     ensures on { OnOk result (Advances cursor.old cursor.new) }
-    ensures work { OnOk result (IsWork (terms_of cursor.new) work.new) }
+    ensures work { OnOk result (IsWork (cursor_terms cursor.new) work.new) }
     ensures made { IfOk result (λ b. (d : KidData) →
         IsBoxKid origin.now cursor.old.next premise.now
-        (bindings_of (terms_of cursor.old) work.old) d →
+        (bindings_of (cursor_terms cursor.old) work.old) d →
         (view.proof b.value ≡ d.proof)
         × (cursor.new.next ≡ cursor.old.next + nodes_of d.proof)
         × IsFollowed origin.now d.rule d.binds d.rest
-        (bindings_of (terms_of cursor.new) work.new)) }
+        (bindings_of (cursor_terms cursor.new) work.new)) }
 {
     let rules = origin.rules;
     let inputs = places_under(alloc, rules, &mut cursor.arena, work, premise, false)?;

@@ -24,7 +24,7 @@ use Rattle.sx_rewrite.specs.PlainRules.{image_premise}
 use Rattle.sx_rewrite.specs.Puts.{IsSmallTerm}
 use Rattle.sx_rewrite.proofs.Checks.{flat_premises_are_base}
 use Rattle.sx_expand.specs.Expansions.{HasOneSubject}
-use Rattle.sx_expand.specs.Readings.{AllSmall, IsGiven, AreGiven}
+use Rattle.sx_expand.specs.Readings.{AllSmall, IsGivenJudgement, AreGiven}
 use Rattle.sx_expand.proofs.RootTerms.{outputs-many}
 use Rattle.sx_extcheck.specs.declared.checking.Checking.{Checking}
 use Rattle.sx_extcheck.specs.Checks.{search_for, over_for}
@@ -46,7 +46,7 @@ sorts-many shapes vars (t ∷ ts) (s ∷ sorts) h = let e = sorts-many shapes va
 
 -- the plain premises have a small term for each place of their forms
 premises-given : (forms : List FormData) (all : List Shape) (vars : List Sort) (table : Table) (ps : List Premise) → PremisesAreSorted all (sorts_of forms) vars ps → AllByRecursion IsSmallTerm (premise_terms (map (image_premise table) ps)) →
-    AllByRecursion (IsGiven forms) (plain_given table ps).judgements
+    AllByRecursion (IsGivenJudgement forms) (plain_given table ps).judgements
 premises-given forms all vars table [] h s = tt
 premises-given forms all vars table (holds j ∷ ps) h s =
     let k = small-split (map (image table) j.places) (premise_terms (map (image_premise table) ps)) s in
@@ -103,6 +103,6 @@ module _ (k : Checking) (e : ExtRuleOf) (can : CanCheck k.set.now k.plain.now e)
       record {
         below = flat_premises_are_base sig (shapes_in k.set.now.base) (shapes_in k.set.now.rules) can.all (accepted k.set.now) table (ext_rule e) can.after;
         each =
-            subst (λ (h : Hypotheses). AllByRecursion (IsGiven forms) h.judgements) same
+            subst (λ (h : Hypotheses). AllByRecursion (IsGivenJudgement forms) h.judgements) same
             (premises-given forms can.all e.rule.vars.items table ps can.after.sorted.1 (small-premises table sig.subjects (ext_rule e) within));
       }

@@ -12,14 +12,14 @@ use Rattle.sx_plain.specs.Plain.{Table, image}
 use Rattle.sx_rewrite.specs.declared.rewrite_error.RewriteError.{RewriteError}
 use Rattle.sx_rewrite.specs.PlainRules.{image_premise}
 use Rattle.sx_rewrite.specs.Puts.{Tells, Answers}
-use Rattle.sx_rewrite.specs.Rewriting.{Refusal, first_over}
+use Rattle.sx_rewrite.specs.Rewriting.{RewriteRefusal, first_over}
 use Rattle.sx_rewrite.proofs.Puts.{over-left, over-right}
 use Rattle.sx_extcheck.specs.FlatTerms.{premise_terms, picked}
 
 -- of these terms, measured after others that pass no limit, the first pass one or none
 module _ (whole rest here more : List Tree) (so : first_over whole ≡ first_over rest) (split : rest ≡ here ++ more) where
   pub tell : (e : RewriteError) → Tells (first_over here) e → Tells (first_over whole) e
-  tell e h = subst (λ (o : Option Refusal). Tells o e) (sym (so ∙ ap first_over split)) (over-left here more e h)
+  tell e h = subst (λ (o : Option RewriteRefusal). Tells o e) (sym (so ∙ ap first_over split)) (over-left here more e h)
 
   pub pass : first_over here ≡ None → first_over whole ≡ first_over more
   pass h = so ∙ ap first_over split ∙ over-right here more h
@@ -104,7 +104,7 @@ picked-end table true [] (x ∷ ts) (suc i) l = refl
 picked-end table b (c ∷ marks) (x ∷ ts) (suc i) l = picked-end table b marks ts i (omega (arith, l))
 
 -- an error that is handed on
-pub told : (over : Option Refusal) (r : Result (Unit {0}) RewriteError) (e : RewriteError) → IsErrAnd r (λ x. x ≡ e) → Tells over e → Answers over (λ x. Unit {0}) r
+pub told : (over : Option RewriteRefusal) (r : Result (Unit {0}) RewriteError) (e : RewriteError) → IsErrAnd r (λ x. x ≡ e) → Tells over e → Answers over (λ x. Unit {0}) r
 told over (Ok x) e h t = absurd h
 told over (Err x) e h t = subst (Tells over) (sym h) t
 
@@ -159,14 +159,14 @@ module _ (ps bs cs ds : List Tree) where
 
   module _ (a : first_over ps ≡ None) where
     pub second-tell : (e : RewriteError) → Tells (first_over bs) e → Tells (first_over whole_terms) e
-    second-tell e h = subst (λ (o : Option Refusal). Tells o e) (sym (over-right ps (bs ++ (cs ++ ds)) a)) (over-left bs (cs ++ ds) e h)
+    second-tell e h = subst (λ (o : Option RewriteRefusal). Tells o e) (sym (over-right ps (bs ++ (cs ++ ds)) a)) (over-left bs (cs ++ ds) e h)
 
     module _ (b : first_over bs ≡ None) where
       past-two : first_over whole_terms ≡ first_over (cs ++ ds)
       past-two = over-right ps (bs ++ (cs ++ ds)) a ∙ over-right bs (cs ++ ds) b
 
       pub third-tell : (e : RewriteError) → Tells (first_over cs) e → Tells (first_over whole_terms) e
-      third-tell e h = subst (λ (o : Option Refusal). Tells o e) (sym past-two) (over-left cs ds e h)
+      third-tell e h = subst (λ (o : Option RewriteRefusal). Tells o e) (sym past-two) (over-left cs ds e h)
 
       pub fourth-answers : first_over cs ≡ None → (r : Result (Unit {0}) RewriteError) → Answers (first_over ds) (λ x. Unit {0}) r → Answers (first_over whole_terms) (λ x. Unit {0}) r
-      fourth-answers c r h = subst (λ (o : Option Refusal). Answers o (λ x. Unit {0}) r) (sym (past-two ∙ over-right cs ds c)) h
+      fourth-answers c r h = subst (λ (o : Option RewriteRefusal). Answers o (λ x. Unit {0}) r) (sym (past-two ∙ over-right cs ds c)) h

@@ -16,7 +16,7 @@ use Rattle.sx_rewrite.proofs.Growing.{longer}
 use Rattle.sx_extcheck.specs.declared.accept_error.AcceptError.{AcceptError}
 use Rattle.sx_extcheck.specs.declared.accept_error.AcceptError.TheVariants.{Memory, Rule}
 use Rattle.sx_extcheck.specs.declared.refused.Refused.{Refused}
-use Rattle.sx_extcheck.specs.Accepts.{check_for, AreRulesChecked, IsOutcome}
+use Rattle.sx_extcheck.specs.Accepts.{check_for, AreRulesChecked, IsAcceptOutcome}
 use Rattle.sx_extcheck.specs.Agree.{Agree, AreSameSets, OneOutcomeIsDue, told_of}
 use Rattle.sx_extcheck.specs.Checks.{Check, tries_for}
 use Rattle.sx_extcheck.proofs.Verdicts.{stored-once, refused-once, not-both}
@@ -94,7 +94,7 @@ one_outcome_is_due old all ext budgets ok goes_on m n one other h i = go one oth
     err-ok new ss Memory a = tt
     err-ok new ss (Rule name d) a = a
 
-    go : (one other : Result AcceptedOf Refused) → IsOutcome old all ext c m one → IsOutcome old all ext c n other → Agree AreSameSets m n (told_of one) (told_of other)
+    go : (one other : Result AcceptedOf Refused) → IsAcceptOutcome old all ext c m one → IsAcceptOutcome old all ext c n other → Agree AreSameSets m n (told_of one) (told_of other)
     go (Ok x) (Ok y) (fs, k, a) (gs, l, b) =
         let s = checked_of (map (λ e. rule e.rule) ext.rules.items) fs in
         let t = checked_of (map (λ e. rule e.rule) ext.rules.items) gs in

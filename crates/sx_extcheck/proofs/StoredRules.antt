@@ -9,7 +9,7 @@ use Rattle.sx_rules.specs.Modes.{AllModed}
 use Rattle.sx_rules.specs.Rules.{Rule}
 use Rattle.sx_plain.specs.Plain.{Body, Table}
 use Rattle.sx_plain.specs.Tables.{IsCovered, AreCovered}
-use Rattle.sx_plain.specs.Adds.{uncovered, or_else, first_uncovered, first_uncovered_of}
+use Rattle.sx_plain.specs.Adds.{uncovered, label_or, first_uncovered, first_uncovered_of}
 use Rattle.sx_plain.proofs.AddLaws.{covered}
 use Rattle.sx_derive.specs.Search.{found, exhausted}
 use Rattle.sx_derive.proofs.Walked.{found_is_first, exhausted_means_none}
@@ -30,13 +30,13 @@ known-label n (Some body) label h = refl
 mutual
   all-known : (n : ℕ) (table : Table) (t : Tree) → IsCovered n table t → first_uncovered n table t ≡ None
   all-known n table (node label ts) h =
-      ap (λ (o : Option ℕ). or_else o (first_uncovered_of n table ts)) (known-label n (table label) label h.0) ∙ each-known n table ts h.1
+      ap (λ (o : Option ℕ). label_or o (first_uncovered_of n table ts)) (known-label n (table label) label h.0) ∙ each-known n table ts h.1
   all-known n table (lexeme kind text) h = refl
   all-known n table (hole v) h = refl
 
   each-known : (n : ℕ) (table : Table) (ts : Trees) → AreCovered n table ts → first_uncovered_of n table ts ≡ None
   each-known n table none h = refl
-  each-known n table (t ▹ ts) h = ap (λ (o : Option ℕ). or_else o (first_uncovered_of n table ts)) (all-known n table t h.0) ∙ each-known n table ts h.1
+  each-known n table (t ▹ ts) h = ap (λ (o : Option ℕ). label_or o (first_uncovered_of n table ts)) (all-known n table t h.0) ∙ each-known n table ts h.1
 
 pub is-base : (n : ℕ) (table : Table) (body : Option Tree) → has_base_syntax n table body ≡ true → HasBaseSyntax n table body
 is-base n table None e = tt

@@ -13,7 +13,7 @@ use Rattle.sx_derive.specs.Walk.{Cause, depth_spent, too_deep as deep_term, too_
 use Rattle.sx_derive.proofs.BlamedOnce.{stuck_goal_is_unique}
 use Rattle.sx_rewrite.specs.Accepted.{ExtRule, Checked, IsAccepted, extended_rules}
 use Rattle.sx_rewrite.specs.PlainRules.{plain_of}
-use Rattle.sx_rewrite.specs.Rewriting.{Refusal, Rewritten, IsRewritten, spent, deep, too_deep, too_big}
+use Rattle.sx_rewrite.specs.Rewriting.{RewriteRefusal, Rewritten, IsRewritten, spent, deep, too_deep, too_big}
 use Rattle.sx_rewrite.proofs.LoweredSorted.{moded-base}
 use Rattle.sx_rewrite.proofs.PlainSets.{plain_rules_are_accepted}
 use Rattle.sx_rewrite.proofs.Rewriting.{rewriting_is_unique}
@@ -28,16 +28,16 @@ Verdict = Checked ⊎ DefectData
 
 -- how a check goes: a measured term passes a limit, a goal is stuck, or else the walk ends so, or what it finds is rewritten to this
 pub data Course : Type 0 where
-  limited : Refusal → Course
+  limited : RewriteRefusal → Course
   stuck : Blame → Course
   ended : Ending → Course
-  lowered : Result Rewritten Refusal → Course
+  lowered : Result Rewritten RewriteRefusal → Course
 
 abbrev head_of : List Tree → Option Tree
 head_of [] = None
 head_of (t ∷ ts) = Some t
 
-abbrev limit_of : ℕ → Refusal → RuleRefusal
+abbrev limit_of : ℕ → RewriteRefusal → RuleRefusal
 limit_of nodes spent = RewriteSpent nodes
 limit_of nodes deep = RewriteDeep
 limit_of nodes (too_deep n) = TooDeep n
@@ -55,7 +55,7 @@ proof_in (stopped cause) q = q
 proof_in no_tries q = q
 proof_in exhausted q = q
 
-abbrev refusal_in : Option Refusal → Refusal → Refusal
+abbrev refusal_in : Option RewriteRefusal → RewriteRefusal → RewriteRefusal
 refusal_in (Some over) r = over
 refusal_in None r = r
 
@@ -133,11 +133,11 @@ module _ (c : Check) (ext : ExtRule) where
     own no_tries o same = cc
     own exhausted o same = o
 
-    within-not : (over : Refusal) → over_for c ext ≡ Some over → over_for c ext ≡ None → ⊥
+    within-not : (over : RewriteRefusal) → over_for c ext ≡ Some over → over_for c ext ≡ None → ⊥
     within-not over h w = let r : Some over ≡ None = sym h ∙ w in cc
 
     one-course : (k l : Course) → IsCourse k → IsCourse l → k ≡ l
-    one-course (limited r) (limited q) h i = ap limited (ap (λ (o : Option Refusal). refusal_in o r) (sym h ∙ i))
+    one-course (limited r) (limited q) h i = ap limited (ap (λ (o : Option RewriteRefusal). refusal_in o r) (sym h ∙ i))
     one-course (limited r) (stuck b) h i = absurd (within-not r h i.0.0)
     one-course (limited r) (ended e) h i = absurd (within-not r h i.0.0)
     one-course (limited r) (lowered a) h (b, p, outs, (w, e), x) = absurd (within-not r h w)

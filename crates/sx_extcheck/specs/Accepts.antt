@@ -61,21 +61,21 @@ AreRulesChecked c (e ∷ es) count (Err (Rule name defect)) =
 
 -- each rule is checked and stored, and the set has them after its rules; or a rule is refused or
 -- memory is lacking, and the set is as it was
-abbrev pub IsOutcome : AcceptedOf → List Shape → ExtensionData → Check → ℕ →
+abbrev pub IsAcceptOutcome : AcceptedOf → List Shape → ExtensionData → Check → ℕ →
     Result AcceptedOf Refused → Type 0
-IsOutcome old all ext c count (Ok new) =
+IsAcceptOutcome old all ext c count (Ok new) =
     (flats : List Flat)
     × AreRulesChecked c ext.rules.items count
     (Ok (checked_of (map (λ e. rule e.rule) ext.rules.items) flats))
     × IsExtensionAdded old all ext flats (Ok new)
-IsOutcome old all ext c count (Err refused) =
+IsAcceptOutcome old all ext c count (Err refused) =
     AreRulesChecked c ext.rules.items count (Err refused.error) × IsAsBefore old refused.set
 
 -- with the tries that the counter rose by
 abbrev pub IsCheckAnswered : AcceptedOf → List Shape → ExtensionData → Check → ℕ → ℕ →
     Result AcceptedOf Refused → Type 0
 IsCheckAnswered old all ext c first last result =
-    (count : ℕ) × (last ≡ first + count) × IsOutcome old all ext c count result
+    (count : ℕ) × (last ≡ first + count) × IsAcceptOutcome old all ext c count result
 
 -- the rules of the extension, each with its body, are sound after the set with the extension's
 -- table, by what the new set has stored of them

@@ -24,7 +24,7 @@ use Rattle.sx_extcheck.specs.declared.rule_refusal.RuleRefusal.TheVariants.{
   RewriteSpent,
   RewriteDeep,
 }
-use Rattle.sx_extcheck.specs.Accepts.{check_for, IsOutcome}
+use Rattle.sx_extcheck.specs.Accepts.{check_for, IsAcceptOutcome}
 
 -- a defect, whose stuck goal, where it has one, is plain data
 pub data DefectData : Type 0 where
@@ -75,6 +75,6 @@ OneOutcomeIsDue =
     ShapesGoOn (shapes_in old.base) (shapes_in old.rules) all
     (table_of old.plain) (table_of ext.plain) →
     (m n : ℕ) (one other : Result AcceptedOf Refused) →
-    IsOutcome old all ext (check_for old ext budgets) m one →
-    IsOutcome old all ext (check_for old ext budgets) n other →
+    IsAcceptOutcome old all ext (check_for old ext budgets) m one →
+    IsAcceptOutcome old all ext (check_for old ext budgets) n other →
     Agree AreSameSets m n (told_of one) (told_of other)

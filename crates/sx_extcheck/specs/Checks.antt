@@ -34,7 +34,7 @@ use Rattle.sx_derive.specs.Walk.{depth_spent, too_deep as deep_term, too_big as 
 use Rattle.sx_rewrite.specs.Accepted.{ExtRule, Checked, Accepted, extended_rules, Signature}
 use Rattle.sx_rewrite.specs.PlainRules.{plain_of}
 use Rattle.sx_rewrite.specs.Rewriting.{
-  Refusal,
+  RewriteRefusal,
   Rewritten,
   IsRewritten,
   spent,
@@ -93,7 +93,7 @@ module _ (c : Check) (ext : ExtRule) where
       }
 
   -- the first measured term that passes a limit
-  abbrev pub over_for : Option Refusal
+  abbrev pub over_for : Option RewriteRefusal
   over_for = first_over (flat_terms c.set.table c.sig.subjects ext)
 
   -- how many tries the rule takes: those of its walk, or none where a measured term passes a limit
@@ -105,7 +105,7 @@ module _ (c : Check) (ext : ExtRule) where
   EndsSo ending = (over_for ≡ None) × (ending_of search_for c.tries ≡ ending)
 
   -- the derivation by base and plain rules that the walk finds is rewritten to this
-  abbrev pub IsLowered : Result Rewritten Refusal → Type 0
+  abbrev pub IsLowered : Result Rewritten RewriteRefusal → Type 0
   IsLowered answer =
       (by_base ≡ false) × (p : Proof) × (outs : List Tree) × EndsSo (found (p, outs))
       × IsRewritten (plain_of c.set) c.sig.subjects search_for.hyps p c.nodes answer

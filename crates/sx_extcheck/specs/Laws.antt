@@ -16,7 +16,7 @@ use Rattle.sx_rewrite.specs.PlainRules.{plain_of}
 use Rattle.sx_rewrite.specs.Sound.{IsSoundBy}
 use Rattle.sx_extcheck.specs.declared.budgets.Budgets.{Budgets}
 use Rattle.sx_extcheck.specs.declared.rule_refusal.RuleRefusal.TheVariants.{Rejected}
-use Rattle.sx_extcheck.specs.Accepts.{check_for, IsOutcome, AddsSound}
+use Rattle.sx_extcheck.specs.Accepts.{check_for, IsAcceptOutcome, AddsSound}
 use Rattle.sx_extcheck.specs.Checks.{Check, IsStoredFor, IsRefusedFor}
 
 -- what is stored of a rule is the first derivation by the base rules with the plain image of its
@@ -43,4 +43,4 @@ AddedRulesAreSound =
     FitsRules (signature old) (shapes_in old.base) (shapes_in old.rules) all
     (table_of old.plain) (table_of ext.plain) (map ext_rule ext.rules.items) →
     (count : ℕ) (new : AcceptedOf) →
-    IsOutcome old all ext (check_for old ext budgets) count (Ok new) → AddsSound old ext new
+    IsAcceptOutcome old all ext (check_for old ext budgets) count (Ok new) → AddsSound old ext new

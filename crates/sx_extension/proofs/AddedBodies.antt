@@ -19,7 +19,7 @@ use Rattle.sx_plain.specs.Tables.{Begins, HasBodies, Desugars}
 use Rattle.sx_plain.proofs.Tables.{begins-at}
 use Rattle.sx_plain.proofs.Grown.{bodies_stay_sorted}
 use Rattle.sx_extension.specs.PlainBodies.{BodyData, body_data, IsBodyOf}
-use Rattle.sx_extension.specs.PlainTables.{AddsBody, AddsAll, IsFirstRefused, HasAll, IsReason}
+use Rattle.sx_extension.specs.PlainTables.{AddsBody, AddsAll, IsFirstRefused, HasAll, IsPlainReason}
 use Rattle.sx_extension.specs.PlainTables.{IsTableRefusal, IsNotAdded}
 use Rattle.sx_extension.specs.declared.table_error.TableError.{TableError}
 use Rattle.sx_extension.specs.declared.table_error.TableError.TheVariants.{Memory, Plain, NoPlain}
@@ -84,13 +84,13 @@ module _ (n : ℕ) (start : Table) (xs : List PlainBody) where
         subst (λ (j : ℕ). IsFirstRefused n start (map body_data xs) j d) q
         (k (suc m) d (subst (λ (bs : List BodyData). IsFirstRefused n old bs (suc m) d) (sym (map_drop body_data xs i x h e)) (middle, a, r)))
 
-    pub refused_here : (d : PlainError) → IsBodyAdded n old middle (body_data x).label (body_data x).parts (body_data x).term (Err d) → RefusesOn old i → IsReason d → IsFirstRefused n start (map body_data xs) i d
+    pub refused_here : (d : PlainError) → IsBodyAdded n old middle (body_data x).label (body_data x).parts (body_data x).term (Err d) → RefusesOn old i → IsPlainReason d → IsFirstRefused n start (map body_data xs) i d
     refused_here d a k reason =
         let q : i + 0 ≡ i = omega arith in
         subst (λ (j : ℕ). IsFirstRefused n start (map body_data xs) j d) q
         (k 0 d (subst (λ (bs : List BodyData). IsFirstRefused n old bs 0 d) (sym (map_drop body_data xs i x h e)) (same_refusal d a reason)))
       where
-        same_refusal : (d : PlainError) → IsBodyAdded n old middle (body_data x).label (body_data x).parts (body_data x).term (Err d) → IsReason d → IsBodyAdded n old old (body_data x).label (body_data x).parts (body_data x).term (Err d)
+        same_refusal : (d : PlainError) → IsBodyAdded n old middle (body_data x).label (body_data x).parts (body_data x).term (Err d) → IsPlainReason d → IsBodyAdded n old old (body_data x).label (body_data x).parts (body_data x).term (Err d)
         same_refusal plain.Memory a r = absurd r
         same_refusal (plain.Twice l) a r = a
         same_refusal (plain.UsesLater l) a r = a
@@ -105,7 +105,7 @@ module _ (n : ℕ) (start : Table) (xs : List PlainBody) where
   not_added old middle i x h e d a k (Plain m y) is =
       let here = refused_here old middle i x h e d a k is.0 in
       let by_place = subst (λ (j : ℕ). IsFirstRefused n start (map body_data xs) j d) (sym is.1) here in
-      (subst (λ (z : PlainError). IsReason z) (sym is.2) is.0, subst (λ (z : PlainError). IsFirstRefused n start (map body_data xs) m z) (sym is.2) by_place)
+      (subst (λ (z : PlainError). IsPlainReason z) (sym is.2) is.0, subst (λ (z : PlainError). IsFirstRefused n start (map body_data xs) m z) (sym is.2) by_place)
 
   pub adds_done : (old : Table) (i : ℕ) → length xs ≤ i → AddsOn old i → AddsAll n start (map body_data xs) old
   adds_done old i h k = k old (subst (λ (bs : List BodyData). AddsAll n old bs old) (sym (map_drop_all body_data xs i h)) (λ label. refl))

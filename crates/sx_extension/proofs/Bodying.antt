@@ -11,7 +11,7 @@ use Rattle.sx_rules.specs.Views.{FormData, NamedRule, named}
 use Rattle.sx_outline.specs.declared.rule_lines.RuleLines.{RuleLines}
 use Rattle.sx_outline.specs.Stages.{RuleData, rule_data}
 use Rattle.sx_extension.specs.declared.body_defect.BodyDefect.{BodyDefect}
-use Rattle.sx_extension.specs.Bodies.{IsReadBody, IsBodied, HasDefect, subject_of, AreReadBodies, AreBodied, IsFirstDefect}
+use Rattle.sx_extension.specs.Bodies.{IsReadBody, IsBodied, BodyHasDefect, subject_of, AreReadBodies, AreBodied, IsFirstDefect}
 use Rattle.sx_extension.proofs.AddedBodies.{map_drop, map_drop_all}
 
 abbrev Bodies : Type 0
@@ -84,7 +84,7 @@ module _ (forms : List FormData) (shapes : List Shape) (first : ℕ) (ls : List 
         subst (λ (j : ℕ). IsFirstDefect forms shapes first (map rule_data ls) (map named rs) (terms bs) j d) e
         (k (suc n) d (here (λ m q u. IsFirstDefect forms shapes first m q u (suc n) d) (g, h)))
 
-    pub defect_here : (d : BodyDefect) → HasDefect shapes first (subject_of forms (named r)) (rule_data l).body (option_map tree b) d → DefectOn i → IsFirstDefect forms shapes first (map rule_data ls) (map named rs) (terms bs) i d
+    pub defect_here : (d : BodyDefect) → BodyHasDefect shapes first (subject_of forms (named r)) (rule_data l).body (option_map tree b) d → DefectOn i → IsFirstDefect forms shapes first (map rule_data ls) (map named rs) (terms bs) i d
     defect_here d g k =
         let e : i + 0 ≡ i = omega arith in
         subst (λ (j : ℕ). IsFirstDefect forms shapes first (map rule_data ls) (map named rs) (terms bs) j d) e

@@ -22,7 +22,7 @@ use Rattle.sx_outline.specs.ExtensionOutlined.{extension_declares}
 use Rattle.sx_extension.specs.declared.extension_error.ExtensionError.{ExtensionError}
 use Rattle.sx_extension.specs.declared.prepared.Prepared.{Prepared}
 use Rattle.sx_extension.specs.declared.read_texts.ReadTexts.{ReadTexts}
-use Rattle.sx_extension.specs.Grounds.{Ground, IsBefore}
+use Rattle.sx_extension.specs.Grounds.{Ground, IsGroundBefore}
 use Rattle.sx_extension.specs.declared.plain_body.PlainBody.{PlainBody}
 use Rattle.sx_extension.specs.PlainBodies.{body_data, IsBodyOf}
 use Rattle.sx_extension.specs.Readings.{with_own, tables, ArePlainsRead}
@@ -39,7 +39,7 @@ pub shapes_go_on : (p : Parts) (own : List Line) → shapes_of (extended p own) 
 shapes_go_on p own =
     ap (map (shape_of p.sorts)) (map-append (numbered_line (names p)) p.productions own) ∙ map-append (shape_of p.sorts) (map (numbered_line (names p)) p.productions) (map (numbered_line (names p)) own)
 
-module _ (g : Ground) (before : IsBefore g) (bytes : Text) (x : Prepared) (h : IsPreparedExtension g bytes x) (all : List Shape) (is : all ≡ shapes_of x.grammar.parts) where
+module _ (g : Ground) (before : IsGroundBefore g) (bytes : Text) (x : Prepared) (h : IsPreparedExtension g bytes x) (all : List Shape) (is : all ≡ shapes_of x.grammar.parts) where
   parts_are : x.grammar.parts ≡ with_own g h.from.productions
   parts_are = h.readable.grammars.parts
 
@@ -84,7 +84,7 @@ module _ (g : Ground) (before : IsBefore g) (bytes : Text) (x : Prepared) (h : I
 
 -- ---- what is answered
 
-module _ (g : Ground) (before : IsBefore g) (x : Prepared) (t : ReadTexts) (all : List Shape) (is : all ≡ shapes_of x.grammar.parts) where
+module _ (g : Ground) (before : IsGroundBefore g) (x : Prepared) (t : ReadTexts) (all : List Shape) (is : all ≡ shapes_of x.grammar.parts) where
   pub has_set : IsRuleSet all g.rule_forms (g.rules ++ (read_texts t).rules) → HaveRuleSet g x t
   has_set h =
       subst (λ (fs : List FormData). IsRuleSet (shapes_of x.grammar.parts) fs (g.rules ++ (read_texts t).rules)) before.rule_forms

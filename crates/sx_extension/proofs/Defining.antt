@@ -11,7 +11,7 @@ use Rattle.sx_grammar.specs.Parts.{Parts, names, numbered, numbered_line}
 use Rattle.sx_grammar.specs.Told.{shape_of, shapes_of}
 use Rattle.sx_plain.specs.declared.plain_error.PlainError.{PlainError}
 use Rattle.sx_plain.specs.declared.plain_error.PlainError.TheVariants as plain
-use Rattle.sx_plain.specs.Adds.{uncovered, or_else, first_uncovered, first_uncovered_of}
+use Rattle.sx_plain.specs.Adds.{uncovered, label_or, first_uncovered, first_uncovered_of}
 use Rattle.sx_plain.specs.Adds.{IsBodyAdded}
 use Rattle.sx_plain.specs.Plain.{Body, Table}
 use Rattle.sx_outline.specs.Stages.{PlainData}
@@ -36,7 +36,7 @@ module _ (shapes : List Shape) (vars : List Sort) (base : ℕ) (table : Table) (
     pub label_below : (t : Tree) (sort : Sort) → HasSort shapes vars t sort → first_uncovered base table t ≡ Some l → l < length shapes
     label_below (node label ts) sort h e = here (uncovered base (table label) label) refl e (labels_below ts h.0.kids h.3)
       where
-        here : (o : Option ℕ) → uncovered base (table label) label ≡ o → or_else o (first_uncovered_of base table ts) ≡ Some l → (first_uncovered_of base table ts ≡ Some l → l < length shapes) → l < length shapes
+        here : (o : Option ℕ) → uncovered base (table label) label ≡ o → label_or o (first_uncovered_of base table ts) ≡ Some l → (first_uncovered_of base table ts ≡ Some l → l < length shapes) → l < length shapes
         here None u k rest = rest k
         here (Some n) u k rest =
             let q : n ≡ l = cc in
@@ -50,7 +50,7 @@ module _ (shapes : List Shape) (vars : List Sort) (base : ℕ) (table : Table) (
     labels_below (t ▹ ts) [] h e = absurd h
     labels_below (t ▹ ts) (s ∷ ss) h e = by (first_uncovered base table t) refl e (label_below t s h.0) (labels_below ts ss h.1)
       where
-        by : (o : Option ℕ) → first_uncovered base table t ≡ o → or_else o (first_uncovered_of base table ts) ≡ Some l → (first_uncovered base table t ≡ Some l → l < length shapes) →
+        by : (o : Option ℕ) → first_uncovered base table t ≡ o → label_or o (first_uncovered_of base table ts) ≡ Some l → (first_uncovered base table t ≡ Some l → l < length shapes) →
             (first_uncovered_of base table ts ≡ Some l → l < length shapes) → l < length shapes
         by None u k first rest = rest k
         by (Some n) u k first rest = first (u ∙ k)

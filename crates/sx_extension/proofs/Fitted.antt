@@ -30,7 +30,7 @@ use Rattle.sx_extension.specs.declared.prepared.Prepared.{Prepared}
 use Rattle.sx_extension.specs.declared.extension.ReadExtension.{ReadExtension}
 use Rattle.sx_extension.specs.Bodies.{AreBodied}
 use Rattle.sx_extension.specs.Fitting.{FitsAfter}
-use Rattle.sx_extension.specs.Grounds.{Ground, IsBefore}
+use Rattle.sx_extension.specs.Grounds.{Ground, IsGroundBefore}
 use Rattle.sx_extension.specs.Readings.{with_own}
 use Rattle.sx_extension.specs.Stages.{HasFewProductions, IsPreparedExtension}
 use Rattle.sx_extension.specs.States.{IsExtensionIn}
@@ -48,7 +48,7 @@ short_lines : (ls : List RuleLines) → AllByRecursion (λ l. HasShortLines 2621
 short_lines [] h = tt
 short_lines (l ∷ ls) h = (h.0, short_lines ls h.1)
 
-module _ (g : Ground) (before : IsBefore g) (bytes : Text) (x : ReadExtension)
+module _ (g : Ground) (before : IsGroundBefore g) (bytes : Text) (x : ReadExtension)
     (s : IsExtensionIn g bytes x) where
   abbrev own : List Line
   own = s.outline.productions

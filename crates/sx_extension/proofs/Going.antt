@@ -27,7 +27,7 @@ use Rattle.sx_notation.specs.Language.{IsLanguage}
 use Rattle.sx_language.specs.States.{AreStems, IsLanguageIn as StatesLanguage}
 use Rattle.sx_extension.specs.declared.extension.ReadExtension.{ReadExtension}
 use Rattle.sx_extension.specs.Fitting.{FitsAfter}
-use Rattle.sx_extension.specs.Grounds.{Ground, HasRoomFor, IsBefore}
+use Rattle.sx_extension.specs.Grounds.{Ground, HasRoomFor, IsGroundBefore}
 use Rattle.sx_extension.specs.Readings.{AreGrammars}
 use Rattle.sx_extension.specs.States.{IsExtensionIn}
 use Rattle.sx_extension.specs.Laws.{SameExtension, first_ground, next_ground, LanguagesBegin}
@@ -155,7 +155,7 @@ module _ (name bytes : Text) (l : Language) (s : StatesLanguage name bytes l) wh
         );
       }
 
-  begins : IsLanguage l → length bytes ≤ 262144 → IsBefore (first_ground l)
+  begins : IsLanguage l → length bytes ≤ 262144 → IsGroundBefore (first_ground l)
   begins is low = record {
     more = [];
     goes_on = λ i. record {
@@ -194,7 +194,7 @@ module _ (g : Ground) (x : ReadExtension) (fits : FitsAfter g x) where
     literals = omega (arith, low, fits.literals, room.literals);
   }
 
-  module _ (bytes : Text) (is : IsBefore g) (s : IsExtensionIn g bytes x) where
+  module _ (bytes : Text) (is : IsGroundBefore g) (s : IsExtensionIn g bytes x) where
     abbrev made : AreGrammars g s.outline.productions x.grammar x.rule_grammar
     made = s.read.readable.grammars
 
@@ -210,7 +210,7 @@ module _ (g : Ground) (x : ReadExtension) (fits : FitsAfter g x) where
         } in
         made.parts ∙ ap (λ (p : Parts). extended p own) is.goes_on ∙ grouped
 
-    goes_on : HasRoomFor (next_ground g x) 1 → IsBefore (next_ground g x)
+    goes_on : HasRoomFor (next_ground g x) 1 → IsGroundBefore (next_ground g x)
     goes_on room = record {
       more = is.more ++ s.outline.productions;
       goes_on = extends;

@@ -14,7 +14,7 @@ use Rattle.sx_notation.specs.RuleParts.{rule_parts}
 use Rattle.sx_notation.specs.RuleLaws.{form_of}
 use Rattle.sx_language.specs.Prepared.{IsGrammarRefusal}
 use Rattle.sx_language.specs.States.{IsNoGrammar}
-use Rattle.sx_extension.specs.Grounds.{Ground, IsBefore}
+use Rattle.sx_extension.specs.Grounds.{Ground, IsGroundBefore}
 use Rattle.sx_extension.specs.Readings.{with_own, AreGrammars, AreNoGrammars}
 use Rattle.sx_extension.specs.Stages.{HasRoom, IsUngrammatical}
 
@@ -33,7 +33,7 @@ module _ (g : Ground) (own : List Line) where
   pub own_refused : (e : GrammarError) (x : NotationError) → IsExtended g.grammar own (Err e) → IsGrammarRefusal e x → IsUngrammatical g own x
   own_refused e x h same = told g own (with_own g own) e x h same (λ k. inl k)
 
-  module _ (before : IsBefore g) (room : HasRoom g own) (made : GrammarData) (is : IsExtended g.grammar own (Ok made)) (forms : ℕ) (many : forms ≡ length g.forms) where
+  module _ (before : IsGroundBefore g) (room : HasRoom g own) (made : GrammarData) (is : IsExtended g.grammar own (Ok made)) (forms : ℕ) (many : forms ≡ length g.forms) where
     parts_are : made.parts ≡ with_own g own
     parts_are = ap (λ (y : GrammarData). y.parts) is.0
 

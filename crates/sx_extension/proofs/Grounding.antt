@@ -27,7 +27,7 @@ use Rattle.sx_language.specs.RuleLine.{Reader, CanReadRules}
 use Rattle.sx_language.specs.States.{IsNameOfSort, IsSortNamed, AreStems}
 use Rattle.sx_language.proofs.Judgements.{can_read}
 use Rattle.sx_language.proofs.FitForms.{subjects_read}
-use Rattle.sx_extension.specs.Grounds.{Ground, HasForms, IsBefore}
+use Rattle.sx_extension.specs.Grounds.{Ground, GroundHasForms, IsGroundBefore}
 use Rattle.sx_extension.specs.Readings.{with_own}
 
 -- ---- the same sorts
@@ -109,12 +109,12 @@ sort_read p fs is number s h =
 
 -- ---- the reader
 
-module _ (g : Ground) (before : IsBefore g) (own : List Line) where
+module _ (g : Ground) (before : IsGroundBefore g) (own : List Line) where
   pub same_sorts : (with_own g own).sorts ≡ g.language.sorts
   same_sorts = ap (λ (p : Parts). p.sorts) before.goes_on
 
   -- lines of rules are read by the grammar of rules, whatever form lines it is told by
-  pub reads : (lines : List FormLine) → HasForms g lines → IsGrammar (with_own g own) → (vs : List VarLine) (r : Reader) → AreStems (with_own g own) vs r.stems →
+  pub reads : (lines : List FormLine) → GroundHasForms g lines → IsGrammar (with_own g own) → (vs : List VarLine) (r : Reader) → AreStems (with_own g own) vs r.stems →
       r.parts ≡ rule_parts (with_own g own) lines → r.forms ≡ g.forms → CanReadRules r
   reads lines has is vs r stems parts forms =
       let p = with_own g own in

@@ -16,7 +16,7 @@ use Rattle.sx_grammar.specs.Reading.{Reading}
 use Rattle.sx_grammar.specs.ReadOne.{IsAnswer, only}
 use Rattle.sx_earley.specs.Completed.{sort_number}
 use Rattle.sx_earley.specs.Tokens.{Stems, plain_tokens}
-use Rattle.sx_earley.specs.Unknown.{HasStem, IsUnknownStem}
+use Rattle.sx_earley.specs.Unknown.{HasKnownStem, IsUnknownStem}
 use Rattle.sx_outline.proofs.WeightLaws.{all_in}
 use Rattle.sx_notation.specs.declared.notation_error.NotationError.{NotationError}
 use Rattle.sx_notation.specs.declared.notation_error.NotationError.TheVariants.{Memory, NotUtf8}
@@ -27,10 +27,10 @@ use Rattle.sx_notation.specs.declared.notation_error.NotationError.TheVariants.{
 use Rattle.sx_notation.specs.declared.unread.Unread.{Unread}
 use Rattle.sx_notation.specs.ReadAmong.{IsNamed, IsUnnamed, IsNamedCut, IsReadAmong, HasStranger}
 use Rattle.sx_notation.specs.ReadAmong.{IsRefusedAmong}
-use Rattle.sx_notation.specs.ReadText.{HasDefect}
+use Rattle.sx_notation.specs.ReadText.{LineHasDefect}
 use Rattle.sx_notation.specs.WhyUnread.{IsUnreadAs}
 use Rattle.sx_notation.proofs.OneReasons.{one_reason, unread_or_read}
-use Rattle.sx_language.specs.Alike.{HasThree}
+use Rattle.sx_language.specs.Alike.{LineHasThree}
 use Rattle.sx_language.proofs.OneCut.{one_cut, defect_or_cut, defect_one}
 use Rattle.sx_language.proofs.OneLine.{Alike, unreads_alike}
 use Rattle.sx_language.proofs.OneReading.{reading_one}
@@ -45,7 +45,7 @@ module _ (p : Parts) (stems : Stems) (line : Text) (names : List Text) where
       has = subst (λ (us : List Token). Contains us h.1) (one_cut p line h.0 ts h.2 k.0.0) h.3
 
       by : IsUnknownStem stems h.1 ⊎ IsUnnamed names h.1 → ⊥
-      by (inl unknown) = false≢true (sym (ap is_some unknown.1) ∙ all_in (HasStem stems) ts h.1
+      by (inl unknown) = false≢true (sym (ap is_some unknown.1) ∙ all_in (HasKnownStem stems) ts h.1
           k.0.1 has unknown.0)
       by (inr unnamed) = unnamed.1 (all_in (IsNamed names) ts h.1 k.1 has unnamed.0)
 
@@ -65,7 +65,7 @@ module _ (p : Parts) (stems : Stems) (sort : Sort) (line : Text) (names : List T
     record IsUncut (e : NotationError) : Type 0 where
       defect : TokenError
       is : e ≡ BadTokens number defect
-      has : HasDefect p line defect
+      has : LineHasDefect p line defect
 
     record IsStrange (e : NotationError) : Type 0 where
       is : e ≡ Notation number Variable
@@ -114,7 +114,7 @@ module _ (p : Parts) (stems : Stems) (sort : Sort) (line : Text) (names : List T
         IsRefusedAmong p stems sort line names number e → IsReadAmong p stems sort line names t → ⊥
     refused_or_among t e n h k = why_or_read t e (whys e h n) k
 
-    module _ (HasMore : ℕ → Type 0) (so : HasThree p stems sort line → HasMore number) where
+    module _ (HasMore : ℕ → Type 0) (so : LineHasThree p stems sort line → HasMore number) where
       why_one : (e d : NotationError) → Why e → Why d → Alike HasMore e d
       why_one e d (inl h) (inl k) = inl (h.is ∙ ap (BadTokens number)
           (defect_one p line h.defect k.defect h.has k.has) ∙ sym k.is)

@@ -27,7 +27,7 @@ use Rattle.sx_extension.specs.declared.extension_error.ExtensionError.TheVariant
 use Rattle.sx_extension.specs.declared.extension_error.ExtensionError.TheVariants.{NoPlain, NoBody}
 use Rattle.sx_extension.specs.declared.extension_error.ExtensionError.TheVariants.{BodySort}
 use Rattle.sx_extension.specs.declared.extension_error.ExtensionError.TheVariants.{BodyExtended}
-use Rattle.sx_extension.specs.Bodies.{IsBodied, HasDefect, subject_of, AreBodied, IsFirstDefect}
+use Rattle.sx_extension.specs.Bodies.{IsBodied, BodyHasDefect, subject_of, AreBodied, IsFirstDefect}
 use Rattle.sx_extension.specs.BodyRefusals.{IsBodyRefusal, HaveBadBody}
 use Rattle.sx_extension.specs.Defects.{IsDefect}
 use Rattle.sx_extension.specs.Grounds.{Ground}
@@ -174,7 +174,7 @@ wrong (Some sort) (Some line) = defect.BodyExtended
 
 module _ (shapes : List Shape) (first : ℕ) where
   wrong_is : (subject : Option Sort) (line : Option Numbered) (body : Option Tree) (d : BodyDefect)
-      → HasDefect shapes first subject line body d → d ≡ wrong subject line
+      → BodyHasDefect shapes first subject line body d → d ≡ wrong subject line
   wrong_is None None body defect.NoBody h = absurd h
   wrong_is None None body defect.BodySort h = absurd h
   wrong_is None None body defect.BodyExtended h = absurd h
@@ -194,7 +194,7 @@ module _ (shapes : List Shape) (first : ℕ) where
 
   bodied_or_wrong : (subject : Option Sort) (line : Option Numbered) (body : Option Tree)
       (d : BodyDefect) → IsBodied shapes first subject line body →
-      HasDefect shapes first subject line body d → ⊥
+      BodyHasDefect shapes first subject line body d → ⊥
   bodied_or_wrong None None body defect.NoBody h k = k
   bodied_or_wrong None None body defect.BodySort h k = k
   bodied_or_wrong None None body defect.BodyExtended h k = k

@@ -28,10 +28,10 @@ use Rattle.sx_extension.specs.declared.extension_error.ExtensionError.TheVariant
 use Rattle.sx_extension.specs.declared.extension.ReadExtension.{ReadExtension}
 use Rattle.sx_extension.specs.Grounds.{Ground}
 use Rattle.sx_extension.specs.Readings.{HasOutline, HasNoOutline, with_own}
-use Rattle.sx_extension.specs.Readings.{IsReadable, Texts}
+use Rattle.sx_extension.specs.Readings.{IsExtensionReadable, Texts}
 use Rattle.sx_extension.specs.States.{HasRuleSet, HasTable, IsExtensionIn, HasBadText}
 use Rattle.sx_extension.specs.States.{HasNoGrammars}
-use Rattle.sx_extension.specs.States.{HasTexts, HasNoRuleSet, HasNoTable, HasBodyDefect}
+use Rattle.sx_extension.specs.States.{HasTexts, HasNoExtendedRuleSet, HasNoTable, HasBodyDefect}
 use Rattle.sx_extension.specs.States.{IsBadNotation, IsExtensionTextRefused}
 use Rattle.sx_extension.specs.Alike.{TextsHaveThree, ExtensionHasThree, ShowOtherReadings}
 use Rattle.sx_extension.specs.Laws.{SameExtension, OneExtension}
@@ -77,7 +77,7 @@ module _ (g : Ground) (bytes : Text) where
 
   abbrev ByRules : ExtensionError → Type 0
   ByRules e = (x : RuleError) × (unbound : Option Text) × (e ≡ Notation (notation.Rules x unbound))
-      × HasNoRuleSet g bytes x unbound
+      × HasNoExtendedRuleSet g bytes x unbound
 
   abbrev ByTable : ExtensionError → Type 0
   ByTable e = (e ≢ Memory) × HasNoTable g bytes e
@@ -94,7 +94,7 @@ module _ (g : Ground) (bytes : Text) where
     grammar : GrammarData
     by_rules : GrammarData
     reader : Reader
-    readable : IsReadable g bytes outline grammar by_rules reader
+    readable : IsExtensionReadable g bytes outline grammar by_rules reader
 
   record IsRead : Type 0 where
     outline : ExtensionOutlineData
@@ -194,7 +194,7 @@ module _ (g : Ground) (bytes : Text) where
         ),
       ))
 
-  by_rules : (x : RuleError) (unbound : Option Text) → HasNoRuleSet g bytes x unbound →
+  by_rules : (x : RuleError) (unbound : Option Text) → HasNoExtendedRuleSet g bytes x unbound →
       IsDue (Notation (notation.Rules x unbound))
   by_rules x unbound h = after_texts (Notation (notation.Rules x unbound)) h.outline h.texts h.read
       (inl (x, unbound, refl, h))
@@ -247,7 +247,7 @@ module _ (g : Ground) (bytes : Text) where
 
   not_rules : (e : ExtensionError) → ByRules e → HasSet → ⊥
   not_rules e h k =
-      let a : HasNoRuleSet g bytes h.0 h.1 = h.3 in
+      let a : HasNoExtendedRuleSet g bytes h.0 h.1 = h.3 in
       (no_rules g a.outline a.texts h.0 a.refused).1
       (not_refused (shapes_of (with_own g k.outline.productions)) g.forms
       (g.rules ++ k.texts.rules) h.0 k.rule_set
@@ -284,10 +284,10 @@ module _ (g : Ground) (bytes : Text) where
   rules_one : AreAlike Same ByRules
   rules_one e d h k = inl (h.2 ∙ (λ i. Notation (notation.Rules (why i) (unbound i))) ∙ sym k.2)
     where
-      a : HasNoRuleSet g bytes h.0 h.1
+      a : HasNoExtendedRuleSet g bytes h.0 h.1
       a = h.3
 
-      b : HasNoRuleSet g bytes k.0 k.1
+      b : HasNoExtendedRuleSet g bytes k.0 k.1
       b = k.3
 
       why : h.0 ≡ k.0

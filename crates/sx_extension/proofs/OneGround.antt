@@ -24,7 +24,7 @@ use Rattle.sx_outline.proofs.OneExtension.{one_extension}
 use Rattle.sx_notation.specs.RuleParts.{judgement_sort, form_line, apart_lines, rule_parts}
 use Rattle.sx_language.specs.States.{IsSortNamed, AreStems, IsNoGrammar}
 use Rattle.sx_language.proofs.OneGrammar.{no_grammar_one, grammar_or_not}
-use Rattle.sx_extension.specs.Grounds.{Ground, HasForms}
+use Rattle.sx_extension.specs.Grounds.{Ground, GroundHasForms}
 use Rattle.sx_extension.specs.Readings.{HasOutline, HasNoOutline, with_own, AreGrammars}
 use Rattle.sx_extension.specs.Readings.{AreNoGrammars}
 
@@ -125,7 +125,7 @@ module _ (g : Ground) (bytes : Text) where
 
 module _ (g : Ground) (own : List Line) where
   -- the grammar of rules is one, whatever form lines it is told by
-  rule_parts_one : (ls ms : List FormLine) → HasForms g ls → HasForms g ms →
+  rule_parts_one : (ls ms : List FormLine) → GroundHasForms g ls → GroundHasForms g ms →
       rule_parts (with_own g own) ls ≡ rule_parts (with_own g own) ms
   rule_parts_one ls ms h k =
       let before = g.grammar.parts.productions in
@@ -156,7 +156,7 @@ module _ (g : Ground) (own : List Line) where
       λ i. record { parts = parts i; base = base i }
 
   -- the grammar of rules is refused by one list of form lines as by another
-  there : (ls ms : List FormLine) (e : GrammarError) → HasForms g ls → HasForms g ms →
+  there : (ls ms : List FormLine) (e : GrammarError) → GroundHasForms g ls → GroundHasForms g ms →
       IsNoGrammar (rule_parts (with_own g own) ls) e →
       IsNoGrammar (rule_parts (with_own g own) ms) e
   there ls ms e h k refused = subst (λ (p : Parts). IsNoGrammar p e) (rule_parts_one ls ms h k)

@@ -17,17 +17,17 @@ use Rattle.sx_extension.specs.Alike.{TextsHaveThree, ExtensionHasThree}
 use Rattle.sx_extension.specs.BodyRefusals.{HaveBadBody}
 use Rattle.sx_extension.specs.Grounds.{Ground}
 use Rattle.sx_extension.specs.Readings.{HasOutline, with_own, AreNoGrammars}
-use Rattle.sx_extension.specs.Readings.{IsReadable, Texts, AreRead, IsBadText}
+use Rattle.sx_extension.specs.Readings.{IsExtensionReadable, Texts, AreTextsRead, IsBadText}
 use Rattle.sx_extension.specs.Stages.{IsNoTable}
 use Rattle.sx_extension.specs.States.{HasBadText, HasNoGrammars}
-use Rattle.sx_extension.specs.States.{HasTexts, IsNoRules, HasNoRuleSet, HasNoTable, HasBodyDefect}
+use Rattle.sx_extension.specs.States.{HasTexts, IsNoExtendedRules, HasNoExtendedRuleSet, HasNoTable, HasBodyDefect}
 use Rattle.sx_extension.proofs.OneGround.{outline_one}
 use Rattle.sx_extension.proofs.OneTexts.{readable_outline}
 use Rattle.sx_extension.proofs.OneTexts.{reader_one, texts_one}
 
 -- the refusal of rules, which is not out of memory
 pub no_rules : (g : Ground) (o : ExtensionOutlineData) (x : Texts) (e : RuleError) →
-    IsNoRules g o x e → IsNoRuleSet (shapes_of (with_own g o.productions)) g.forms
+    IsNoExtendedRules g o x e → IsNoRuleSet (shapes_of (with_own g o.productions)) g.forms
     (g.rules ++ x.rules) e × (e ≢ rules.Memory)
 no_rules g o x rules.Memory h = absurd h
 no_rules g o x rules.TooManyRules h = (h, λ e. cc)
@@ -51,10 +51,10 @@ module _ (g : Ground) (bytes : Text) where
         let p = with_own g q.productions in
         let reader = reader_one g bytes o q h.grammar h.by_rules k.grammar k.by_rules h.read.reader
         k.read.reader h.read.readable k.read.readable in
-        let here = subst (λ (o : ExtensionOutlineData). AreRead (with_own g o.productions)
+        let here = subst (λ (o : ExtensionOutlineData). AreTextsRead (with_own g o.productions)
         h.read.reader o x) texts_outline h.read.read in
         texts_one p k.read.readable.grammars.is_grammar k.read.reader q x y
-        (subst (λ (r : Reader). AreRead p r q x) reader here) k.read.read
+        (subst (λ (r : Reader). AreTextsRead p r q x) reader here) k.read.read
 
     -- what is said of the outline and of the texts of one is said of those of the other
     pub moved : (P : ExtensionOutlineData → Texts → Type 0) → P o x → P q y
@@ -71,7 +71,7 @@ module _ (g : Ground) (bytes : Text) where
       (outline_one g bytes h.outline o h.outlined k) h.refused
 
   pub bad_there : (x : NotationError) (h : HasBadText g bytes x) (o : ExtensionOutlineData)
-      (a b : GrammarData) (r : Reader) → IsReadable g bytes o a b r →
+      (a b : GrammarData) (r : Reader) → IsExtensionReadable g bytes o a b r →
       IsBadText (with_own g o.productions) r o x
   bad_there x h o a b r k =
       subst (λ (s : Reader). IsBadText (with_own g o.productions) s o x)
@@ -92,7 +92,7 @@ module _ (g : Ground) (bytes : Text) where
     three = three;
   }
 
-  pub no_rules_there : (x : RuleError) (unbound : Option Text) (h : HasNoRuleSet g bytes x unbound)
+  pub no_rules_there : (x : RuleError) (unbound : Option Text) (h : HasNoExtendedRuleSet g bytes x unbound)
       (o : ExtensionOutlineData) (y : Texts) → HasTexts g bytes o y →
       IsNoRuleSet (shapes_of (with_own g o.productions)) g.forms (g.rules ++ y.rules) x
   no_rules_there x unbound h o y k =

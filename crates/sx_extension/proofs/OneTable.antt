@@ -15,7 +15,7 @@ use Rattle.sx_language.proofs.Stepwise.{AreAlike, Step, step_alike, step_none}
 use Rattle.sx_extension.specs.declared.table_error.TableError.{TableError}
 use Rattle.sx_extension.specs.declared.table_error.TableError.TheVariants.{Memory, Plain, NoPlain}
 use Rattle.sx_extension.specs.PlainBodies.{BodyData}
-use Rattle.sx_extension.specs.PlainTables.{AddsAll, IsFirstRefused, IsFirstWithout, IsReason}
+use Rattle.sx_extension.specs.PlainTables.{AddsAll, IsFirstRefused, IsFirstWithoutEntry, IsPlainReason}
 use Rattle.sx_extension.specs.PlainTables.{IsTableMade}
 
 -- ---- one body
@@ -56,7 +56,7 @@ module _ (base : ℕ) (old : Table) (label arity : ℕ) (body : Tree) where
   abbrev IsDue : PlainError → Type 0
   IsDue = Step ByTwice (old label ≡ None) AfterTwice
 
-  due : (e : PlainError) → IsReason e → IsBodyAdded base old old label arity body (Err e) → IsDue e
+  due : (e : PlainError) → IsPlainReason e → IsBodyAdded base old old label arity body (Err e) → IsDue e
   due plain.Memory n h = absurd n
   due (plain.Twice l) n h = inl (ap plain.Twice h.0, h.1)
   due (plain.UsesLater l) n h = inr (h.0, inl (l, refl, h.1))
@@ -111,13 +111,13 @@ module _ (base : ℕ) (old : Table) (label arity : ℕ) (body : Tree) where
   due_one = step_alike ByTwice (old label ≡ None) AfterTwice not_twice same
       (λ e d h k. h.0 ∙ sym k.0) use_one
 
-  refused_one : (e d : PlainError) → IsReason e → IsReason d →
+  refused_one : (e d : PlainError) → IsPlainReason e → IsPlainReason d →
       IsBodyAdded base old old label arity body (Err e) →
       IsBodyAdded base old old label arity body (Err d) → e ≡ d
   refused_one e d n m h k = due_one e d (due e n h) (due d m k)
 
   -- a body that is added is not refused
-  added_or_refused : (new : Table) (e : PlainError) → IsReason e →
+  added_or_refused : (new : Table) (e : PlainError) → IsPlainReason e →
       IsBodyAdded base old new label arity body (Ok tt) →
       IsBodyAdded base old old label arity body (Err e) → ⊥
   added_or_refused new e n h k =
@@ -141,8 +141,8 @@ module _ (base : ℕ) where
       let here = added_one base old b.label b.parts b.term h.0 k.0 h.1 k.1 in
       all_one bs k.0 m n (subst (λ (t : Table). AddsAll base t bs m) here h.2) k.2
 
-  first_one : (bs : List BodyData) (old : Table) (n m : ℕ) (e d : PlainError) → IsReason e →
-      IsReason d → IsFirstRefused base old bs n e → IsFirstRefused base old bs m d →
+  first_one : (bs : List BodyData) (old : Table) (n m : ℕ) (e d : PlainError) → IsPlainReason e →
+      IsPlainReason d → IsFirstRefused base old bs n e → IsFirstRefused base old bs m d →
       (n ≡ m) × (e ≡ d)
   first_one [] old n m e d x y h k = absurd h
   first_one (b ∷ bs) old zero zero e d x y h k =
@@ -157,7 +157,7 @@ module _ (base : ℕ) where
       (subst (λ (t : Table). IsFirstRefused base t bs n e) here h.2) k.2 in
       (ap suc rest.0, rest.1)
 
-  all_or_first : (bs : List BodyData) (old new : Table) (n : ℕ) (e : PlainError) → IsReason e →
+  all_or_first : (bs : List BodyData) (old new : Table) (n : ℕ) (e : PlainError) → IsPlainReason e →
       AddsAll base old bs new → IsFirstRefused base old bs n e → ⊥
   all_or_first [] old new n e x h k = k
   all_or_first (b ∷ bs) old new zero e x h k = added_or_refused base old b.label b.parts b.term h.0
@@ -170,7 +170,7 @@ module _ (base : ℕ) where
 -- ---- tables
 
 without_one : (shapes : List Shape) (first : ℕ) (t : Table) (a b : ℕ) →
-    IsFirstWithout shapes first t a → IsFirstWithout shapes first t b → a ≡ b
+    IsFirstWithoutEntry shapes first t a → IsFirstWithoutEntry shapes first t b → a ≡ b
 without_one shapes first t a b h k = by (cases_order a b)
   where
     by : (a ≡ b) ⊎ ((a < b) ⊎ (b < a)) → a ≡ b
@@ -198,7 +198,7 @@ module _ (base : ℕ) (shapes : List Shape) (first : ℕ) (old : Table) (bs : Li
   no_table_one (NoPlain a) (NoPlain b) n m h k =
       let same = all_one base bs old h.0 k.0 h.1 k.1 in
       ap NoPlain (without_one shapes first k.0 a b
-      (subst (λ (t : Table). IsFirstWithout shapes first t a) same h.2) k.2)
+      (subst (λ (t : Table). IsFirstWithoutEntry shapes first t a) same h.2) k.2)
 
   pub table_or_not : (t : PlainTable) (x : TableError) → x ≢ Memory →
       IsTableMade base shapes first old bs (Ok t) → IsTableMade base shapes first old bs (Err x) →
@@ -207,6 +207,6 @@ module _ (base : ℕ) (shapes : List Shape) (first : ℕ) (old : Table) (bs : Li
   table_or_not t (Plain a e) n h k = all_or_first base bs old (table_of t) a e k.0 h.1 k.1
   table_or_not t (NoPlain a) n h k =
       let same = all_one base bs old k.0 (table_of t) k.1 h.1 in
-      let lacks : IsFirstWithout shapes first (table_of t) a = subst
-      (λ (x : Table). IsFirstWithout shapes first x a) same k.2 in
+      let lacks : IsFirstWithoutEntry shapes first (table_of t) a = subst
+      (λ (x : Table). IsFirstWithoutEntry shapes first x a) same k.2 in
       missing (table_of t a) lacks.lacks.1 (h.2 a lacks.new lacks.lacks.0)

@@ -16,14 +16,14 @@ use Rattle.sx_language.proofs.OneOutline.{stems_one}
 use Rattle.sx_language.proofs.OneRules.{rules_one, first_bad_one, rules_or_bad}
 use Rattle.sx_extension.specs.Alike.{PlainsHaveThree, TextsHaveThree}
 use Rattle.sx_extension.specs.Grounds.{Ground}
-use Rattle.sx_extension.specs.Readings.{AreGrammars, IsReadable, Texts, tables, AreRead, IsBadText}
+use Rattle.sx_extension.specs.Readings.{AreGrammars, IsExtensionReadable, Texts, tables, AreTextsRead, IsBadText}
 use Rattle.sx_extension.proofs.OneGround.{outline_one, grammar_one, rule_grammar_one}
 use Rattle.sx_extension.proofs.OnePlain.{plains_one, first_bad_plain_one, plains_or_bad}
 
 -- ---- readers
 
 module _ (g : Ground) (bytes : Text) (o q : ExtensionOutlineData) (a b c d : GrammarData)
-    (r s : Reader) (h : IsReadable g bytes o a b r) (k : IsReadable g bytes q c d s) where
+    (r s : Reader) (h : IsExtensionReadable g bytes o a b r) (k : IsExtensionReadable g bytes q c d s) where
   pub readable_outline : o ≡ q
   readable_outline = outline_one g bytes o q h.outlined k.outlined
 
@@ -53,7 +53,7 @@ module _ (g : Ground) (bytes : Text) (o q : ExtensionOutlineData) (a b c d : Gra
 -- ---- texts
 
 module _ (p : Parts) (is : IsGrammar p) (r : Reader) (o : ExtensionOutlineData) where
-  pub texts_one : (x y : Texts) → AreRead p r o x → AreRead p r o y → x ≡ y
+  pub texts_one : (x y : Texts) → AreTextsRead p r o x → AreTextsRead p r o y → x ≡ y
   texts_one x y h k =
       let plains = plains_one p is (tables r) o.plains x.plains y.plains h.plains k.plains in
       let rules = rules_one r o.rules x.names y.names x.rules y.rules x.bodies y.bodies h.rules
@@ -73,7 +73,7 @@ module _ (p : Parts) (is : IsGrammar p) (r : Reader) (o : ExtensionOutlineData) 
       alike_so (RulesHaveThree r o.rules) (TextsHaveThree p r o) (λ number three. inr three) e d
       (first_bad_one r o.rules e d n m h.2 k.2)
 
-  pub texts_or_bad : (x : Texts) (e : NotationError) → e ≢ Memory → AreRead p r o x →
+  pub texts_or_bad : (x : Texts) (e : NotationError) → e ≢ Memory → AreTextsRead p r o x →
       IsBadText p r o e → ⊥
   texts_or_bad x e n h (inl k) = plains_or_bad p is (tables r) o.plains x.plains e n h.plains k
   texts_or_bad x e n h (inr k) = rules_or_bad r o.rules x.names x.rules x.bodies e n h.rules k.2

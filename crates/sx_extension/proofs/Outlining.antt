@@ -29,7 +29,7 @@ use Rattle.sx_notation.specs.declared.notation_error.NotationError.{NotationErro
 use Rattle.sx_notation.specs.ReadText.{ReaderData}
 use Rattle.sx_notation.specs.RuleParts.{rule_parts}
 use Rattle.sx_language.specs.States.{IsNameOfSort, AreStems}
-use Rattle.sx_extension.specs.Grounds.{Ground, IsBefore}
+use Rattle.sx_extension.specs.Grounds.{Ground, IsGroundBefore}
 use Rattle.sx_extension.specs.Readings.{with_own}
 use Rattle.sx_extension.specs.Stages.{HasRoom, HasFewProductions, IsUsableExtension}
 use Rattle.sx_extension.specs.Stages.{IsOutlineRefusal, IsUnoutlined, CanReadPlain}
@@ -56,7 +56,7 @@ short_plains size (l ∷ ls) low h = (omega (arith, low, h.0), short_plains size
 
 -- ---- an outline that fits
 
-module _ (g : Ground) (before : IsBefore g) (within : IsWithinLimits g.grammar.parts) (rules_within : IsWithinLimits g.by_rules) where
+module _ (g : Ground) (before : IsGroundBefore g) (within : IsWithinLimits g.grammar.parts) (rules_within : IsWithinLimits g.by_rules) where
   has_room : (own : List Line) → length own + length (literals (record { sorts = []; productions = own })) ≤ 262144 → HasGoodLevels (record { sorts = []; productions = own }) → HasRoom g own
   has_room own few levels =
       let p = g.grammar.parts in

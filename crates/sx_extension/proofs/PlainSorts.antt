@@ -27,7 +27,7 @@ use Rattle.sx_directives.specs.declared.rows.FormLine.{FormLine}
 use Rattle.sx_directives.specs.declared.rows.VarLine.{VarLine}
 use Rattle.sx_outline.specs.Declarations.{Declared}
 use Rattle.sx_outline.specs.Variables.{kept_byte, stem_of}
-use Rattle.sx_outline.specs.Fitting.{kids_of, IsVariableOf, NamesFit, IsPlain, ArePartNames}
+use Rattle.sx_outline.specs.Fitting.{parts_of_symbols, IsVariableOf, NamesFit, IsPlain, ArePartNames}
 use Rattle.sx_outline.specs.Stages.{PlainData}
 use Rattle.sx_notation.specs.ReadText.{ReaderData, IsReadLine}
 use Rattle.sx_notation.specs.RuleParts.{rule_parts}
@@ -122,7 +122,7 @@ module _ (p : Parts) (is : IsGrammar p) (d : Declared) (stems : Stems) (are : Ar
         (past_head l.sort (flat_map symbol_sorts l.symbols) name (in_flat_map symbol_sorts l.symbols (names_of.Part name least) name here (is_head name [])))
 
     -- the names have the sorts of the parts
-    kids_named : (ss : List declared.Symbol) → ((s : declared.Symbol) → Contains ss s → Contains l.symbols s) → (ns : List Text) → NamesFit d ns (kids_of ss) →
+    kids_named : (ss : List declared.Symbol) → ((s : declared.Symbol) → Contains ss s → Contains l.symbols s) → (ns : List Text) → NamesFit d ns (parts_of_symbols ss) →
         map f ns ≡ map (λ (s : Sort). Some s) (flat_map (kid_sorts p.sorts) (map (numbered_symbol (names p)) ss))
     kids_named [] inside [] fit = refl
     kids_named [] inside (n ∷ ns) fit = absurd fit

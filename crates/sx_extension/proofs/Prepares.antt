@@ -19,7 +19,7 @@ use Rattle.sx_notation.specs.declared.notation_error.NotationError.TheVariants.{
 use Rattle.sx_notation.specs.RuleParts.{rule_parts}
 use Rattle.sx_language.specs.States.{IsNameOfSort, AreStems}
 use Rattle.sx_extension.specs.declared.prepared.Prepared.{Prepared}
-use Rattle.sx_extension.specs.Grounds.{Ground, IsBefore}
+use Rattle.sx_extension.specs.Grounds.{Ground, IsGroundBefore}
 use Rattle.sx_extension.specs.Readings.{HasOutline, with_own, AreGrammars, tables}
 use Rattle.sx_extension.specs.Stages.{IsUsableExtension, IsUnoutlined, IsUngrammatical}
 use Rattle.sx_extension.specs.Stages.{IsUnprepared, IsPreparedExtension, CanReadPlain, reader_of}
@@ -27,7 +27,7 @@ use Rattle.sx_extension.proofs.Grounding.{names_kept, same_sorts, reads}
 use Rattle.sx_extension.proofs.Outlining.{pairs_read}
 
 -- the sorts of stems are those of the language
-pub stems_known : (g : Ground) (before : IsBefore g) (own : List Line) (p : Parts) (vs : List VarLine) → p ≡ with_own g own → AllByRecursion (λ v. IsNameOfSort g.language v.sort) vs →
+pub stems_known : (g : Ground) (before : IsGroundBefore g) (own : List Line) (p : Parts) (vs : List VarLine) → p ≡ with_own g own → AllByRecursion (λ v. IsNameOfSort g.language v.sort) vs →
     AllByRecursion (λ v. IsNameOfSort p v.sort) vs
 stems_known g before own p vs is h =
     subst (λ (q : Parts). AllByRecursion (λ v. IsNameOfSort q v.sort) vs) (sym is) (names_kept g.language (with_own g own) (sym (same_sorts g before own)) vs h)
@@ -56,7 +56,7 @@ module _ (g : Ground) (bytes : Text) where
   no_grammars o h (Read line e) k = absurd k
   no_grammars o h (Rules e v) k = absurd k
 
-  module _ (before : IsBefore g) (o : ExtensionOutline) (h : IsUsableExtension g bytes o) (grammar rule : GrammarData) (made : AreGrammars g (extension_outline o).productions grammar rule) where
+  module _ (before : IsGroundBefore g) (o : ExtensionOutline) (h : IsUsableExtension g bytes o) (grammar rule : GrammarData) (made : AreGrammars g (extension_outline o).productions grammar rule) where
     pub prepared : (x : Prepared) → x.grammar ≡ grammar → x.rule_grammar ≡ rule → AreStems grammar.parts o.vars.items x.metas.stems.items → x.name ≡ o.header.name → x.plains.items ≡ o.plains.items →
         x.rules.items ≡ o.rules.items → IsPreparedExtension g bytes x
     prepared x base by stems name plains rules =

@@ -41,8 +41,8 @@ use Rattle.sx_extension.specs.Readings.{Texts, with_own, tables, ArePlainsRead, 
 use Rattle.sx_extension.specs.ReadTexts.{read_texts, AreTextsOf, AreBadTextsOf}
 use Rattle.sx_extension.specs.Stages.{reader_of, IsUnprepared, IsPreparedExtension, IsSetRefusal}
 use Rattle.sx_extension.specs.Stages.{IsNoTable}
-use Rattle.sx_extension.specs.States.{IsReadAs, HasTexts, HasRuleSet, HasTable, HasBodies}
-use Rattle.sx_extension.specs.States.{HasBadText, IsNoRules, HasNoRuleSet, HasNoTable}
+use Rattle.sx_extension.specs.States.{IsExtensionTextRead, HasTexts, HasRuleSet, HasTable, RulesHaveBodies}
+use Rattle.sx_extension.specs.States.{HasBadText, IsNoExtendedRules, HasNoExtendedRuleSet, HasNoTable}
 use Rattle.sx_extension.specs.States.{HasBodyDefect, IsBadNotation, IsExtensionTextRefused}
 use Rattle.sx_extension.specs.TableRefusals.{IsTableRefusal}
 use Rattle.sx_extension.proofs.LineErrors.{plains_kind}
@@ -108,7 +108,7 @@ lines_named (l ∷ ls) = ap (λ z. l.name ∷ z) (lines_named ls)
 -- why the rules are no rule set, where memory is not why
 no_rules : (g : Ground) (o : ExtensionOutlineData) (x : Texts) (e : RuleError) → IsReason e →
     IsNoSet (shapes_of (with_own g o.productions)) g.forms (g.rules ++ x.rules) e →
-    IsNoRules g o x e
+    IsNoExtendedRules g o x e
 no_rules g o x rules.Memory r m = absurd r
 no_rules g o x rules.TooManyRules r m = m
 no_rules g o x (rules.TooManyVars t) r m = m
@@ -191,7 +191,7 @@ module _ (g : Ground) (bytes : Text) where
     unread e y b same = told e y (bad_line e b) same
 
     module _ (t : ReadTexts) (read : AreTextsOf g x t) where
-      pub read_as : IsReadAs g bytes h.from x.grammar x.rule_grammar (read_texts t)
+      pub read_as : IsExtensionTextRead g bytes h.from x.grammar x.rule_grammar (read_texts t)
       read_as =
           let r = reader_of g x in
           let ts = read_texts t in
@@ -220,7 +220,7 @@ module _ (g : Ground) (bytes : Text) where
       has_table plain s = subst (λ (p : Parts). IsTableMade g.base (shapes_of p) (length g.shapes)
           g.table (read_texts t).plains (Ok plain)) parts_are s
 
-      pub bodied : HaveBodies g x t → HasBodies g h.from (read_texts t)
+      pub bodied : HaveBodies g x t → RulesHaveBodies g h.from (read_texts t)
       bodied s =
           subst (λ (ls : List RuleData). AreBodied g.forms
           (shapes_of (with_own g h.from.productions)) (length g.shapes) ls (read_texts t).rules
@@ -231,7 +231,7 @@ module _ (g : Ground) (bytes : Text) where
       no_set : (e : RuleError) (unbound : Option Text) → IsReason e →
           IsNoSet (shapes_of x.grammar.parts) g.forms (g.rules ++ (read_texts t).rules) e →
           unbound ≡ name_unbound (map (λ l. l.name) x.rules.items) (read_texts t).names e →
-          HasNoRuleSet g bytes e unbound
+          HasNoExtendedRuleSet g bytes e unbound
       no_set e unbound reason m called =
           let ts = read_texts t in
           let same : map (λ l. l.name) x.rules.items ≡ map (λ q. q.name) ts.rules =

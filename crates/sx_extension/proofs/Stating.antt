@@ -20,10 +20,10 @@ use Rattle.sx_extension.specs.declared.extension.ReadExtension.{ReadExtension}
 use Rattle.sx_extension.specs.declared.prepared.Prepared.{Prepared}
 use Rattle.sx_extension.specs.Checked.{HasCheckedRules, IsExtensionOf, IsReadFrom}
 use Rattle.sx_extension.specs.Fitting.{FitsAfter}
-use Rattle.sx_extension.specs.Grounds.{Ground, IsBefore}
+use Rattle.sx_extension.specs.Grounds.{Ground, IsGroundBefore}
 use Rattle.sx_extension.specs.ReadTexts.{read_texts, AreTextsOf}
 use Rattle.sx_extension.specs.Stages.{reader_of, IsPreparedExtension}
-use Rattle.sx_extension.specs.States.{IsReadAs, HasTable, IsExtensionIn}
+use Rattle.sx_extension.specs.States.{IsExtensionTextRead, HasTable, IsExtensionIn}
 use Rattle.sx_extension.proofs.Fitted.{prepared_fits}
 use Rattle.sx_extension.proofs.Refusing.{read_as, rule_set, has_table, bodied}
 
@@ -51,13 +51,13 @@ module _ (g : Ground) (x : Prepared) (c : CheckedTexts) (read : AreTextsOf g x c
         length-map c.texts.rules.bodies.items (option_map tree),
       )
 
-  module _ (before : IsBefore g) (checked : HasCheckedRules g x c.texts c.plain) (bytes : Text)
+  module _ (before : IsGroundBefore g) (checked : HasCheckedRules g x c.texts c.plain) (bytes : Text)
       (h : IsPreparedExtension g bytes x) (y : ReadExtension) (is : IsExtensionOf x c y) where
-    grammars : IsReadAs g bytes h.from y.grammar y.rule_grammar (read_texts c.texts)
+    grammars : IsExtensionTextRead g bytes h.from y.grammar y.rule_grammar (read_texts c.texts)
     grammars =
-        subst (λ (b : GrammarData). IsReadAs g bytes h.from y.grammar b (read_texts c.texts))
+        subst (λ (b : GrammarData). IsExtensionTextRead g bytes h.from y.grammar b (read_texts c.texts))
         (sym is.rule_grammar)
-        (subst (λ (b : GrammarData). IsReadAs g bytes h.from b x.rule_grammar (read_texts c.texts))
+        (subst (λ (b : GrammarData). IsExtensionTextRead g bytes h.from b x.rule_grammar (read_texts c.texts))
         (sym is.grammar) (read_as g bytes x h c.texts read))
 
     stated : IsExtensionIn g bytes y

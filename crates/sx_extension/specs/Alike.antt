@@ -9,12 +9,12 @@ use Rattle.sx_outline.specs.Stages.{PlainData}
 use Rattle.sx_outline.specs.ExtensionOutlined.{ExtensionOutlineData}
 use Rattle.sx_notation.specs.declared.notation_error.NotationError.{NotationError}
 use Rattle.sx_notation.specs.ReadText.{ReaderData}
-use Rattle.sx_language.specs.Alike.{HasThree, RulesHaveThree, ShowOthers}
+use Rattle.sx_language.specs.Alike.{LineHasThree, RulesHaveThree, LineShowsOthers}
 use Rattle.sx_language.specs.RuleLine.{Reader}
 use Rattle.sx_extension.specs.declared.extension_error.ExtensionError.{ExtensionError}
 use Rattle.sx_extension.specs.declared.extension_error.ExtensionError.TheVariants.{Notation}
 use Rattle.sx_extension.specs.Grounds.{Ground}
-use Rattle.sx_extension.specs.Readings.{with_own, IsProduction, IsReadable, tables}
+use Rattle.sx_extension.specs.Readings.{with_own, IsProduction, IsExtensionReadable, tables}
 
 -- the line of the plain body has this number, and more than two readings as the sort of its
 -- production
@@ -23,7 +23,7 @@ pub record PlainHasThree (p : Parts) (r : ReaderData) (l : PlainData) (number : 
   pub sort : Sort
   pub made_by : IsProduction p l.label label sort
   pub is : l.body.number ≡ number
-  pub three : HasThree r.parts r.stems sort l.body.text
+  pub three : LineHasThree r.parts r.stems sort l.body.text
 
 -- so it is of the line of one of these plain bodies
 abbrev pub PlainsHaveThree : Parts → ReaderData → List PlainData → (number : ℕ) → Type 0
@@ -40,7 +40,7 @@ pub record ExtensionHasThree (g : Ground) (bytes : Text) (number : ℕ) : Type 0
   pub grammar : GrammarData
   pub by_rules : GrammarData
   pub reader : Reader
-  pub readable : IsReadable g bytes outline grammar by_rules reader
+  pub readable : IsExtensionReadable g bytes outline grammar by_rules reader
   pub three : TextsHaveThree (with_own g outline.productions) reader outline number
 
 -- both say that a line has more than one reading, and show two of them; it has more than two
@@ -49,4 +49,4 @@ pub record ShowOtherReadings (g : Ground) (bytes : Text) (e d : ExtensionError) 
   pub other : NotationError
   pub first : e ≡ Notation one
   pub second : d ≡ Notation other
-  pub shown : ShowOthers (ExtensionHasThree g bytes) one other
+  pub shown : LineShowsOthers (ExtensionHasThree g bytes) one other

@@ -28,12 +28,12 @@ IsBodied shapes first (Some sort) (Some line) None = ⊥
 IsBodied shapes first (Some sort) (Some line) (Some t) = HasOwn shapes first t → ⊥
 
 -- this is wrong with the body
-abbrev pub HasDefect : List Shape → (first : ℕ) → (subject : Option Sort) → Option Numbered →
+abbrev pub BodyHasDefect : List Shape → (first : ℕ) → (subject : Option Sort) → Option Numbered →
     Option Tree → BodyDefect → Type 0
-HasDefect shapes first (Some sort) line body NoBody = line ≡ None
-HasDefect shapes first None (Some line) body BodySort = Unit {0}
-HasDefect shapes first (Some sort) (Some line) (Some t) BodyExtended = HasOwn shapes first t
-HasDefect shapes first _ _ _ _ = ⊥
+BodyHasDefect shapes first (Some sort) line body NoBody = line ≡ None
+BodyHasDefect shapes first None (Some line) body BodySort = Unit {0}
+BodyHasDefect shapes first (Some sort) (Some line) (Some t) BodyExtended = HasOwn shapes first t
+BodyHasDefect shapes first _ _ _ _ = ⊥
 
 -- the sort of the subject of the rule's conclusion, if it has one
 abbrev pub subject_of : List FormData → NamedRule → Option Sort
@@ -59,7 +59,7 @@ AreBodied forms shapes first _ _ _ = Unit {0}
 abbrev pub IsFirstDefect : List FormData → List Shape → (first : ℕ) → List RuleData →
     List NamedRule → List (Option Tree) → ℕ → BodyDefect → Type 0
 IsFirstDefect forms shapes first (l ∷ ls) (q ∷ qs) (b ∷ bs) zero d =
-    HasDefect shapes first (subject_of forms q) l.body b d
+    BodyHasDefect shapes first (subject_of forms q) l.body b d
 IsFirstDefect forms shapes first (l ∷ ls) (q ∷ qs) (b ∷ bs) (suc n) d =
     IsBodied shapes first (subject_of forms q) l.body b ×
     IsFirstDefect forms shapes first ls qs bs n d

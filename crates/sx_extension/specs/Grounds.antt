@@ -52,7 +52,7 @@ ground b = record {
 }
 
 -- the forms, and the grammar of rules, are of these lines, whose sorts the language has
-pub record HasForms (g : Ground) (lines : List FormLine) : Type 0 where
+pub record GroundHasForms (g : Ground) (lines : List FormLine) : Type 0 where
   pub read_by : g.by_rules ≡ rule_parts g.grammar.parts lines
   pub forms : g.forms ≡ map (form_of g.language) lines
   pub known : HaveSortsOf g.language lines
@@ -66,12 +66,12 @@ pub record HasRoomFor (g : Ground) (files : ℕ) : Type 0 where
 -- The grammar goes on from that of the language, whose productions are base, with one sort of
 -- judgements and the forms of the language for its rules. The rules have its constructors and the
 -- language's forms, and the plain table is for these constructors. There is room for one file more.
-pub record IsBefore (g : Ground) : Type 0 where
+pub record IsGroundBefore (g : Ground) : Type 0 where
   pub more : List Line
   pub goes_on : g.grammar.parts ≡ extended g.language more
   pub base : g.grammar.base ≡ length g.language.productions
   pub lines : List FormLine
-  pub forms : HasForms g lines
+  pub forms : GroundHasForms g lines
   pub fit : AllByRecursion FormFits g.forms
   pub vars : List VarLine
   pub stems : AreStems g.language vars g.stems

@@ -14,7 +14,7 @@ use Rattle.sx_extension.specs.declared.extension_error.ExtensionError.TheVariant
 use Rattle.sx_extension.specs.declared.extension.ReadExtension.{ReadExtension}
 use Rattle.sx_extension.specs.Alike.{ShowOtherReadings}
 use Rattle.sx_extension.specs.Fitting.{FitsAfter}
-use Rattle.sx_extension.specs.Grounds.{Ground, HasRoomFor, IsBefore}
+use Rattle.sx_extension.specs.Grounds.{Ground, HasRoomFor, IsGroundBefore}
 use Rattle.sx_extension.specs.States.{IsExtensionIn, IsExtensionTextRefused}
 use Rattle.sx_term.specs.Limits.{most_bytes}
 
@@ -83,16 +83,16 @@ next_ground g x = record {
 -- after a language that a text states extensions can be read, as many as 8,190
 pub record LanguagesBegin : Type 0 where
   pub before : (name bytes : Text) (l : Language) → StatesLanguage name bytes l → IsLanguage l →
-      length bytes ≤ most_bytes → IsBefore (first_ground l)
+      length bytes ≤ most_bytes → IsGroundBefore (first_ground l)
   pub room : (name bytes : Text) (l : Language) (files : ℕ) → StatesLanguage name bytes l →
       length bytes ≤ most_bytes → files ≤ 8190 → HasRoomFor (first_ground l) files
 
 -- After an extension that is read and fits the next one can be read, where there is room, and each
 -- file takes the room of one. Extensions that are the same are one to those after them.
 pub record ExtensionsGoOn : Type 0 where
-  pub before : (g : Ground) (bytes : Text) (x : ReadExtension) → IsBefore g →
+  pub before : (g : Ground) (bytes : Text) (x : ReadExtension) → IsGroundBefore g →
       IsExtensionIn g bytes x →
-      FitsAfter g x → HasRoomFor (next_ground g x) 1 → IsBefore (next_ground g x)
+      FitsAfter g x → HasRoomFor (next_ground g x) 1 → IsGroundBefore (next_ground g x)
   pub room : (g : Ground) (x : ReadExtension) (files more : ℕ) → FitsAfter g x → files < more →
       HasRoomFor g more → HasRoomFor (next_ground g x) files
   pub same : (g : Ground) (x y : ReadExtension) → SameExtension x y →

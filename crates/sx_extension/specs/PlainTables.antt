@@ -45,7 +45,8 @@ HasAll shapes first table =
     (label : ℕ) → first ≤ label → IsPlainLabel shapes label → IsSome (table label)
 
 -- this plain constructor is the first from the number on that has no entry
-pub record IsFirstWithout (shapes : List Shape) (first : ℕ) (table : Table) (label : ℕ) : Type 0
+pub record IsFirstWithoutEntry (shapes : List Shape) (first : ℕ) (table : Table)
+    (label : ℕ) : Type 0
   where
     pub new : first ≤ label
     pub lacks : LacksEntry shapes table label
@@ -53,20 +54,21 @@ pub record IsFirstWithout (shapes : List Shape) (first : ℕ) (table : Table) (l
         IsSome (table other)
 
 -- memory aside
-abbrev pub IsReason : PlainError → Type 0
-IsReason plain.Memory = ⊥
-IsReason _ = Unit {0}
+abbrev pub IsPlainReason : PlainError → Type 0
+IsPlainReason plain.Memory = ⊥
+IsPlainReason _ = Unit {0}
 
 -- the refusal of the body with this number
 abbrev pub IsTableRefusal : ℕ → PlainError → TableError → Type 0
 IsTableRefusal number e Memory = e ≡ plain.Memory
-IsTableRefusal number e (Plain n x) = IsReason e × (n ≡ number) × (x ≡ e)
+IsTableRefusal number e (Plain n x) = IsPlainReason e × (n ≡ number) × (x ≡ e)
 IsTableRefusal number e (NoPlain label) = ⊥
 
 -- memory is lacking, or this is the first body that is refused
 abbrev pub IsNotAdded : ℕ → Table → List BodyData → TableError → Type 0
 IsNotAdded base old bodies Memory = Unit {0}
-IsNotAdded base old bodies (Plain number e) = IsReason e × IsFirstRefused base old bodies number e
+IsNotAdded base old bodies (Plain number e) = IsPlainReason e
+    × IsFirstRefused base old bodies number e
 IsNotAdded base old bodies (NoPlain label) = ⊥
 
 -- the table with the bodies, which has an entry for each plain constructor from the number on; or
@@ -77,5 +79,5 @@ IsTableMade base shapes first old bodies (Ok table) =
     (table.base ≡ base) × AddsAll base old bodies (table_of table) ×
     HasAll shapes first (table_of table)
 IsTableMade base shapes first old bodies (Err (NoPlain label)) =
-    (table : Table) × AddsAll base old bodies table × IsFirstWithout shapes first table label
+    (table : Table) × AddsAll base old bodies table × IsFirstWithoutEntry shapes first table label
 IsTableMade base shapes first old bodies (Err e) = IsNotAdded base old bodies e

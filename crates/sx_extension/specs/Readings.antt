@@ -22,7 +22,7 @@ use Rattle.sx_notation.specs.ReadAmong.{IsReadAmong, IsRefusedAmong}
 use Rattle.sx_language.specs.RuleLine.{Reader}
 use Rattle.sx_language.specs.RuleTexts.{AreRules, IsFirstBadRule}
 use Rattle.sx_language.specs.States.{AreStems, IsNoGrammar}
-use Rattle.sx_extension.specs.Grounds.{Ground, HasForms}
+use Rattle.sx_extension.specs.Grounds.{Ground, GroundHasForms}
 use Rattle.sx_extension.specs.PlainBodies.{BodyData}
 
 -- the text has this outline, after the stems of the language
@@ -46,7 +46,7 @@ with_own g own = extended g.grammar.parts own
 pub record AreGrammars (g : Ground) (own : List Line) (grammar by_rules : GrammarData) : Type 0
   where
     pub lines : List FormLine
-    pub has_forms : HasForms g lines
+    pub has_forms : GroundHasForms g lines
     pub parts : grammar.parts ≡ with_own g own
     pub base : grammar.base ≡ g.grammar.base
     pub is_grammar : IsGrammar (with_own g own)
@@ -58,11 +58,11 @@ pub record AreGrammars (g : Ground) (own : List Line) (grammar by_rules : Gramma
 abbrev pub AreNoGrammars : Ground → List Line → GrammarError → Type 0
 AreNoGrammars g own e =
     IsNoGrammar (with_own g own) e
-    ⊎ (IsGrammar (with_own g own) × ((lines : List FormLine) × HasForms g lines ×
+    ⊎ (IsGrammar (with_own g own) × ((lines : List FormLine) × GroundHasForms g lines ×
     IsNoGrammar (rule_parts (with_own g own) lines) e))
 
 -- the text has this outline and these grammars, and its lines are read by this
-pub record IsReadable (g : Ground) (bytes : Text) (o : ExtensionOutlineData)
+pub record IsExtensionReadable (g : Ground) (bytes : Text) (o : ExtensionOutlineData)
     (grammar by_rules : GrammarData) (r : Reader) : Type 0 where
   pub outlined : HasOutline g bytes o
   pub grammars : AreGrammars g o.productions grammar by_rules
@@ -114,7 +114,8 @@ abbrev pub tables : Reader → ReaderData
 tables r = record { parts = r.parts; stems = r.stems }
 
 -- the lines of the outline state the plain bodies and the rules
-pub record AreRead (p : Parts) (r : Reader) (o : ExtensionOutlineData) (x : Texts) : Type 0 where
+pub record AreTextsRead (p : Parts) (r : Reader) (o : ExtensionOutlineData)
+    (x : Texts) : Type 0 where
   pub plains : ArePlainsRead p (tables r) o.plains x.plains
   pub rules : AreRules r o.rules x.names x.rules x.bodies
 

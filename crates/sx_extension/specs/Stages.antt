@@ -39,16 +39,16 @@ use Rattle.sx_extension.specs.declared.table_error.TableError.{TableError}
 use Rattle.sx_extension.specs.PlainBodies.{BodyData}
 use Rattle.sx_extension.specs.PlainTables.{IsTableMade}
 use Rattle.sx_extension.specs.TableRefusals.{IsTableRefusal}
-use Rattle.sx_extension.specs.Grounds.{Ground, HasForms}
+use Rattle.sx_extension.specs.Grounds.{Ground, GroundHasForms}
 use Rattle.sx_extension.specs.Readings.{HasOutline, HasNoOutline, with_own, AreNoGrammars}
-use Rattle.sx_extension.specs.Readings.{IsReadable, tables}
+use Rattle.sx_extension.specs.Readings.{IsExtensionReadable, tables}
 use Rattle.sx_term.specs.Limits.{most_bytes}
 
 -- the productions of the extension are no more than grammars have room for
 pub record HasRoom (g : Ground) (own : List Line) : Type 0 where
   pub few : length (with_own g own).productions < 2 ^ 32 - 1
   pub limits : IsWithinLimits (with_own g own)
-  pub rule_limits : (lines : List FormLine) → HasForms g lines →
+  pub rule_limits : (lines : List FormLine) → GroundHasForms g lines →
       IsWithinLimits (rule_parts (with_own g own) lines)
 
 -- the extension has at most 262,144 productions and literals in all
@@ -121,7 +121,7 @@ pub record CanReadTexts (g : Ground) (x : Prepared) : Type 0 where
 -- their parts, and this is made of it
 pub record IsPreparedExtension (g : Ground) (bytes : Text) (x : Prepared) : Type 0 where
   pub from : ExtensionOutlineData
-  pub readable : IsReadable g bytes from x.grammar x.rule_grammar (reader_of g x)
+  pub readable : IsExtensionReadable g bytes from x.grammar x.rule_grammar (reader_of g x)
   pub name : x.name ≡ from.header.name
   pub plains : map plain_data x.plains.items ≡ from.plains
   pub rules : map rule_data x.rules.items ≡ from.rules

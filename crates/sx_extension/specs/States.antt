@@ -27,15 +27,15 @@ use Rattle.sx_extension.specs.BodyRefusals.{HaveBadBody}
 use Rattle.sx_extension.specs.Grounds.{Ground}
 use Rattle.sx_extension.specs.PlainTables.{IsTableMade}
 use Rattle.sx_extension.specs.Readings.{HasOutline, HasNoOutline, with_own, AreNoGrammars}
-use Rattle.sx_extension.specs.Readings.{IsReadable, Texts, AreRead, IsBadText}
+use Rattle.sx_extension.specs.Readings.{IsExtensionReadable, Texts, AreTextsRead, IsBadText}
 use Rattle.sx_extension.specs.Stages.{IsNoTable}
 
 -- the text has this outline and these grammars, and its lines state these texts
-pub record IsReadAs (g : Ground) (bytes : Text) (o : ExtensionOutlineData)
+pub record IsExtensionTextRead (g : Ground) (bytes : Text) (o : ExtensionOutlineData)
     (grammar by_rules : GrammarData) (x : Texts) : Type 0 where
   pub reader : Reader
-  pub readable : IsReadable g bytes o grammar by_rules reader
-  pub read : AreRead (with_own g o.productions) reader o x
+  pub readable : IsExtensionReadable g bytes o grammar by_rules reader
+  pub read : AreTextsRead (with_own g o.productions) reader o x
 
 -- the rules before the extension, and then its own, are a rule set
 abbrev pub HasRuleSet : Ground → ExtensionOutlineData → Texts → Type 0
@@ -47,22 +47,22 @@ HasTable g o x t = IsTableMade g.base (shapes_of (with_own g o.productions)) (le
     g.table x.plains (Ok t)
 
 -- each rule has its body as it should
-abbrev pub HasBodies : Ground → ExtensionOutlineData → Texts → Type 0
-HasBodies g o x = AreBodied g.forms (shapes_of (with_own g o.productions)) (length g.shapes)
+abbrev pub RulesHaveBodies : Ground → ExtensionOutlineData → Texts → Type 0
+RulesHaveBodies g o x = AreBodied g.forms (shapes_of (with_own g o.productions)) (length g.shapes)
     o.rules x.rules x.bodies
 
 -- the text states the extension
 pub record IsExtensionIn (g : Ground) (bytes : Text) (x : ReadExtension) : Type 0 where
   pub outline : ExtensionOutlineData
   pub texts : Texts
-  pub read : IsReadAs g bytes outline x.grammar x.rule_grammar texts
+  pub read : IsExtensionTextRead g bytes outline x.grammar x.rule_grammar texts
   pub name : x.extension.name ≡ outline.header.name
   pub rules : named_rules x.extension ≡ texts.rules
   pub bodies : map (λ e. option_map tree e.body) x.extension.rules.items ≡ texts.bodies
   pub names : x.names.items ≡ texts.names
   pub rule_set : HasRuleSet g outline texts
   pub table : HasTable g outline texts x.extension.plain
-  pub bodied : HasBodies g outline texts
+  pub bodied : RulesHaveBodies g outline texts
 
 -- the text has its grammars, and the first bad line of its plain pairs and rules is refused
 pub record HasBadText (g : Ground) (bytes : Text) (e : NotationError) : Type 0 where
@@ -70,7 +70,7 @@ pub record HasBadText (g : Ground) (bytes : Text) (e : NotationError) : Type 0 w
   pub grammar : GrammarData
   pub by_rules : GrammarData
   pub reader : Reader
-  pub readable : IsReadable g bytes outline grammar by_rules reader
+  pub readable : IsExtensionReadable g bytes outline grammar by_rules reader
   pub refused : IsBadText (with_own g outline.productions) reader outline e
 
 -- the text has an outline, and the first of its grammars that is none is refused
@@ -84,21 +84,22 @@ pub record HasTexts (g : Ground) (bytes : Text) (o : ExtensionOutlineData) (x : 
   where
     pub grammar : GrammarData
     pub by_rules : GrammarData
-    pub read : IsReadAs g bytes o grammar by_rules x
+    pub read : IsExtensionTextRead g bytes o grammar by_rules x
 
 -- why the rules are no rule set
-abbrev pub IsNoRules : Ground → ExtensionOutlineData → Texts → RuleError → Type 0
-IsNoRules g o x rules.Memory = ⊥
-IsNoRules g o x e = IsNoRuleSet (shapes_of (with_own g o.productions)) g.forms
+abbrev pub IsNoExtendedRules : Ground → ExtensionOutlineData → Texts → RuleError → Type 0
+IsNoExtendedRules g o x rules.Memory = ⊥
+IsNoExtendedRules g o x e = IsNoRuleSet (shapes_of (with_own g o.productions)) g.forms
     (g.rules ++ x.rules) e
 
 -- the lines are read, and the rules are no rule set
-pub record HasNoRuleSet (g : Ground) (bytes : Text) (e : RuleError) (unbound : Option Text) :
+pub record HasNoExtendedRuleSet (g : Ground) (bytes : Text) (e : RuleError)
+    (unbound : Option Text) :
     Type 0 where
   pub outline : ExtensionOutlineData
   pub texts : Texts
   pub read : HasTexts g bytes outline texts
-  pub refused : IsNoRules g outline texts e
+  pub refused : IsNoExtendedRules g outline texts e
   pub named : unbound ≡ name_unbound (map (λ q. q.name) texts.rules) texts.names e
 
 -- there is a rule set, and the plain bodies make no table
@@ -129,7 +130,7 @@ IsBadNotation g bytes (Notation line kind) =
 IsBadNotation g bytes (Token line e) = HasBadText g bytes (Token line e)
 IsBadNotation g bytes (Grammar e) = HasNoGrammars g bytes e
 IsBadNotation g bytes (Read line e) = HasBadText g bytes (Read line e)
-IsBadNotation g bytes (Rules e unbound) = HasNoRuleSet g bytes e unbound
+IsBadNotation g bytes (Rules e unbound) = HasNoExtendedRuleSet g bytes e unbound
 
 -- why the text states no extension, out of memory aside
 abbrev pub IsExtensionTextRefused : Ground → Text → ExtensionError → Type 0

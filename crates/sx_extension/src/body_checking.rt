@@ -10,7 +10,7 @@ ghost use Rattle.sx_term.specs.Shapes.{shapes};
 ghost use Rattle.sx_rules.specs.Views as view;
 ghost use Rattle.sx_outline.specs.Stages.{numbered_rule_line, rule_data};
 ghost use Rattle.sx_language.specs.RuleLine.{subject_sort};
-ghost use Rattle.sx_extension.specs.Bodies.{IsReadBody, IsBodied, HasDefect, AreReadBodies};
+ghost use Rattle.sx_extension.specs.Bodies.{IsReadBody, IsBodied, BodyHasDefect, AreReadBodies};
 ghost use Rattle.sx_extension.specs.Bodies.{AreBodied, IsFirstDefect};
 ghost use Rattle.sx_term.specs.Limits.{most_depth};
 
@@ -49,7 +49,7 @@ fn body_defect(
         (IsBodied (shapes own.now.shapes.now) own.now.first subject
         (option_map numbered_rule_line line.now)
         (option_map tree body.now))
-        (HasDefect (shapes own.now.shapes.now) own.now.first subject
+        (BodyHasDefect (shapes own.now.shapes.now) own.now.first subject
         (option_map numbered_rule_line line.now) (option_map tree body.now)) }
 {
     if !has_subject {

@@ -1,7 +1,7 @@
 //! Checking an extension whose texts are read.
 
 ghost use Rattle.std.specs.Prelude.{ℕ, List, IfOk, IfErr};
-ghost use Rattle.sx_extension.specs.Grounds.{ground, IsBefore};
+ghost use Rattle.sx_extension.specs.Grounds.{ground, IsGroundBefore};
 ghost use Rattle.sx_extension.specs.Stages.{IsPreparedExtension};
 ghost use Rattle.sx_extension.specs.ReadTexts.{AreTextsOf};
 ghost use Rattle.sx_extension.specs.Checks.{HaveBodies, HaveBodyDefect};
@@ -43,7 +43,7 @@ pub(crate) fn check_extension(
     prepared: &Prepared,
     texts: &ReadTexts,
 ) -> Result<PlainTable, ExtensionError>
-    requires before { IsBefore (ground before.now) }
+    requires before { IsGroundBefore (ground before.now) }
     requires prepared { (bytes : List ℕ) × IsPreparedExtension
         (ground before.now) bytes prepared.now }
     requires texts { AreTextsOf (ground before.now) prepared.now texts.now }

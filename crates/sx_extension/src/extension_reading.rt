@@ -1,7 +1,7 @@
 //! Reading an extension file.
 
 ghost use Rattle.std.specs.Prelude.{◌≡◌, ◌≤◌, ℕ, List, length, IfOk, IfErr};
-ghost use Rattle.sx_extension.specs.Grounds.{ground, IsBefore};
+ghost use Rattle.sx_extension.specs.Grounds.{ground, IsGroundBefore};
 ghost use Rattle.sx_extension.specs.Stages.{IsPreparedExtension};
 ghost use Rattle.sx_extension.specs.ReadTexts.{AreTextsOf};
 ghost use Rattle.sx_extension.specs.Checked.{HasCheckedRules, IsExtensionOf, IsReadFrom};
@@ -32,7 +32,7 @@ fn read_checked(
     before: &Before,
     prepared: &Prepared,
 ) -> Result<CheckedTexts, ExtensionError>
-    requires before { IsBefore (ground before.now) }
+    requires before { IsGroundBefore (ground before.now) }
     requires prepared { (bytes : List ℕ) × IsPreparedExtension
         (ground before.now) bytes prepared.now }
     ensures read { IfOk result (λ x. AreTextsOf (ground before.now) prepared.now x.texts) }
@@ -110,7 +110,7 @@ fn read_prepared(
     before: &Before,
     prepared: Prepared,
 ) -> Result<ReadExtension, ExtensionError>
-    requires before { IsBefore (ground before.now) }
+    requires before { IsGroundBefore (ground before.now) }
     requires prepared { (bytes : List ℕ) × IsPreparedExtension (ground before.now) bytes prepared }
     ensures read { (bytes : List ℕ) → IsPreparedExtension (ground before.now) bytes prepared →
         IfOk result (IsReadFrom (ground before.now) bytes) }
@@ -139,7 +139,7 @@ pub fn read_extension(
     before: &Before,
     bytes: &[u8],
 ) -> Result<ReadExtension, ExtensionError>
-    requires before { IsBefore (ground before.now) }
+    requires before { IsGroundBefore (ground before.now) }
     requires short { length bytes.now ≤ most_bytes }
     ensures stated { IfOk result (IsExtensionIn (ground before.now) bytes.now) }
     ensures fits { IfOk result (FitsAfter (ground before.now)) }

@@ -3,7 +3,7 @@
 ghost use Rattle.std.specs.Prelude.{map, IfOk, IfErr};
 ghost use Rattle.sx_grammar.specs.Parts.{line};
 ghost use Rattle.sx_language.specs.Prepared.{IsGrammarRefusal};
-ghost use Rattle.sx_extension.specs.Grounds.{ground, IsBefore};
+ghost use Rattle.sx_extension.specs.Grounds.{ground, IsGroundBefore};
 ghost use Rattle.sx_extension.specs.Readings.{AreGrammars};
 ghost use Rattle.sx_extension.specs.Stages.{HasRoom, IsUngrammatical};
 
@@ -36,7 +36,7 @@ pub(crate) fn make_grammars(
     before: &Before,
     own: Vec<Production>,
 ) -> Result<Grammars, NotationError>
-    requires before { IsBefore (ground before.now) }
+    requires before { IsGroundBefore (ground before.now) }
     requires room { HasRoom (ground before.now) (map line own.items) }
     ensures made { IfOk result (λ x.
         AreGrammars (ground before.now) (map line own.items) x.grammar x.rule_grammar) }

@@ -4,7 +4,7 @@ ghost use Rattle.std.specs.Prelude.{map, IfOk, IfErr};
 ghost use Rattle.std.specs.List.{AllByRecursion};
 ghost use Rattle.sx_grammar.specs.Parts.{line};
 ghost use Rattle.sx_language.specs.States.{IsNameOfSort, AreStems};
-ghost use Rattle.sx_extension.specs.Grounds.{ground, IsBefore};
+ghost use Rattle.sx_extension.specs.Grounds.{ground, IsGroundBefore};
 ghost use Rattle.sx_extension.specs.Readings.{AreGrammars};
 ghost use Rattle.sx_extension.specs.Stages.{HasRoom, IsUngrammatical};
 
@@ -32,7 +32,7 @@ pub(crate) fn make_tables(
     own: Vec<Production>,
     vars: &[VarLine],
 ) -> Result<OwnTables, NotationError>
-    requires before { IsBefore (ground before.now) }
+    requires before { IsGroundBefore (ground before.now) }
     requires room { HasRoom (ground before.now) (map line own.items) }
     requires sorts { AllByRecursion (λ v. IsNameOfSort (ground before.now).language v.sort)
         vars.now }

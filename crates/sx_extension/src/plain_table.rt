@@ -10,7 +10,7 @@ ghost use Rattle.sx_plain.specs.Adds.{IsBodyAdded};
 ghost use Rattle.sx_plain.specs.Views.{table_of};
 ghost use Rattle.sx_extension.specs.PlainBodies.{body_data, IsBodyOf};
 ghost use Rattle.sx_extension.specs.PlainTables.{AddsAll, IsPlainLabel, LacksEntry, HasAll};
-ghost use Rattle.sx_extension.specs.PlainTables.{IsFirstWithout, IsTableRefusal, IsNotAdded};
+ghost use Rattle.sx_extension.specs.PlainTables.{IsFirstWithoutEntry, IsTableRefusal, IsNotAdded};
 ghost use Rattle.sx_extension.specs.PlainTables.{IsTableMade};
 
 use crate::layers::Layers;
@@ -119,7 +119,7 @@ fn lacks_entry(all: &Shapes, table: &PlainTable, label: usize) -> bool
 fn first_without(all: &Shapes, first: usize, table: &PlainTable) -> Option<u32>
     requires { length (shapes all.now) < 2 ^ 32 }
     ensures { MatchOption result (HasAll (shapes all.now) first (table_of table.now))
-        (IsFirstWithout (shapes all.now) first (table_of table.now)) }
+        (IsFirstWithoutEntry (shapes all.now) first (table_of table.now)) }
 {
     for label in first..all.cons.len() {
         if lacks_entry(all, table, label) {

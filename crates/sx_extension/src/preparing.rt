@@ -1,7 +1,7 @@
 //! Reading an extension file before its texts are read.
 
 ghost use Rattle.std.specs.Prelude.{◌≡◌, ◌≤◌, length, IfOk, IfErr};
-ghost use Rattle.sx_extension.specs.Grounds.{ground, IsBefore};
+ghost use Rattle.sx_extension.specs.Grounds.{ground, IsGroundBefore};
 ghost use Rattle.sx_language.specs.States.{AreStems};
 ghost use Rattle.sx_extension.specs.Stages.{IsOutlineRefusal, IsUsableExtension, IsUnoutlined};
 ghost use Rattle.sx_extension.specs.Stages.{IsPreparedExtension};
@@ -37,7 +37,7 @@ fn outline_after(
     vars: &[VarLine],
     bytes: &[u8],
 ) -> Result<ExtensionOutline, NotationError>
-    requires before { IsBefore (ground before.now) }
+    requires before { IsGroundBefore (ground before.now) }
     requires stems { AreStems (ground before.now).language vars.now (ground before.now).stems }
     requires short { length bytes.now ≤ most_bytes }
     ensures usable { IfOk result (IsUsableExtension (ground before.now) bytes.now) }
@@ -58,7 +58,7 @@ fn outline_of(
     before: &Before,
     bytes: &[u8],
 ) -> Result<ExtensionOutline, NotationError>
-    requires before { IsBefore (ground before.now) }
+    requires before { IsGroundBefore (ground before.now) }
     requires short { length bytes.now ≤ most_bytes }
     ensures usable { IfOk result (IsUsableExtension (ground before.now) bytes.now) }
     ensures refused { IfErr result (IsUnoutlined (ground before.now) bytes.now) }
@@ -90,7 +90,7 @@ pub(crate) fn prepare(
     before: &Before,
     bytes: &[u8],
 ) -> Result<Prepared, NotationError>
-    requires before { IsBefore (ground before.now) }
+    requires before { IsGroundBefore (ground before.now) }
     requires short { length bytes.now ≤ most_bytes }
     ensures prepared { IfOk result (IsPreparedExtension (ground before.now) bytes.now) }
     ensures refused { IfErr result (IsUnprepared (ground before.now) bytes.now) }

@@ -9,7 +9,7 @@ ghost use Rattle.sx_plain.specs.Views.{table_of};
 ghost use Rattle.sx_outline.specs.Stages.{plain_data};
 ghost use Rattle.sx_extension.specs.PlainBodies.{body_data, IsBodyOf};
 ghost use Rattle.sx_extension.specs.PlainTables.{IsTableMade};
-ghost use Rattle.sx_extension.specs.Grounds.{ground, IsBefore};
+ghost use Rattle.sx_extension.specs.Grounds.{ground, IsGroundBefore};
 ghost use Rattle.sx_extension.specs.TableRefusals.{HaveParts};
 ghost use Rattle.sx_extension.specs.Stages.{IsNoTable};
 
@@ -33,7 +33,7 @@ pub(crate) fn make_table(
     prepared: &Prepared,
     plains: &[PlainBody],
 ) -> Result<PlainTable, ExtensionError>
-    requires before { IsBefore (ground before.now) }
+    requires before { IsGroundBefore (ground before.now) }
     requires all { shapes all.now ≡ shapes_of prepared.now.grammar.parts }
     requires few { length (shapes all.now) < 2 ^ 32 }
     requires begins { Begins (ground before.now).shapes (shapes all.now) }

@@ -5,7 +5,7 @@ ghost use Rattle.sx_term.specs.Shapes.{shapes};
 ghost use Rattle.sx_grammar.specs.Told.{shapes_of};
 ghost use Rattle.sx_plain.specs.Tables.{Desugars};
 ghost use Rattle.sx_plain.specs.Views.{table_of};
-ghost use Rattle.sx_extension.specs.Grounds.{ground, IsBefore};
+ghost use Rattle.sx_extension.specs.Grounds.{ground, IsGroundBefore};
 ghost use Rattle.sx_extension.specs.Stages.{IsPreparedExtension};
 ghost use Rattle.sx_extension.specs.ReadTexts.{AreTextsOf};
 ghost use Rattle.sx_extension.specs.Checks.{IsNotationRefusal, HaveRuleSet, HaveTable};
@@ -40,7 +40,7 @@ fn check_by(
     prepared: &Prepared,
     texts: &ReadTexts,
 ) -> Result<PlainTable, ExtensionError>
-    requires before { IsBefore (ground before.now) }
+    requires before { IsGroundBefore (ground before.now) }
     requires all { shapes all.now ≡ shapes_of prepared.now.grammar.parts }
     requires prepared { (bytes : List ℕ) × IsPreparedExtension
         (ground before.now) bytes prepared.now }
@@ -69,7 +69,7 @@ pub(crate) fn check_texts(
     prepared: &Prepared,
     texts: &ReadTexts,
 ) -> Result<PlainTable, ExtensionError>
-    requires before { IsBefore (ground before.now) }
+    requires before { IsGroundBefore (ground before.now) }
     requires prepared { (bytes : List ℕ) × IsPreparedExtension
         (ground before.now) bytes prepared.now }
     requires texts { AreTextsOf (ground before.now) prepared.now texts.now }

@@ -21,7 +21,7 @@ use Rattle.sx_forest.specs.Rows.{IsPlaceRow, entries_at}
 use Rattle.sx_forest.specs.Tallies.{tally_of}
 use Rattle.sx_forest.specs.Forests.{grammar_in, tokens_in, lists_in, symbols_in, symbols_of}
 use Rattle.sx_forest.specs.Forests.{row_from, depth_in, IsMore, IsForest, IsOpened, IsAt, IsReadTo}
-use Rattle.sx_forest.specs.Forests.{IsItemStep, IsOver, IsBy, IsForkOf, IsThere, IsForkAt, IsMoreAt}
+use Rattle.sx_forest.specs.Forests.{IsItemStep, GoesOver, IsBy, IsForkOf, IsThere, IsForkAt, IsMoreAt}
 use Rattle.sx_forest.specs.Forests.{IsParting, IsFirstUsable, end_of, one_of, other_of, followed}
 use Rattle.sx_forest.proofs.Usable.{more_times, goes_on}
 use Rattle.sx_forest.proofs.Following.{same_behind, followed_twice, first_in, one_more_kid}
@@ -64,14 +64,14 @@ module _ (f : Forest) (forest : IsForest f) (o : Opened) (opened : IsOpened (gra
   -- over a literal
   pub more_over_literal : (dot place : ℕ) (step : Step) → step ≡ steps.Literal → IsAt (grammar_in f) (tokens_in f) f.start o dot place → IsItemStep (grammar_in f) (tokens_in f) f.start (lists_in f) o dot place step →
       IsMoreAt (grammar_in f) o dot place → IsMoreAt (grammar_in f) o (suc dot) (end_of step place)
-  more_over_literal dot place step e at step_is more = rw e (by_symbol step_is.symbol step_is.is (subst (λ s. IsOver (grammar_in f) (tokens_in f) (lists_in f) (row_from (grammar_in f) o (suc dot)) place step_is.symbol s) e step_is.over))
+  more_over_literal dot place step e at step_is more = rw e (by_symbol step_is.symbol step_is.is (subst (λ s. GoesOver (grammar_in f) (tokens_in f) (lists_in f) (row_from (grammar_in f) o (suc dot)) place step_is.symbol s) e step_is.over))
     where
       by_place : (text : List ℕ) → IsPlaceRow (grammar_in f) (tokens_in f) (entries_at (lists_in f) place) (literal text) place (row_from (grammar_in f) o (suc dot)) ((row_from (grammar_in f) o dot) place) →
           IsMoreAt (grammar_in f) o (suc dot) (suc place)
       by_place text (inl h) = subst IsMore h.1 more
       by_place text (inr h) = absurd (subst IsMore h.1 more)
 
-      by_symbol : (x : Symbol) → slice_get (symbols_of (grammar_in f) o.head) dot ≡ Some x → IsOver (grammar_in f) (tokens_in f) (lists_in f) (row_from (grammar_in f) o (suc dot)) place x steps.Literal →
+      by_symbol : (x : Symbol) → slice_get (symbols_of (grammar_in f) o.head) dot ≡ Some x → GoesOver (grammar_in f) (tokens_in f) (lists_in f) (row_from (grammar_in f) o (suc dot)) place x steps.Literal →
           IsMoreAt (grammar_in f) o (suc dot) (suc place)
       by_symbol (literal text) s h =
           by_place text (place_is (grammar_in f) (tokens_in f) f.start forest.levels forest.ranked.0 forest.ranked.1 (lists_in f) forest.full o opened dot place (literal text) s at)
@@ -81,7 +81,7 @@ module _ (f : Forest) (forest : IsForest f) (o : Opened) (opened : IsOpened (gra
   -- over a token
   pub more_over_token : (dot place : ℕ) (step : Step) → step ≡ steps.Token → IsAt (grammar_in f) (tokens_in f) f.start o dot place → IsItemStep (grammar_in f) (tokens_in f) f.start (lists_in f) o dot place step →
       IsMoreAt (grammar_in f) o dot place → IsMoreAt (grammar_in f) o (suc dot) (end_of step place)
-  more_over_token dot place step e at step_is more = rw e (by_symbol step_is.symbol step_is.is (subst (λ s. IsOver (grammar_in f) (tokens_in f) (lists_in f) (row_from (grammar_in f) o (suc dot)) place step_is.symbol s) e step_is.over))
+  more_over_token dot place step e at step_is more = rw e (by_symbol step_is.symbol step_is.is (subst (λ s. GoesOver (grammar_in f) (tokens_in f) (lists_in f) (row_from (grammar_in f) o (suc dot)) place step_is.symbol s) e step_is.over))
     where
       by_part : IsMore (one_way 1) ⊎ IsMoreAt (grammar_in f) o (suc dot) (suc place) → IsMoreAt (grammar_in f) o (suc dot) (suc place)
       by_part (inl h) = absurd h
@@ -92,7 +92,7 @@ module _ (f : Forest) (forest : IsForest f) (o : Opened) (opened : IsOpened (gra
       by_place kind (inl h) = by_part (more_times (one_way 1) ((row_from (grammar_in f) o (suc dot)) (suc place)) (subst IsMore h.1 more))
       by_place kind (inr h) = absurd (subst IsMore h.1 more)
 
-      by_symbol : (x : Symbol) → slice_get (symbols_of (grammar_in f) o.head) dot ≡ Some x → IsOver (grammar_in f) (tokens_in f) (lists_in f) (row_from (grammar_in f) o (suc dot)) place x steps.Token →
+      by_symbol : (x : Symbol) → slice_get (symbols_of (grammar_in f) o.head) dot ≡ Some x → GoesOver (grammar_in f) (tokens_in f) (lists_in f) (row_from (grammar_in f) o (suc dot)) place x steps.Token →
           IsMoreAt (grammar_in f) o (suc dot) (suc place)
       by_symbol (literal text) s h = let clash : steps.Token ≡ steps.Literal = h.0 in cc
       by_symbol (lexical kind) s h =

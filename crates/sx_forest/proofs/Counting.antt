@@ -17,7 +17,7 @@ use Rattle.sx_forest.specs.declared.entry.Maker.TheVariants.{Variable, By}
 use Rattle.sx_forest.specs.declared.entry.Entry.{Entry}
 use Rattle.sx_forest.specs.Tallies.{tally_of}
 use Rattle.sx_forest.specs.Rows.{FitsPart, IsEntryTally, SumTo, sum_none, sum_more}
-use Rattle.sx_forest.specs.Table.{IsSoundBy}
+use Rattle.sx_forest.specs.Table.{CountsReadings}
 
 abbrev first_kid : Readings → Reading
 first_kid done = leaf 0
@@ -61,7 +61,7 @@ module _ (g : Grammar) (tokens : List Token) where
       let same : to ≡ to' = sym (ends g tokens k.1.1) ∙ ends g tokens l.1.1 in
       (ap By (one_head g tokens sort least place to' h i r (subst (λ x. ReadsAt g tokens sort least place x h r) same k) l), same)
 
-  pub kid_tally : (start : ℕ) (m : Maker) (sort least place to : ℕ) (t : Tally) → IsSoundBy g tokens start m place to t → FitsPart g m sort least →
+  pub kid_tally : (start : ℕ) (m : Maker) (sort least place to : ℕ) (t : Tally) → CountsReadings g tokens start m place to t → FitsPart g m sort least →
       IsTally (KidOf m sort least place to) reading_depth t
   kid_tally start (Variable other) sort least place to t s fits =
       let marked : Marked tokens place (is_variable (of_sort sort)) = subst (λ x. Marked tokens place (is_variable (of_sort x))) fits s.0 in
@@ -76,7 +76,7 @@ module _ (g : Grammar) (tokens : List Token) (start sort least place to : ℕ) (
   abbrev pub Via : Entry → Readings → Type 0
   Via e = Joined (KidOf g tokens e.maker sort least place e.to) (ReadsAll g tokens rest e.to to) ◌▸◌
 
-  entry_tally : (e : Entry) (t : Tally) → IsSoundBy g tokens start e.maker place e.to (tally_of e.ways) →
+  entry_tally : (e : Entry) (t : Tally) → CountsReadings g tokens start e.maker place e.to (tally_of e.ways) →
       (FitsPart g e.maker sort least → IsTally (ReadsAll g tokens rest e.to to) readings_depth (next e.to)) →
       IsEntryTally g sort least next e t → IsTally (Via e) readings_depth t
   entry_tally e t sound right (inl h) =
@@ -90,7 +90,7 @@ module _ (g : Grammar) (tokens : List Token) (start sort least place to : ℕ) (
   abbrev pub ViaFirst : ℕ → Readings → Type 0
   ViaFirst n ks = (i : ℕ) × (e : Entry) × (i < n) × (slice_get entries i ≡ Some e) × Via e ks
 
-  module _ (sound : (i : ℕ) (e : Entry) → slice_get entries i ≡ Some e → IsSoundBy g tokens start e.maker place e.to (tally_of e.ways))
+  module _ (sound : (i : ℕ) (e : Entry) → slice_get entries i ≡ Some e → CountsReadings g tokens start e.maker place e.to (tally_of e.ways))
       (once : (i j : ℕ) (a b : Entry) → slice_get entries i ≡ Some a → slice_get entries j ≡ Some b → a.maker ≡ b.maker → a.to ≡ b.to → i ≡ j)
       (right : (i : ℕ) (e : Entry) → slice_get entries i ≡ Some e → FitsPart g e.maker sort least → IsTally (ReadsAll g tokens rest e.to to) readings_depth (next e.to)) where
     apart_first : (n : ℕ) (e : Entry) → slice_get entries n ≡ Some e → (ks : Readings) → ViaFirst n ks → Via e ks → ⊥

@@ -15,7 +15,7 @@ use Rattle.sx_forest.specs.declared.fork.Fork.{Fork}
 use Rattle.sx_forest.specs.declared.fork.Fork.TheVariants.{Apart, Inside}
 use Rattle.sx_forest.specs.Tallies.{tally_of, IsLastRow}
 use Rattle.sx_forest.specs.Rows.{entries_at}
-use Rattle.sx_forest.specs.Table.{IsForestTable, IsFull, IsSoundBy}
+use Rattle.sx_forest.specs.Table.{IsForestTable, IsFull, CountsReadings}
 use Rattle.sx_forest.specs.Forests.{IsMore, IsBy, IsShallowEntry, IsUsableEntry, IsFirstUsable}
 use Rattle.sx_forest.specs.Forests.{IsForkOf, IsApart, IsParting, one_of, other_of}
 use Rattle.sx_forest.proofs.Using.{useful_at_end}
@@ -177,6 +177,6 @@ pair_apart g tokens start place one other a b parting by by' =
     (is_kid g tokens other.maker parting.sort parting.least place other.to b parting.other_fits by') parting.apart
 
 -- a metavariable has one reading
-pub one_variable : (g : Grammar) (tokens : List Token) (start from to sort : ℕ) (m : Maker) (t : Tally) → m ≡ Variable sort → IsSoundBy g tokens start m from to t → IsMore t → ⊥
+pub one_variable : (g : Grammar) (tokens : List Token) (start from to sort : ℕ) (m : Maker) (t : Tally) → m ≡ Variable sort → CountsReadings g tokens start m from to t → IsMore t → ⊥
 one_variable g tokens start from to sort m t e sound more =
-    let s = subst (λ x. IsSoundBy g tokens start x from to t) e sound in subst IsMore s.2 more
+    let s = subst (λ x. CountsReadings g tokens start x from to t) e sound in subst IsMore s.2 more

@@ -14,7 +14,7 @@ use Rattle.sx_forest.specs.declared.reading.Reading.{Reading, Node, Node', Brack
 use Rattle.sx_forest.specs.declared.reading.Reading.TheBlock.{shown-the_row-Reading-0}
 use Rattle.sx_forest.specs.declared.reading.Reading.TheBlock.{backs-Reading}
 use Rattle.sx_forest.specs.Readings.{plain_reading}
-use Rattle.sx_forest.specs.Places.{listed_readings, unbracketed, start_of, kids_of, place_at}
+use Rattle.sx_forest.specs.Places.{listed_readings, unbracketed, start_of, kid_readings, place_at}
 use Rattle.sx_forest.specs.Places.{LeavesTogether}
 use Rattle.sx_forest.proofs.Kids.{reading-at_node, listed_readings-row}
 
@@ -27,7 +27,7 @@ unbracketed-bare (variable token) = refl
 -- brackets round the whole are left out
 pub place_at-bare : (r : plain.Reading) (path : List ℕ) → place_at (unbracketed r) path ≡ place_at r path
 place_at-bare r [] = ap (λ x. Some (start_of x)) (unbracketed-bare r)
-place_at-bare r (i ∷ path) = ap (λ x. option_and_then (λ kid. place_at kid path) (slice_get (kids_of x) i)) (unbracketed-bare r)
+place_at-bare r (i ∷ path) = ap (λ x. option_and_then (λ kid. place_at kid path) (slice_get (kid_readings x) i)) (unbracketed-bare r)
 
 -- what has lost its brackets
 pub bared : (here r : plain.Reading) → here ≡ unbracketed r → unbracketed here ≡ here
@@ -43,18 +43,18 @@ bare_no_bracket (leaf token) x from to e = cc
 bare_no_bracket (variable token) x from to e = cc
 
 -- what is no node and has no brackets round it has no kids
-pub kids_of-leaf : (r : Reading) → ((label : ℕ) (kids : Vec Reading Global) (from to : ℕ) → r ≡ Node label kids from to → ⊥) → unbracketed (plain_reading r) ≡ plain_reading r → kids_of (unbracketed (plain_reading r)) ≡ []
+pub kids_of-leaf : (r : Reading) → ((label : ℕ) (kids : Vec Reading Global) (from to : ℕ) → r ≡ Node label kids from to → ⊥) → unbracketed (plain_reading r) ≡ plain_reading r → kid_readings (unbracketed (plain_reading r)) ≡ []
 kids_of-leaf (Node' l s k f t) h b = absurd (h l (shown-the_row-Reading-0 s k) f t (sym (backs-Reading (Node' l s k f t))))
 kids_of-leaf (Bracket' p inner f t) h b = absurd (bare_no_bracket (plain_reading inner) _ f t b)
 kids_of-leaf (Lex t) h b = refl
 kids_of-leaf (Var t) h b = refl
 
 -- the kids of a node
-pub kids_of-node : (r : Reading) (label : ℕ) (kids : Vec Reading Global) (from to : ℕ) → r ≡ Node label kids from to → kids_of (unbracketed (plain_reading r)) ≡ map plain_reading kids.items
-kids_of-node r label kids from to e = ap (λ x. kids_of (unbracketed x)) (reading-at_node r label kids from to e) ∙ listed_readings-row (map plain_reading kids.items)
+pub kids_of-node : (r : Reading) (label : ℕ) (kids : Vec Reading Global) (from to : ℕ) → r ≡ Node label kids from to → kid_readings (unbracketed (plain_reading r)) ≡ map plain_reading kids.items
+kids_of-node r label kids from to e = ap (λ x. kid_readings (unbracketed x)) (reading-at_node r label kids from to e) ∙ listed_readings-row (map plain_reading kids.items)
 
 -- one step
-place_at-step : (here : plain.Reading) (kids : List plain.Reading) (steps : List ℕ) (i : ℕ) → i < length steps → kids_of (unbracketed here) ≡ kids → place_at here (drop i steps) ≡ option_and_then (λ kid. place_at kid (drop (i + 1) steps)) (slice_get kids (get_or steps i 0))
+place_at-step : (here : plain.Reading) (kids : List plain.Reading) (steps : List ℕ) (i : ℕ) → i < length steps → kid_readings (unbracketed here) ≡ kids → place_at here (drop i steps) ≡ option_and_then (λ kid. place_at kid (drop (i + 1) steps)) (slice_get kids (get_or steps i 0))
 place_at-step here kids steps i h e =
     at_drop_more (place_at here) steps i 0 h ∙ ap (λ ks. option_and_then (λ kid. place_at kid (drop (i + 1) steps)) (slice_get ks (get_or steps i 0))) e
 
@@ -90,7 +90,7 @@ listed_terms tokens names done = refl
 listed_terms tokens names (kid ▸ kids) = ap (λ ts. term_of tokens names kid ∷ ts) (listed_terms tokens names kids)
 
 -- the parts of the term are the terms of the kids
-term_kids : (tokens : List grammars.Token) (names : List (List ℕ)) (r : plain.Reading) → terms.kids_of (term_of tokens names r) ≡ map (term_of tokens names) (kids_of (unbracketed r))
+term_kids : (tokens : List grammars.Token) (names : List (List ℕ)) (r : plain.Reading) → terms.kids_of (term_of tokens names r) ≡ map (term_of tokens names) (kid_readings (unbracketed r))
 term_kids tokens names (branch label kids from to) = listed_terms tokens names kids
 term_kids tokens names (bracket inner from to) = term_kids tokens names inner
 term_kids tokens names (leaf token) = leaf_kids (slice_get tokens token)
@@ -104,6 +104,6 @@ pub leaves_together : LeavesTogether
 leaves_together tokens names r [] = (λ e. cc, λ e. cc)
 leaves_together tokens names r (i ∷ path) =
     let f = term_of tokens names in
-    let both = step_together f (λ kid. place_at kid path) (λ t. part_at t path) (slice_get (kids_of (unbracketed r)) i) (λ kid. leaves_together tokens names kid path) in
-    let is : slice_get (terms.kids_of (f r)) i ≡ option_map f (slice_get (kids_of (unbracketed r)) i) = ap (λ ts. slice_get ts i) (term_kids tokens names r) ∙ slice_get-map f (kids_of (unbracketed r)) i in
+    let both = step_together f (λ kid. place_at kid path) (λ t. part_at t path) (slice_get (kid_readings (unbracketed r)) i) (λ kid. leaves_together tokens names kid path) in
+    let is : slice_get (terms.kids_of (f r)) i ≡ option_map f (slice_get (kid_readings (unbracketed r)) i) = ap (λ ts. slice_get ts i) (term_kids tokens names r) ∙ slice_get-map f (kid_readings (unbracketed r)) i in
     subst (λ o. (place_at r (i ∷ path) ≡ None) ↔ (option_and_then (λ t. part_at t path) o ≡ None)) (sym is) both

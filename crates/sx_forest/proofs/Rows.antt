@@ -27,7 +27,7 @@ use Rattle.sx_forest.specs.declared.entry.Maker.TheVariants.{Variable, By}
 use Rattle.sx_forest.specs.declared.entry.Entry.{Entry}
 use Rattle.sx_forest.specs.Tallies.{tally_of, IsLastRow}
 use Rattle.sx_forest.specs.Rows.{FitsPart, IsPlaceRow, IsNextRow, IsIn, IsStretchRow, entries_at}
-use Rattle.sx_forest.specs.Table.{IsSoundBy, IsForestTable, HasBefore, IsRight}
+use Rattle.sx_forest.specs.Table.{CountsReadings, IsForestTable, HasBefore, IsRight}
 use Rattle.sx_forest.proofs.Counting.{makes_is, of_sort_is, KidOf, part_counted}
 use Rattle.sx_forest.proofs.Using.{kid_end}
 
@@ -185,7 +185,7 @@ module _ (g : Grammar) (tokens : List Token) (start : ℕ) where
         (λ i e at fits. right e.to (over e.maker e.to (tally_of e.ways) (table.sound place i e at) fits))
         t sum (covered dot place sort least rest left item)
       where
-        over : (m : Maker) (middle : ℕ) (u : Tally) → IsSoundBy g tokens start m place middle u → FitsPart g m sort least → Item g tokens start head (suc dot) from middle
+        over : (m : Maker) (middle : ℕ) (u : Tally) → CountsReadings g tokens start m place middle u → FitsPart g m sort least → Item g tokens start head (suc dot) from middle
         over (Variable other) middle u s fits =
             let marked : Marked tokens place (is_variable (of_sort sort)) = subst (λ x. Marked tokens place (is_variable (of_sort x))) fits s.0 in
             subst (λ e. Item g tokens start head (suc dot) from e) (sym s.1) (scanned item (p, is, left_first (part sort least) rest left) marked)

@@ -26,7 +26,7 @@ use Rattle.sx_forest.specs.declared.entry.Entry.{Entry}
 use Rattle.sx_forest.specs.Tallies.{IsSmallTally}
 use Rattle.sx_forest.specs.Rows.{symbol_count, stretch_at, AreStretches, AreWays, IsSpanWays}
 use Rattle.sx_forest.specs.Rows.{IsStretchRow}
-use Rattle.sx_forest.specs.Table.{IsSoundBy, IsForestTable, HasBefore, IsRight}
+use Rattle.sx_forest.specs.Table.{CountsReadings, IsForestTable, HasBefore, IsRight}
 use Rattle.sx_forest.proofs.Covering.{in_stretch}
 use Rattle.sx_forest.proofs.Rows.{last_right, row_right, span_within}
 
@@ -156,7 +156,7 @@ module _ (g : Grammar) (tokens : List Token) (start : ℕ) (levels : HasLevels g
 
   -- what is computed for a span is the tally of its readings
   pub span_sound : Span g tokens start head from to → length g.productions < 2 ^ 32 → length tokens ≤ 10000 → (t : Tally) → IsSpanWays g tokens lists head from to t →
-      IsSoundBy g tokens start (By head) from to t
+      CountsReadings g tokens start (By head) from to t
   span_sound span many short t w =
       let row = w.row in
       let n = length p.symbols in

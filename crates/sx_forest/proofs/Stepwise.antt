@@ -29,10 +29,10 @@ use Rattle.sx_forest.specs.Tallies.{tally_of}
 use Rattle.sx_forest.specs.Rows.{FitsPart, IsPlaceRow, stretch_at, AreStretches, IsStretchRow}
 use Rattle.sx_forest.specs.Rows.{AreRows, symbol_count, tally_at, entries_at}
 use Rattle.sx_forest.specs.Useful.{IsUsefulBy, useful_kid}
-use Rattle.sx_forest.specs.Table.{IsSoundBy, IsFull, IsRight}
+use Rattle.sx_forest.specs.Table.{CountsReadings, IsFull, IsRight}
 use Rattle.sx_forest.specs.Forests.{symbols_in, symbols_of, depth_in, IsMore, IsBy, IsShallowEntry}
 use Rattle.sx_forest.specs.Forests.{IsOpened, row_from, IsAt, IsReadTo, IsUsableEntry}
-use Rattle.sx_forest.specs.Forests.{IsFirstUsable, IsOver, IsItemStep, followed}
+use Rattle.sx_forest.specs.Forests.{IsFirstUsable, GoesOver, IsItemStep, followed}
 use Rattle.sx_forest.proofs.Counting.{makes_is, KidOf, kid_reads, kid_tally, makes_low}
 use Rattle.sx_forest.proofs.Using.{kid_end}
 use Rattle.sx_forest.proofs.Rows.{row_there, item_forward, span_forward}
@@ -187,7 +187,7 @@ module _ (g : Grammar) (tokens : List Token) (start : ℕ) (levels : HasLevels g
 
   -- an item goes over a part by an entry that fits
   over : (dot place sort least : ℕ) (m : Maker) (middle : ℕ) (u : Tally) → NextIs g o.head dot (part sort least) → Item g tokens start o.head dot o.from place →
-      IsSoundBy g tokens start m place middle u → FitsPart g m sort least → Item g tokens start o.head (suc dot) o.from middle
+      CountsReadings g tokens start m place middle u → FitsPart g m sort least → Item g tokens start o.head (suc dot) o.from middle
   over dot place sort least (Variable other) middle u next item s fits =
       let marked : Marked tokens place (is_variable (of_sort sort)) = subst (λ x. Marked tokens place (is_variable (of_sort x))) fits s.0 in
       subst (λ e. Item g tokens start o.head (suc dot) o.from e) (sym s.1) (scanned item next marked)
@@ -270,7 +270,7 @@ module _ (g : Grammar) (tokens : List Token) (start : ℕ) (levels : HasLevels g
   pub read_literal : (dot place : ℕ) (kids : Readings) → IsReadTo g tokens start o dot place kids → IsItemStep g tokens start lists o dot place steps.Literal → IsReadTo g tokens start o (suc dot) (suc place) kids
   read_literal dot place kids so step = by_symbol step.symbol step.is step.over
     where
-      by_symbol : (x : Symbol) → slice_get (symbols_of g o.head) dot ≡ Some x → IsOver g tokens lists (row_from g o (suc dot)) place x steps.Literal → IsReadTo g tokens start o (suc dot) (suc place) kids
+      by_symbol : (x : Symbol) → slice_get (symbols_of g o.head) dot ≡ Some x → GoesOver g tokens lists (row_from g o (suc dot)) place x steps.Literal → IsReadTo g tokens start o (suc dot) (suc place) kids
       by_symbol (literal text) e h =
           subst (λ ks. IsReadTo g tokens start o (suc dot) (suc place) ks) (followed_none kids) (read_symbol dot place (suc place) (literal text) kids done e so step.after (by_literal h.1 all_read))
       by_symbol (lexical kind) e h = let clash : steps.Literal ≡ steps.Token = h.0 in cc
@@ -280,7 +280,7 @@ module _ (g : Grammar) (tokens : List Token) (start : ℕ) (levels : HasLevels g
       ((kind : LexKind) → ReadsToken tokens (lexical kind) place → IsLeafAt tokens kind place r) → new ≡ followed kids (r ▸ done) → IsReadTo g tokens start o (suc dot) (suc place) new
   read_token dot place kids new r so step leaf same = rw same (by_symbol step.symbol step.is step.over)
     where
-      by_symbol : (x : Symbol) → slice_get (symbols_of g o.head) dot ≡ Some x → IsOver g tokens lists (row_from g o (suc dot)) place x steps.Token →
+      by_symbol : (x : Symbol) → slice_get (symbols_of g o.head) dot ≡ Some x → GoesOver g tokens lists (row_from g o (suc dot)) place x steps.Token →
           IsReadTo g tokens start o (suc dot) (suc place) (followed kids (r ▸ done))
       by_symbol (literal text) e h = let clash : steps.Token ≡ steps.Literal = h.0 in cc
       by_symbol (lexical kind) e h = read_symbol dot place (suc place) (lexical kind) kids (r ▸ done) e so step.after (leaf_read g tokens kind place r (leaf kind h.1))
@@ -296,7 +296,7 @@ module _ (g : Grammar) (tokens : List Token) (start : ℕ) (levels : HasLevels g
   pub part_of : (dot place index : ℕ) (e : Entry) → IsItemStep g tokens start lists o dot place (steps.Part index e) → IsPartAt dot place index e
   part_of dot place index e step = by_symbol step.symbol step.is step.over
     where
-      by_symbol : (x : Symbol) → slice_get (symbols_of g o.head) dot ≡ Some x → IsOver g tokens lists (row_from g o (suc dot)) place x (steps.Part index e) → IsPartAt dot place index e
+      by_symbol : (x : Symbol) → slice_get (symbols_of g o.head) dot ≡ Some x → GoesOver g tokens lists (row_from g o (suc dot)) place x (steps.Part index e) → IsPartAt dot place index e
       by_symbol (literal text) s h = let clash : steps.Part index e ≡ steps.Literal = h.0 in cc
       by_symbol (lexical kind) s h = let clash : steps.Part index e ≡ steps.Token = h.0 in cc
       by_symbol (part sort least) s h =

@@ -20,8 +20,8 @@ use Rattle.sx_forest.specs.declared.entry.Maker.TheVariants.{Variable, By}
 use Rattle.sx_forest.specs.declared.entry.Entry.{Entry}
 use Rattle.sx_forest.specs.Tallies.{tally_of}
 use Rattle.sx_forest.specs.Rows.{entries_at, AllLater}
-use Rattle.sx_forest.specs.Useful.{AreUseful, Keeps}
-use Rattle.sx_forest.specs.Table.{IsSoundBy, IsForestTable, HasEntry, HasBefore, IsEntryPut}
+use Rattle.sx_forest.specs.Useful.{AreUseful, KeepsHead}
+use Rattle.sx_forest.specs.Table.{CountsReadings, IsForestTable, HasEntry, HasBefore, IsEntryPut}
 use Rattle.sx_forest.specs.Table.{IsEntryAdded, IsFirstTable, IsFull}
 use Rattle.sx_forest.specs.Ordering.{IsSoFar, AreOrdered, sort_in}
 use Rattle.sx_forest.proofs.Using.{kid_kept, useful_kept}
@@ -30,7 +30,7 @@ use Rattle.sx_forest.proofs.Rows.{span_forward}
 use Rattle.sx_forest.proofs.Spans.{span_sound}
 
 module _ (g : Grammar) (tokens : List Token) (start : ℕ) where
-  later_by : (m : Maker) (place to : ℕ) (t : Tally) → IsSoundBy g tokens start m place to t → place ≤ to
+  later_by : (m : Maker) (place to : ℕ) (t : Tally) → CountsReadings g tokens start m place to t → place ≤ to
   later_by (Variable s) place to t h = omega (arith, h.1)
   later_by (By head) place to t h = span_forward g tokens start head place to h.0
 
@@ -39,12 +39,12 @@ module _ (g : Grammar) (tokens : List Token) (start : ℕ) where
 
   module _ (old new : List (Vec Entry)) (place : ℕ) (e : Entry) (put : IsEntryPut old new place e) where
     -- a table with one more entry, which ends no earlier than those by heads that begin there
-    pub table_on : IsForestTable g tokens start old → (HasEntry old place e.maker e.to → ⊥) → IsSoundBy g tokens start e.maker place e.to (tally_of e.ways) →
+    pub table_on : IsForestTable g tokens start old → (HasEntry old place e.maker e.to → ⊥) → CountsReadings g tokens start e.maker place e.to (tally_of e.ways) →
         ((head : Head) × (e.maker ≡ By head)) → ((i : ℕ) (x : Entry) (head : Head) → slice_get (entries_at old place) i ≡ Some x → x.maker ≡ By head → x.to ≤ e.to) → IsForestTable g tokens start new
     table_on table fresh sound by last = record {
       sound = λ p i x at. ⊎_elim (λ h. table.sound p i x h)
-          (λ h. subst (λ y. IsSoundBy g tokens start y.maker p y.to (tally_of y.ways)) h.2
-          (subst (λ q. IsSoundBy g tokens start e.maker q e.to (tally_of e.ways)) (sym h.0) sound)) (got_either old new place e put p i x at);
+          (λ h. subst (λ y. CountsReadings g tokens start y.maker p y.to (tally_of y.ways)) h.2
+          (subst (λ q. CountsReadings g tokens start e.maker q e.to (tally_of e.ways)) (sym h.0) sound)) (got_either old new place e put p i x at);
       once = λ p i j a b at bt makers ends. by_both p i j a b makers ends (got_either old new place e put p i a at) (got_either old new place e put p j b bt);
       variables = λ p sort marked. still_has old new place e put p (Variable sort) (suc p) (table.variables p sort marked);
       heads = λ p i x low at. ⊎_elim (λ h. table.heads p i x low h) (λ h. (by.0, ap (λ y. y.maker) (sym h.2) ∙ by.1)) (got_either old new place e put p i x at);
@@ -92,7 +92,7 @@ module _ (g : Grammar) (tokens : List Token) (start : ℕ) where
   first_is_table lists first = record {
     sound = λ p i x at.
         let o = (first.each p (list_there lists p i x at)).only i x at in
-        subst (λ y. IsSoundBy g tokens start y.maker p y.to (tally_of y.ways)) (sym o.3) (o.2, add-one p, refl);
+        subst (λ y. CountsReadings g tokens start y.maker p y.to (tally_of y.ways)) (sym o.3) (o.2, add-one p, refl);
     once = λ p i j a b at bt makers ends.
         let o = (first.each p (list_there lists p i a at)).only i a at in let q = (first.each p (list_there lists p j b bt)).only j b bt in o.0 ∙ sym q.0;
     variables = λ p sort marked.
@@ -138,15 +138,15 @@ module _ (g : Grammar) (tokens : List Token) (start : ℕ) (rank : ℕ → ℕ) 
   pub span_at : (n : ℕ) (o : Ordered) → slice_get list n ≡ Some o → Span g tokens start (head_of o.span.of) o.span.from o.span.to
   span_at n o at = ((useful.are o.span).0 (ordered.only o (there_at list n o at)).0).0
 
-  kept_at : (n : ℕ) (o : Ordered) → slice_get list n ≡ Some o → Keeps g useful.levels (head_of o.span.of) o.span.to
+  kept_at : (n : ℕ) (o : Ordered) → slice_get list n ≡ Some o → KeepsHead g useful.levels (head_of o.span.of) o.span.to
   kept_at n o at = ((useful.are o.span).0 (ordered.only o (there_at list n o at)).0).1
 
   -- a span that is kept is listed
-  listed : (head : Head) (from to : ℕ) → Span g tokens start head from to → Keeps g useful.levels head to →
+  listed : (head : Head) (from to : ℕ) → Span g tokens start head from to → KeepsHead g useful.levels head to →
       (i : ℕ) × (o : Ordered) × (slice_get list i ≡ Some o) × (head_of o.span.of ≡ head) × (o.span.from ≡ from) × (o.span.to ≡ to)
   listed head from to span kept =
       let s : plain.Span = record { of = of_head head; from = from; to = to } in
-      let e = ordered.every s ((useful.are s).1 (subst (λ h. Span g tokens start h from to × Keeps g useful.levels h to) (sym (head_back head)) (span, kept))) in
+      let e = ordered.every s ((useful.are s).1 (subst (λ h. Span g tokens start h from to × KeepsHead g useful.levels h to) (sym (head_back head)) (span, kept))) in
       let i = index_of list e.0 e.1 in
       (i.0, e.0, i.2, ap (λ x. head_of x.of) e.2 ∙ head_back head, ap (λ x. x.from) e.2, ap (λ x. x.to) e.2)
 

@@ -19,7 +19,7 @@ use Rattle.sx_forest.specs.declared.entry.Maker.{Maker}
 use Rattle.sx_forest.specs.declared.entry.Maker.TheVariants.{Variable, By}
 use Rattle.sx_forest.specs.Useful.{MayEnd, IsKidEnd, IsUseful, IsUsefulBy, useful_whole, useful_kid}
 use Rattle.sx_forest.specs.Useful.{level_at, IsProductionKept, IsMetAt, IsMet, row_in, numbers_at}
-use Rattle.sx_forest.specs.Useful.{row_by, levels_at, AreMetBy, AreMet, Keeps}
+use Rattle.sx_forest.specs.Useful.{row_by, levels_at, AreMetBy, AreMet, KeepsHead}
 use Rattle.sx_forest.specs.Rows.{symbol_count}
 use Rattle.sx_forest.proofs.Pushing.{got_before, got_last, got_cases, longer_pushed}
 
@@ -52,14 +52,14 @@ no_levels levels place long = ap (row_by levels.rows.items) (none_past levels.nu
 
 module _ (g : Grammar) (tokens : List Token) (levels : Levels) (met : AreMet g tokens levels) where
   -- what a kept head may have as a part is kept
-  pub kid_kept : (head other : Head) (to end : ℕ) → Keeps g levels head to → IsKidEnd g tokens head to other end → Keeps g levels other end
+  pub kid_kept : (head other : Head) (to end : ℕ) → KeepsHead g levels head to → IsKidEnd g tokens head to other end → KeepsHead g levels other end
   kid_kept head other to end kept k =
       let low = met end head k.dot k.sort k.least k.is
-      (may_end_as tokens (next_symbol g head (suc k.dot)) end (λ (same : end ≡ to). subst (λ x. Keeps g levels head x) (sym same) kept) k.next) in
+      (may_end_as tokens (next_symbol g head (suc k.dot)) end (λ (same : end ≡ to). subst (λ x. KeepsHead g levels head x) (sym same) kept) k.next) in
       kept_from (levels_at levels end) (production_of g other) k.sort k.least k.fits low
 
   -- what is of use is kept
-  pub useful_kept : length levels.numbers.items ≤ length tokens → (head : Head) (to : ℕ) → IsUseful g tokens head to → (p : Production) → production_of g head ≡ Some p → Keeps g levels head to
+  pub useful_kept : length levels.numbers.items ≤ length tokens → (head : Head) (to : ℕ) → IsUseful g tokens head to → (p : Production) → production_of g head ≡ Some p → KeepsHead g levels head to
   useful_kept short head to useful_whole p is =
       subst (λ l. IsProductionKept l (production_of g head)) (sym (no_levels levels (length tokens) short)) (kept_by_none (production_of g head) p is)
   useful_kept short other end (useful_kid {head = head} {to = to} more k) p is =

@@ -6,7 +6,7 @@ use Rattle.sx_grammar.specs.Parts.{Parts, numbered}
 use Rattle.sx_grammar.specs.Reading.{Reading, Reads}
 use Rattle.sx_earley.specs.Tokens.{Stems, plain_tokens}
 use Rattle.sx_forest.specs.Text.{IsWithin}
-use Rattle.sx_forest.specs.Names.{IsMarked, names_in}
+use Rattle.sx_forest.specs.Names.{IsMarked, reading_names}
 
 -- the labels and tokens of what reads the tokens by a grammar are the grammar's and theirs
 abbrev pub ReadingsAreWithin : Type 0
@@ -24,4 +24,4 @@ ReadingsAreMarked = (g : plain.Grammar) (stems : Stems) (tokens : List Token)
 abbrev pub ReadingsHaveFewNames : Type 0
 ReadingsHaveFewNames = (g : plain.Grammar) (tokens : List plain.Token) (all : List Token)
     (sort least from to : ℕ) (r : Reading) →
-    Reads g tokens sort least from to r → from + length (names_in all r) ≤ to
+    Reads g tokens sort least from to r → from + length (reading_names all r) ≤ to

@@ -24,7 +24,7 @@ use Rattle.sx_forest.specs.declared.opened.Opened.{Opened}
 use Rattle.sx_forest.specs.Tallies.{tally_of}
 use Rattle.sx_forest.specs.Rows.{FitsPart, AreSpanRows, tally_at, entries_at}
 use Rattle.sx_forest.specs.Useful.{IsUseful, IsUsefulBy}
-use Rattle.sx_forest.specs.Table.{IsFull, IsSoundBy}
+use Rattle.sx_forest.specs.Table.{IsFull, CountsReadings}
 use Rattle.sx_term.specs.Limits.{most_depth, most_tokens}
 
 -- the symbols of a production, or none
@@ -75,14 +75,14 @@ pub record IsForest (f : Forest) : Type 0 where
 -- the entry's readings are counted, none is deeper than 1,000, and it is of use
 pub record IsShallowEntry (g : Grammar) (tokens : List Token) (start from : ℕ)
     (e : Entry) : Type 0 where
-  pub sound : IsSoundBy g tokens start e.maker from e.to (tally_of e.ways)
+  pub sound : CountsReadings g tokens start e.maker from e.to (tally_of e.ways)
   pub low : depth_in (tally_of e.ways) ≤ most_depth
   pub useful : IsUsefulBy g tokens e.maker e.to
 
 -- so it is of the span, and the rows are those of its symbols
 pub record IsOpened (g : Grammar) (tokens : List Token) (start : ℕ) (lists : List (Vec Entry))
     (o : Opened) : Type 0 where
-  pub sound : IsSoundBy g tokens start (By o.head) o.from o.to (tally_of o.ways)
+  pub sound : CountsReadings g tokens start (By o.head) o.from o.to (tally_of o.ways)
   pub low : depth_in (tally_of o.ways) ≤ most_depth
   pub useful : IsUseful g tokens o.head o.to
   pub rows : AreSpanRows g tokens lists o.head o.from o.to o.rows.items
@@ -132,13 +132,13 @@ end_of steps.Token place = suc place
 end_of (steps.Part index e) place = e.to
 
 -- the step goes over the symbol at the place; over a part it goes by the first usable entry
-abbrev pub IsOver : Grammar → List Token → List (Vec Entry) → (ℕ → Tally) → (place : ℕ) →
+abbrev pub GoesOver : Grammar → List Token → List (Vec Entry) → (ℕ → Tally) → (place : ℕ) →
     Symbol → Step → Type 0
-IsOver g tokens lists next place (literal text) step =
+GoesOver g tokens lists next place (literal text) step =
     (step ≡ steps.Literal) × IsLiteral tokens place text
-IsOver g tokens lists next place (lexical kind) step =
+GoesOver g tokens lists next place (lexical kind) step =
     (step ≡ steps.Token) × ReadsToken tokens (lexical kind) place
-IsOver g tokens lists next place (part sort least) step =
+GoesOver g tokens lists next place (part sort least) step =
     (index : ℕ) × (e : Entry) × (step ≡ steps.Part index e) ×
     IsFirstUsable g sort least next (entries_at lists place) 0 (Some (index, e))
 
@@ -147,7 +147,7 @@ pub record IsItemStep (g : Grammar) (tokens : List Token) (start : ℕ) (lists :
     (o : Opened) (dot place : ℕ) (step : Step) : Type 0 where
   pub symbol : Symbol
   pub is : slice_get (symbols_of g o.head) dot ≡ Some symbol
-  pub over : IsOver g tokens lists (row_from g o (suc dot)) place symbol step
+  pub over : GoesOver g tokens lists (row_from g o (suc dot)) place symbol step
   pub after : IsAt g tokens start o (suc dot) (end_of step place)
 
 -- how two readings part at a part, where this entry is the first usable one and has this index, or

@@ -34,16 +34,17 @@ abbrev mutual
 
 abbrev mutual
   -- the names of the metavariables in order of standing, without `~`
-  pub names_in : List Token → Reading → List Text
-  names_in tokens (branch label kids from to) = names_of tokens kids
-  names_in tokens (bracket inner from to) = names_in tokens inner
-  names_in tokens (leaf token) = []
-  names_in tokens (variable token) = without_tilde (slice_index_or (token_texts tokens) token []) ∷
+  pub reading_names : List Token → Reading → List Text
+  reading_names tokens (branch label kids from to) = names_of tokens kids
+  reading_names tokens (bracket inner from to) = reading_names tokens inner
+  reading_names tokens (leaf token) = []
+  reading_names tokens (variable token) = without_tilde
+      (slice_index_or (token_texts tokens) token []) ∷
       []
 
   pub names_of : List Token → Readings → List Text
   names_of tokens done = []
-  names_of tokens (kid ▸ kids) = names_in tokens kid ++ names_of tokens kids
+  names_of tokens (kid ▸ kids) = reading_names tokens kid ++ names_of tokens kids
 
 -- the new list is the old one and those of the names that are not in it, each added once, in order
 abbrev pub AddsEach : (old names new : List Text) → Type 0

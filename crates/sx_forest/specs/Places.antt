@@ -26,17 +26,17 @@ start_of (leaf token) = token
 start_of (variable token) = token
 
 -- the kids of a node, or none
-abbrev pub kids_of : Reading → List Reading
-kids_of (branch label kids from to) = listed_readings kids
-kids_of (bracket inner from to) = []
-kids_of (leaf token) = []
-kids_of (variable token) = []
+abbrev pub kid_readings : Reading → List Reading
+kid_readings (branch label kids from to) = listed_readings kids
+kid_readings (bracket inner from to) = []
+kid_readings (leaf token) = []
+kid_readings (variable token) = []
 
 -- where the part begins to which the steps lead, each the number of a kid from 0; brackets are no
 -- step, and those round the part are none of it
 abbrev pub place_at : Reading → List ℕ → Option ℕ
 place_at r [] = Some (start_of (unbracketed r))
-place_at r (i ∷ path) = option_and_then (λ kid. place_at kid path) (slice_get (kids_of
+place_at r (i ∷ path) = option_and_then (λ kid. place_at kid path) (slice_get (kid_readings
     (unbracketed r)) i)
 
 -- there is no place exactly where the path leaves the term of the reading

@@ -21,10 +21,11 @@ use Rattle.sx_forest.specs.Rows.{entries_at, AllSorted, IsSpanWays}
 use Rattle.sx_forest.specs.Useful.{IsKidEnd, IsUseful}
 
 -- the readings by the maker between these places are counted
-abbrev pub IsSoundBy : Grammar → List Token → (start : ℕ) → Maker → (place to : ℕ) → Tally → Type 0
-IsSoundBy g tokens start (Variable sort) place to t =
+abbrev pub CountsReadings : Grammar → List Token → (start : ℕ) → Maker → (place to : ℕ) →
+    Tally → Type 0
+CountsReadings g tokens start (Variable sort) place to t =
     Marked tokens place (is_variable (of_sort sort)) × (to ≡ suc place) × (t ≡ one_way 1)
-IsSoundBy g tokens start (By head) place to t =
+CountsReadings g tokens start (By head) place to t =
     Span g tokens start head place to × ((sort : ℕ) → Makes g head sort 0 →
     IsTally (ReadsBy g tokens head sort place to) reading_depth t)
 
@@ -42,7 +43,7 @@ HasEntry lists place maker to = HasIn (entries_at lists place) maker to
 pub record IsForestTable (g : Grammar) (tokens : List Token) (start : ℕ)
     (lists : List (Vec Entry)) : Type 0 where
   pub sound : (place i : ℕ) (e : Entry) → slice_get (entries_at lists place) i ≡ Some e →
-      IsSoundBy g tokens start e.maker place e.to (tally_of e.ways)
+      CountsReadings g tokens start e.maker place e.to (tally_of e.ways)
   pub once : (place i j : ℕ) (a b : Entry) → slice_get (entries_at lists place) i ≡ Some a →
       slice_get (entries_at lists place) j ≡ Some b →
       a.maker ≡ b.maker → a.to ≡ b.to → i ≡ j

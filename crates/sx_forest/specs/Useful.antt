@@ -94,8 +94,8 @@ abbrev pub AreMet : Grammar → List Token → Levels → Type 0
 AreMet g tokens levels = (place : ℕ) → IsMet g tokens place (levels_at levels place)
 
 -- the head is kept up to the place
-abbrev pub Keeps : Grammar → Levels → Head → (place : ℕ) → Type 0
-Keeps g levels head place = IsProductionKept (levels_at levels place) (production_of g head)
+abbrev pub KeepsHead : Grammar → Levels → Head → (place : ℕ) → Type 0
+KeepsHead g levels head place = IsProductionKept (levels_at levels place) (production_of g head)
 
 -- the spans are those complete ones that some levels keep, where these meet what is asked for
 pub record AreUseful (g : Grammar) (tokens : List Token) (start : ℕ)
@@ -104,4 +104,5 @@ pub record AreUseful (g : Grammar) (tokens : List Token) (start : ℕ)
   pub short : length levels.numbers.items ≤ length tokens
   pub met : AreMet g tokens levels
   pub are : (s : Span) → Contains spans s
-      ↔ (items.Span g tokens start (head_of s.of) s.from s.to × Keeps g levels (head_of s.of) s.to)
+      ↔ (items.Span g tokens start (head_of s.of) s.from s.to
+      × KeepsHead g levels (head_of s.of) s.to)

@@ -11,7 +11,7 @@ ghost use Rattle.sx_grammar.specs.Print.{term_of};
 ghost use Rattle.sx_grammar.specs.Reading.{reading_depth};
 ghost use Rattle.sx_earley.specs.Tokens.{Stems, plain_tokens};
 ghost use Rattle.sx_forest.specs.Readings.{plain_reading};
-ghost use Rattle.sx_forest.specs.Names.{IsMarked, names_in, AddsEach, AddsFront};
+ghost use Rattle.sx_forest.specs.Names.{IsMarked, reading_names, AddsEach, AddsFront};
 ghost use Rattle.sx_term.specs.Limits.{most_depth};
 
 use crate::reading::Reading;
@@ -31,12 +31,12 @@ pub fn strip(
     requires depth { reading_depth (plain_reading reading.now) ≤ most_depth }
     requires marked { IsMarked tokens.now (plain_reading reading.now) }
     requires room { length vars.now + length
-        (names_in tokens.now (plain_reading reading.now)) < 2 ^ 32 }
+        (reading_names tokens.now (plain_reading reading.now)) < 2 ^ 32 }
     ensures term { IfOk result (λ t. (stems : Stems) (later : List (List ℕ)) →
         tree t ≡ term_of (plain_tokens stems tokens.now) (vars.new ++ later)
         (plain_reading reading.now)) }
     ensures names { OnOk result (AddsEach vars.old
-        (names_in tokens.now (plain_reading reading.now)) vars.new) }
+        (reading_names tokens.now (plain_reading reading.now)) vars.new) }
     ensures err { OnErr result (vars.new ≡ vars.old) }
 {
     let count = vars.count();
@@ -59,14 +59,14 @@ fn strip_into(
     requires depth { reading_depth (plain_reading reading.now) ≤ most_depth }
     requires marked { IsMarked tokens.now (plain_reading reading.now) }
     requires room { length vars.now + length
-        (names_in tokens.now (plain_reading reading.now)) < 2 ^ 32 }
+        (reading_names tokens.now (plain_reading reading.now)) < 2 ^ 32 }
     ensures term { IfOk result (λ t. (stems : Stems) (later : List (List ℕ)) →
         tree t ≡ term_of (plain_tokens stems tokens.now) (vars.new ++ later)
         (plain_reading reading.now)) }
     ensures names { OnOk result (AddsEach vars.old
-        (names_in tokens.now (plain_reading reading.now)) vars.new) }
+        (reading_names tokens.now (plain_reading reading.now)) vars.new) }
     ensures err { OnErr result (AddsFront vars.old
-        (names_in tokens.now (plain_reading reading.now)) vars.new) }
+        (reading_names tokens.now (plain_reading reading.now)) vars.new) }
 {
     match reading {
         Reading::Node {

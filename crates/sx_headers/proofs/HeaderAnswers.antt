@@ -14,7 +14,7 @@ use Rattle.sx_interface.specs.Reading.{AnswersVersion, error_line}
 use Rattle.sx_interface.specs.Stated.{StatesInterface}
 use Rattle.sx_steps.specs.declared.stop.Stop.{Stop}
 use Rattle.sx_steps.specs.Stops.{not_utf8}
-use Rattle.sx_headers.specs.HeaderStops.{header_stop, other_version as is_other_version}
+use Rattle.sx_headers.specs.HeaderStops.{header_stop, version_stop as is_other_version}
 use Rattle.sx_headers.specs.ReadInterface.{StatesParts}
 
 some_same : (s t : Stop) → Some s ≡ Some t → s ≡ t

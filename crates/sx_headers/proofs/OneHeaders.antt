@@ -19,8 +19,8 @@ use Rattle.sx_steps.specs.Held.{Held}
 use Rattle.sx_term.specs.Limits.{most_bytes}
 use Rattle.sx_steps.proofs.Ones.{IsOne, then_one, held_one, ok_same}
 use Rattle.sx_headers.specs.FreeImports.{IsTakenAt, HasFreeImports}
-use Rattle.sx_headers.specs.HeaderRows.{row_line, import_row}
-use Rattle.sx_headers.specs.HeaderStops.{bad_header, other_version as is_other_version}
+use Rattle.sx_headers.specs.HeaderRows.{header_row_line, import_row}
+use Rattle.sx_headers.specs.HeaderStops.{bad_header, version_stop as is_other_version}
 use Rattle.sx_headers.specs.ReadInterface.{HeldInterface, HasInterface, IsBadInterface, StatesParts}
 use Rattle.sx_headers.specs.ReadInterface.{ReadsInterface}
 use Rattle.sx_headers.specs.ReadModule.{Module, HasHeader, StatesModule, ReadsModule}
@@ -175,5 +175,5 @@ free_imports_one file literals m (Err s) (Ok b) h k f g =
     absurd (first_none literals m.header.imports h.1.0 h.1.1 k)
 free_imports_one file literals m (Err s) (Err t) h k f g =
     ap Err (h.2
-    ∙ ap (λ (n : ℕ). bad_header file (row_line m (import_row m.header n)))
+    ∙ ap (λ (n : ℕ). bad_header file (header_row_line m (import_row m.header n)))
     (taken_one literals m.header.imports h.0 k.0 h.1 k.1) ∙ sym k.2)

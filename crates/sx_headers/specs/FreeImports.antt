@@ -2,7 +2,7 @@
 use Rattle.std.specs.Prelude.{◌≡◌, ℕ, List, length, Result, Ok, Err}
 use Rattle.sx_interface.specs.FreeNames.{AreFree, IsFirstIn}
 use Rattle.sx_steps.specs.declared.stop.Stop.{Stop}
-use Rattle.sx_headers.specs.HeaderRows.{row_line, import_row}
+use Rattle.sx_headers.specs.HeaderRows.{header_row_line, import_row}
 use Rattle.sx_headers.specs.HeaderStops.{bad_header}
 use Rattle.sx_headers.specs.ReadModule.{Module}
 
@@ -17,4 +17,4 @@ abbrev pub HasFreeImports : List ℕ → (literals : List (List ℕ)) → Module
 HasFreeImports file literals m (Ok done) = AreFree literals m.header.imports
 HasFreeImports file literals m (Err stop) =
     (number : ℕ) × IsTakenAt literals m.header.imports number
-    × (stop ≡ bad_header file (row_line m (import_row m.header number)))
+    × (stop ≡ bad_header file (header_row_line m (import_row m.header number)))

@@ -13,8 +13,8 @@ number_at (line n text after more) (suc place) = number_at more place
 
 -- the line of the header's row with this number, from 0: `module`, `language`, the `use` lines, the
 -- `import` lines, `---`
-abbrev pub row_line : Module → ℕ → ℕ
-row_line m row = number_at (kept (lines_from 1 m.bytes)) row
+abbrev pub header_row_line : Module → ℕ → ℕ
+header_row_line m row = number_at (kept (lines_from 1 m.bytes)) row
 
 -- the row of the import with this number, from 0; behind the last import stands `---`
 abbrev pub import_row : HeaderParts → ℕ → ℕ

@@ -14,12 +14,12 @@ abbrev pub bad_header : List ℕ → ℕ → Stop
 bad_header file line = at (Line line) file (defect.File file_defect.Header)
 
 -- the interface is of another version
-abbrev pub other_version : List ℕ → ℕ → Stop
-other_version file number = about file (defect.File (file_defect.Version number))
+abbrev pub version_stop : List ℕ → ℕ → Stop
+version_stop file number = about file (defect.File (file_defect.Version number))
 
 -- the stop of a header's or an interface's refusal; out of memory has none
 abbrev pub header_stop : List ℕ → HeaderError → Option Stop
 header_stop file header_error.Memory = None
 header_stop file (header_error.NotUtf8 before) = Some (not_utf8 file before)
 header_stop file (header_error.Header line) = Some (bad_header file line)
-header_stop file (header_error.Version number) = Some (other_version file number)
+header_stop file (header_error.Version number) = Some (version_stop file number)

@@ -14,7 +14,7 @@ use Rattle.sx_term.specs.Limits.{most_bytes}
 use Rattle.sx_steps.specs.Steps.{Then}
 use Rattle.sx_steps.specs.Stops.{not_utf8}
 use Rattle.sx_headers.specs.declared.interface_file.InterfaceFile.{InterfaceFile}
-use Rattle.sx_headers.specs.HeaderStops.{bad_header, other_version as is_other_version}
+use Rattle.sx_headers.specs.HeaderStops.{bad_header, version_stop as is_other_version}
 
 -- the bytes of an interface's file, and the interface
 pub record HeldInterface : Type 0 where

@@ -7,7 +7,7 @@ use Rattle.sx_interface.specs.Interfaces.{InterfaceParts}
 use Rattle.sx_notation.specs.declared.unread.Unread.TheVariants as unread
 use Rattle.sx_environment.specs.declared.import_error.ImportError.{ImportError}
 use Rattle.sx_environment.specs.declared.import_error.ImportError.TheVariants.{Memory}
-use Rattle.sx_environment.specs.Alike.{AreAlike, OneEnvironment}
+use Rattle.sx_environment.specs.Alike.{AreImportsAlike, OneEnvironment}
 use Rattle.sx_environment.specs.SeenFrom.{SeenFrom}
 use Rattle.sx_outside.specs.Files.{Files}
 use Rattle.sx_words.specs.declared.closure_defect.Kept.{Kept}
@@ -60,7 +60,7 @@ module _ (one : OneEnvironment) (file : List ℕ) (s : SeenFrom) (its : List Int
   wants : (stop : Stop) (e : ImportError) → import_stop file its e ≡ Some stop → e ≢ Memory
   wants stop e is same = none_some stop (sym (ap (import_stop file its) same) ∙ is)
 
-  alike : (e d : ImportError) (x y : Stop) → AreAlike s its e d →
+  alike : (e d : ImportError) (x y : Stop) → AreImportsAlike s its e d →
       import_stop file its e ≡ Some x → import_stop file its d ≡ Some y → SameButRows s its x y
   alike e d x y (inl same) h k =
       inl (some_same x y (sym h ∙ ap (import_stop file its) same ∙ k))

@@ -3,7 +3,7 @@ use Rattle.std.specs.Prelude.{◌≡◌, ◌⊎◌, ℕ, List, Result}
 use Rattle.sx_term.specs.Tree.{Tree}
 use Rattle.sx_interface.specs.Interfaces.{InterfaceParts}
 use Rattle.sx_environment.specs.declared.import_error.ImportError.{ImportError}
-use Rattle.sx_environment.specs.Alike.{ReadOthers}
+use Rattle.sx_environment.specs.Alike.{RowReadsOthers}
 use Rattle.sx_environment.specs.SeenFrom.{SeenFrom}
 use Rattle.sx_outside.specs.Files.{Files}
 use Rattle.sx_steps.specs.declared.step_error.StepError.{StepError}
@@ -19,7 +19,7 @@ use Rattle.sx_importing.specs.ReadImports.{ImportData, ReadsImports}
 pub record IsOfImport (s : SeenFrom) (its : List InterfaceParts) (stop : Stop) : Type 0 where
   pub one : ImportError
   pub other : ImportError
-  pub show : ReadOthers s its one other
+  pub show : RowReadsOthers s its one other
   pub file : stop.file ≡ import_file its show.import
 
 -- the stops are the same, but for the two readings that they show of such a row

@@ -1,7 +1,7 @@
 -- The steps that read the interfaces of imports.
 use Rattle.std.specs.Prelude.{◌≡◌, ℕ, List, Result, Ok}
 use Rattle.sha2.specs.Sha256.{sha256}
-use Rattle.sx_interface.specs.Interfaces.{InterfaceParts, Mark}
+use Rattle.sx_interface.specs.Interfaces.{InterfaceParts, MarkData}
 use Rattle.sx_interface.specs.InterfaceView.{interface_view}
 use Rattle.sx_interface.specs.declared.import.Import.{Import}
 use Rattle.sx_outside.specs.Files.{Files}
@@ -21,8 +21,8 @@ abbrev pub import_of : Import → ImportData
 import_of i = record { parts = interface_view i.interface; digest = i.digest.bytes }
 
 -- its row in an interface: its name, and the digest of its file
-abbrev pub mark_of : ImportData → Mark
-mark_of i = record { name = i.parts.name; digest = i.digest }
+abbrev pub import_mark : ImportData → MarkData
+import_mark i = record { name = i.parts.name; digest = i.digest }
 
 -- the interface of the import with this name, with the digest of its bytes
 abbrev pub ReadsImport : Files → (name : List ℕ) → Result ImportData Stop → Type 0

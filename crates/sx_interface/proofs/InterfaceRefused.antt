@@ -15,9 +15,9 @@ use Rattle.sx_lines.proofs.SteadyLaws.{FirstRefused, Readable, ReadableAfter, re
 use Rattle.sx_lines.proofs.TakeLaws.{the_line-takes, next_line-takes, distinct_rows-takes}
 use Rattle.sx_interface.specs.declared.version.Version as versions
 use Rattle.sx_interface.specs.declared.version.Version.TheVariants.{One, Two}
-use Rattle.sx_interface.specs.Interfaces.{Mark, InterfaceParts, mark_text, mark_after, digest_after}
+use Rattle.sx_interface.specs.Interfaces.{MarkData, InterfaceParts, mark_text, mark_after, digest_after}
 use Rattle.sx_interface.specs.Interfaces.{version_of, use_after, interface_of, other_version}
-use Rattle.sx_interface.specs.Stated.{IsDigest, IsMark, StatesInterface}
+use Rattle.sx_interface.specs.Stated.{IsDigest, IsStatedMark, StatesInterface}
 use Rattle.sx_interface.proofs.MarkTexts.{mark_after-again, digest_after-again}
 use Rattle.sx_interface.proofs.VersionLaws.{first_text, version_again}
 use Rattle.sx_interface.proofs.InterfaceSteps.{made, from_stated, from_signature, from_signed, from_imports, from_base, from_uses, from_language, from_module, from_version, all_steps}
@@ -43,14 +43,14 @@ zeros_digest : IsDigest zeros
 unfolding zeros
 zeros_digest = record { len = refl; each = small zeros (search rules) }
 
-some_mark : Mark
+some_mark : MarkData
 some_mark = record { name = codes "A"; digest = zeros }
 
 mark_named : is_name false (codes "A") ≡ true
 unfolding is_name
 mark_named = refl
 
-some_mark-is : IsMark some_mark
+some_mark-is : IsStatedMark some_mark
 unfolding some_mark
 some_mark-is = record { name = mark_named; digest = zeros_digest }
 
@@ -75,12 +75,12 @@ imported version make =
     let r = signed version make in
     record { lines = line 0 (codes "---") [] r.lines; unread = no_import; value = r.value; is = rw (the_line-takes (codes "---") (line 0 (codes "---") [] r.lines) r.lines (refl, refl)) r.is }
 
-based : (version : versions.Version) (make : List Mark → List ℕ → List ℕ → InterfaceParts) → Readable (from_base version make)
+based : (version : versions.Version) (make : List MarkData → List ℕ → List ℕ → InterfaceParts) → Readable (from_base version make)
 based version make =
     let r = imported version (make []) in
-    record { lines = r.lines; value = r.value; is = rw (distinct_rows-takes (λ (m : Mark). m.name) (mark_after (codes "import ")) [] r.lines r.lines [] [] refl tt tt r.unread) r.is }
+    record { lines = r.lines; value = r.value; is = rw (distinct_rows-takes (λ (m : MarkData). m.name) (mark_after (codes "import ")) [] r.lines r.lines [] [] refl tt tt r.unread) r.is }
 
-used : (version : versions.Version) (make : List ℕ → List Mark → List ℕ → List ℕ → InterfaceParts) → ReadableAfter (use_after version) (from_uses version make)
+used : (version : versions.Version) (make : List ℕ → List MarkData → List ℕ → List ℕ → InterfaceParts) → ReadableAfter (use_after version) (from_uses version make)
 used version make =
     let r = based version (make zeros) in
     let row = codes "base " ++ encode_lower zeros in
@@ -92,12 +92,12 @@ used version make =
       is = rw (next_line-takes (digest_after (codes "base ")) all r.lines row zeros (refl, refl) (digest_after-again (codes "base ") zeros zeros_digest)) r.is;
     }
 
-spoken : (version : versions.Version) (make : List Mark → List ℕ → List Mark → List ℕ → List ℕ → InterfaceParts) → Readable (from_language version make)
+spoken : (version : versions.Version) (make : List MarkData → List ℕ → List MarkData → List ℕ → List ℕ → InterfaceParts) → Readable (from_language version make)
 spoken version make =
     let r = used version (make []) in
-    record { lines = r.lines; value = r.value; is = rw (distinct_rows-takes (λ (m : Mark). m.name) (use_after version) [] r.lines r.lines [] [] refl tt tt r.unread) r.is }
+    record { lines = r.lines; value = r.value; is = rw (distinct_rows-takes (λ (m : MarkData). m.name) (use_after version) [] r.lines r.lines [] [] refl tt tt r.unread) r.is }
 
-named : (version : versions.Version) (make : Mark → List Mark → List ℕ → List Mark → List ℕ → List ℕ → InterfaceParts) → Readable (from_module version make)
+named : (version : versions.Version) (make : MarkData → List MarkData → List ℕ → List MarkData → List ℕ → List ℕ → InterfaceParts) → Readable (from_module version make)
 named version make =
     readable_next (mark_after (codes "language ")) (λ m l. from_language version (make m) l) (codes "language " ++ mark_text some_mark) some_mark (mark_after-again (codes "language ") some_mark some_mark-is) (spoken version (make some_mark))
 
@@ -117,14 +117,14 @@ signed_first version make l k e =
     step_next Some (λ s x. from_signature version make (s, x)) l k [] [] refl (ended version make)
     (λ s x h. end_first version make s x k h) e
 
-base_first : (version : versions.Version) (make : List Mark → List ℕ → List ℕ → InterfaceParts) (l : Lines) (k : ℕ) → from_base version make l ≡ Err k → FirstRefused (from_base version make) l k
+base_first : (version : versions.Version) (make : List MarkData → List ℕ → List ℕ → InterfaceParts) (l : Lines) (k : ℕ) → from_base version make l ≡ Err k → FirstRefused (from_base version make) l k
 base_first version make l k e =
-    step_rows (λ (m : Mark). m.name) (mark_after (codes "import ")) (λ ms x. from_imports version (make ms) x) l k (λ ms. imported version (make ms))
+    step_rows (λ (m : MarkData). m.name) (mark_after (codes "import ")) (λ ms x. from_imports version (make ms) x) l k (λ ms. imported version (make ms))
     (λ ms x h. step_line (codes "---") (from_signed version (make ms)) x k (signed version (make ms)) (λ y i. signed_first version (make ms) y k i) h) e
 
-language_first : (version : versions.Version) (make : List Mark → List ℕ → List Mark → List ℕ → List ℕ → InterfaceParts) (l : Lines) (k : ℕ) → from_language version make l ≡ Err k → FirstRefused (from_language version make) l k
+language_first : (version : versions.Version) (make : List MarkData → List ℕ → List MarkData → List ℕ → List ℕ → InterfaceParts) (l : Lines) (k : ℕ) → from_language version make l ≡ Err k → FirstRefused (from_language version make) l k
 language_first version make l k e =
-    step_rows (λ (m : Mark). m.name) (use_after version) (λ us x. from_uses version (make us) x) l k (λ us. used version (make us))
+    step_rows (λ (m : MarkData). m.name) (use_after version) (λ us x. from_uses version (make us) x) l k (λ us. used version (make us))
     (λ us x h. step_next (digest_after (codes "base ")) (λ d y. from_base version (make us d) y) x k (codes "base " ++ encode_lower zeros) zeros (digest_after-again (codes "base ") zeros zeros_digest) (λ d. based version (make us d))
     (λ d y i. base_first version (make us d) y k i) h) e
 

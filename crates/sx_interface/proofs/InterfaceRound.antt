@@ -8,8 +8,8 @@ use Rattle.sx_lines.specs.Reading.{written}
 use Rattle.sx_lines.proofs.LineLaws.{first_line}
 use Rattle.sx_lines.proofs.TextLaws.{IsInnerByte, all_inner, name_no_blank, no_blank_plain, IsPlain, IsPlain-append, plain_text, plain_from_test, lines_written}
 use Rattle.sx_interface.specs.declared.version.Version.TheVariants.{Two}
-use Rattle.sx_interface.specs.Interfaces.{Mark, InterfaceParts, mark_text, mark_lines, interface_lines, interface_of, other_version}
-use Rattle.sx_interface.specs.Stated.{IsMark, IsInterface}
+use Rattle.sx_interface.specs.Interfaces.{MarkData, InterfaceParts, mark_text, mark_lines, interface_lines, interface_of, other_version}
+use Rattle.sx_interface.specs.Stated.{IsStatedMark, IsInterface}
 use Rattle.sx_interface.proofs.InterfaceLaws.{interface_again}
 
 -- ---- each line is one
@@ -33,13 +33,13 @@ plain_digits (b ∷ bytes) =
 plain_name : (name : List ℕ) → is_name false name ≡ true → IsPlain name
 plain_name name h = no_blank_plain name (name_no_blank false name h)
 
-plain_mark : (m : Mark) → IsMark m → IsPlain (mark_text m)
+plain_mark : (m : MarkData) → IsStatedMark m → IsPlain (mark_text m)
 plain_mark m h = IsPlain-append m.name (32 ∷ encode_lower m.digest) (plain_name m.name h.name) (record { feed = λ e. absurd (omega arith); return = λ e. absurd (omega arith) }, plain_digits m.digest)
 
 plain_row : (front text : List ℕ) → all_inner front ≡ true → IsPlain text → IsLineText (front ++ text)
 plain_row front text test h = plain_text (front ++ text) (IsPlain-append front text (plain_from_test front test) h)
 
-plain_marks : (front : List ℕ) → all_inner front ≡ true → (marks : List Mark) → AllByRecursion IsMark marks → AllByRecursion IsLineText (mark_lines front marks)
+plain_marks : (front : List ℕ) → all_inner front ≡ true → (marks : List MarkData) → AllByRecursion IsStatedMark marks → AllByRecursion IsLineText (mark_lines front marks)
 plain_marks front test [] h = tt
 plain_marks front test (m ∷ marks) h = (plain_row front (mark_text m) test (plain_mark m h.0), plain_marks front test marks h.1)
 

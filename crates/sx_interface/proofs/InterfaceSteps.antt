@@ -4,10 +4,10 @@ use Rattle.sx_lines.specs.Lines.{Lines}
 use Rattle.sx_lines.specs.Reading.{◌>>=◌, the_line, next_line, no_line}
 use Rattle.sx_lines.specs.Rows.{distinct_rows}
 use Rattle.sx_interface.specs.declared.version.Version.{Version}
-use Rattle.sx_interface.specs.Interfaces.{Mark, InterfaceParts, mark_after, digest_after, use_after}
+use Rattle.sx_interface.specs.Interfaces.{MarkData, InterfaceParts, mark_after, digest_after, use_after}
 use Rattle.sx_interface.specs.Interfaces.{stated_signature, version_of}
 
-abbrev pub made : (name : List ℕ) → Mark → (uses : List Mark) → (base : List ℕ) → (imports : List Mark) → (signature stated : List ℕ) → InterfaceParts
+abbrev pub made : (name : List ℕ) → MarkData → (uses : List MarkData) → (base : List ℕ) → (imports : List MarkData) → (signature stated : List ℕ) → InterfaceParts
 made name language uses base imports signature stated =
     record { name = name; language = language; uses = uses; base = base; imports = imports; signature = signature; stated = stated }
 
@@ -23,18 +23,18 @@ from_signed version make signed = next_line Some signed >>= λ signature. from_s
 abbrev pub from_imports : Version → (List ℕ → List ℕ → InterfaceParts) → Lines → Result InterfaceParts ℕ
 from_imports version make lines = the_line (codes "---") lines >>= λ signed. from_signed version make signed
 
-abbrev pub from_base : Version → (List Mark → List ℕ → List ℕ → InterfaceParts) → Lines → Result InterfaceParts ℕ
+abbrev pub from_base : Version → (List MarkData → List ℕ → List ℕ → InterfaceParts) → Lines → Result InterfaceParts ℕ
 from_base version make lines =
-    distinct_rows (λ (m : Mark). m.name) (mark_after (codes "import ")) [] lines >>= λ imports. from_imports version (make imports.0) imports.1
+    distinct_rows (λ (m : MarkData). m.name) (mark_after (codes "import ")) [] lines >>= λ imports. from_imports version (make imports.0) imports.1
 
-abbrev pub from_uses : Version → (List ℕ → List Mark → List ℕ → List ℕ → InterfaceParts) → Lines → Result InterfaceParts ℕ
+abbrev pub from_uses : Version → (List ℕ → List MarkData → List ℕ → List ℕ → InterfaceParts) → Lines → Result InterfaceParts ℕ
 from_uses version make lines = next_line (digest_after (codes "base ")) lines >>= λ base. from_base version (make base.0) base.1
 
-abbrev pub from_language : Version → (List Mark → List ℕ → List Mark → List ℕ → List ℕ → InterfaceParts) → Lines → Result InterfaceParts ℕ
+abbrev pub from_language : Version → (List MarkData → List ℕ → List MarkData → List ℕ → List ℕ → InterfaceParts) → Lines → Result InterfaceParts ℕ
 from_language version make lines =
-    distinct_rows (λ (m : Mark). m.name) (use_after version) [] lines >>= λ uses. from_uses version (make uses.0) uses.1
+    distinct_rows (λ (m : MarkData). m.name) (use_after version) [] lines >>= λ uses. from_uses version (make uses.0) uses.1
 
-abbrev pub from_module : Version → (Mark → List Mark → List ℕ → List Mark → List ℕ → List ℕ → InterfaceParts) → Lines → Result InterfaceParts ℕ
+abbrev pub from_module : Version → (MarkData → List MarkData → List ℕ → List MarkData → List ℕ → List ℕ → InterfaceParts) → Lines → Result InterfaceParts ℕ
 from_module version make lines = next_line (mark_after (codes "language ")) lines >>= λ language. from_language version (make language.0) language.1
 
 abbrev pub from_version : List ℕ → Version → Lines → Result InterfaceParts ℕ

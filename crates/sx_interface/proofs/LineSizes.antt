@@ -9,8 +9,8 @@ use Rattle.sx_lines.specs.Lines.{Lines, over, line, next_number, ends_here, with
 use Rattle.sx_lines.specs.Lines.{line_texts}
 use Rattle.sx_interface.specs.declared.version.Version.{Version}
 use Rattle.sx_interface.specs.declared.version.Version.TheVariants.{One, Two}
-use Rattle.sx_interface.specs.Interfaces.{InterfaceParts, Mark, lines_in, mark_lines, mark_text}
-use Rattle.sx_interface.specs.Stated.{IsWhole, IsWithin, InterfacesAreWithin}
+use Rattle.sx_interface.specs.Interfaces.{InterfaceParts, MarkData, lines_in, mark_lines, mark_text}
+use Rattle.sx_interface.specs.Stated.{TellsAll, IsWithinSize, InterfacesAreWithin}
 
 -- how many bytes the texts have
 abbrev bytes_in : List (List ℕ) → ℕ
@@ -67,12 +67,12 @@ within n (b ∷ bytes) =
 
 -- ---- the lines of an interface
 
-many_marks : (front : List ℕ) (marks : List Mark) →
+many_marks : (front : List ℕ) (marks : List MarkData) →
     length (mark_lines front marks) ≡ length marks
 many_marks front marks = length-map marks (λ m. front ++ mark_text m)
 
-interface_within : (version : Version) (most : ℕ) (it : InterfaceParts) → IsWhole version it →
-    AreWithin most (lines_in version it) → IsWithin most it
+interface_within : (version : Version) (most : ℕ) (it : InterfaceParts) → TellsAll version it →
+    AreWithin most (lines_in version it) → IsWithinSize most it
 interface_within One most it whole h =
     let imports = mark_lines (codes "import ") it.imports in
     let end = codes "---" ∷ it.signature ∷ [] in
@@ -85,7 +85,7 @@ interface_within One most it whole h =
     record {
       signature = signature;
       stated = subst (λ (t : List ℕ). length t ≤ most) (sym whole.1) signature;
-      marks = subst (λ (us : List Mark). length us + length it.imports ≤ most) (sym whole.0)
+      marks = subst (λ (us : List MarkData). length us + length it.imports ≤ most) (sym whole.0)
           (omega (arith, count, is, many));
     }
 interface_within Two most it whole h =

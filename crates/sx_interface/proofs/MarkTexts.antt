@@ -16,8 +16,8 @@ use Rattle.sx_lines.proofs.BlankLaws.{word_split}
 use Rattle.sx_lines.proofs.TextLaws.{NoBlank, name_no_blank}
 use Rattle.sx_lines.proofs.ReadLaws.{EachReads}
 use Rattle.sx_interface.specs.Digests.{digest_if, digest_of}
-use Rattle.sx_interface.specs.Interfaces.{Mark, mark_text, mark_lines, mark_if, mark_of, mark_after, digest_after}
-use Rattle.sx_interface.specs.Stated.{IsDigest, IsMark}
+use Rattle.sx_interface.specs.Interfaces.{MarkData, mark_text, mark_lines, mark_if, mark_of, mark_after, digest_after}
+use Rattle.sx_interface.specs.Stated.{IsDigest, IsStatedMark}
 use Rattle.sx_interface.proofs.DigestLaws.{digest_again}
 
 -- ---- what is stated is read
@@ -26,13 +26,13 @@ no_space : (text : List ℕ) → NoBlank text → NoSpace text
 no_space [] h = tt
 no_space (b ∷ text) h = ((λ e. omega (arith, h.0)), no_space text h.1)
 
-pub mark_again : (m : Mark) → IsMark m → mark_of (mark_text m) ≡ Some m
+pub mark_again : (m : MarkData) → IsStatedMark m → mark_of (mark_text m) ≡ Some m
 unfolding mark_of
 mark_again m h =
     let split = word_split m.name (encode_lower m.digest) (no_space m.name (name_no_blank false m.name h.name)) in
     ap (λ (p : List ℕ × List ℕ). mark_if p.0 (digest_of p.1)) split ∙ ap (mark_if m.name) (digest_again m.digest h.digest.len h.digest.each) ∙ rw h.name refl
 
-pub mark_after-again : (front : List ℕ) (m : Mark) → IsMark m → mark_after front (front ++ mark_text m) ≡ Some m
+pub mark_after-again : (front : List ℕ) (m : MarkData) → IsStatedMark m → mark_after front (front ++ mark_text m) ≡ Some m
 unfolding mark_after
 mark_after-again front m h = ap (option_and_then mark_of) (after_front front (mark_text m)) ∙ mark_again m h
 
@@ -40,7 +40,7 @@ pub digest_after-again : (front bytes : List ℕ) → IsDigest bytes → digest_
 unfolding digest_after
 digest_after-again front bytes h = ap (option_and_then digest_of) (after_front front (encode_lower bytes)) ∙ digest_again bytes h.len h.each
 
-pub marks_again : (front : List ℕ) (marks : List Mark) → AllByRecursion IsMark marks → EachReads (mark_after front) (mark_lines front marks) marks
+pub marks_again : (front : List ℕ) (marks : List MarkData) → AllByRecursion IsStatedMark marks → EachReads (mark_after front) (mark_lines front marks) marks
 marks_again front [] h = tt
 marks_again front (m ∷ marks) h = (mark_after-again front m h.0, marks_again front marks h.1)
 
@@ -80,21 +80,21 @@ not_empty text bytes none e =
     let len = length-encode_with lower_digits bytes in
     absurd (omega (arith, len, h.1.len, ap length h.0, ap length none))
 
-mark_case : (text : List ℕ) (o : Option (List ℕ)) (m : Mark) → digest_of (word_of text).1 ≡ o → mark_if (word_of text).0 o ≡ Some m → (text ≡ mark_text m) × IsMark m
+mark_case : (text : List ℕ) (o : Option (List ℕ)) (m : MarkData) → digest_of (word_of text).1 ≡ o → mark_if (word_of text).0 o ≡ Some m → (text ≡ mark_text m) × IsStatedMark m
 mark_case text None m is e = absurd cc
 mark_case text (Some d) m is e = name_case text d m (is_name false (word_of text).0) refl is e (word_parts text)
   where
-    name_case : (text d : List ℕ) (m : Mark) (test : Bool) → is_name false (word_of text).0 ≡ test → digest_of (word_of text).1 ≡ Some d → ◌≡◌ {A = Option Mark} (cond test (Some (record { name = (word_of text).0; digest = d })) None) (Some m)
-        → (text ≡ (word_of text).0 ++ 32 ∷ (word_of text).1) ⊎ ((word_of text).1 ≡ []) → (text ≡ mark_text m) × IsMark m
+    name_case : (text d : List ℕ) (m : MarkData) (test : Bool) → is_name false (word_of text).0 ≡ test → digest_of (word_of text).1 ≡ Some d → ◌≡◌ {A = Option MarkData} (cond test (Some (record { name = (word_of text).0; digest = d })) None) (Some m)
+        → (text ≡ (word_of text).0 ++ 32 ∷ (word_of text).1) ⊎ ((word_of text).1 ≡ []) → (text ≡ mark_text m) × IsStatedMark m
     name_case text d m false named is e parts = absurd cc
     name_case text d m true named is e (inr none) = absurd (not_empty (word_of text).1 d none is)
     name_case text d m true named is e (inl parts) =
         let h = digest_found (word_of text).1 d is in
-        let made : Mark = record { name = (word_of text).0; digest = d } in
+        let made : MarkData = record { name = (word_of text).0; digest = d } in
         let same : made ≡ m = cc in
-        subst (λ (x : Mark). (text ≡ mark_text x) × IsMark x) same (parts ∙ ap (λ (r : List ℕ). (word_of text).0 ++ 32 ∷ r) h.0, record { name = named; digest = h.1 })
+        subst (λ (x : MarkData). (text ≡ mark_text x) × IsStatedMark x) same (parts ∙ ap (λ (r : List ℕ). (word_of text).0 ++ 32 ∷ r) h.0, record { name = named; digest = h.1 })
 
-pub mark_found : (text : List ℕ) (m : Mark) → mark_of text ≡ Some m → (text ≡ mark_text m) × IsMark m
+pub mark_found : (text : List ℕ) (m : MarkData) → mark_of text ≡ Some m → (text ≡ mark_text m) × IsStatedMark m
 unfolding mark_of
 mark_found text m e = mark_case text (digest_of (word_of text).1) m refl e
 
@@ -102,7 +102,7 @@ and_then_some : {A B : Type 0} (o : Option A) (f : A → Option B) (y : B) → o
 and_then_some (Some x) f y e = (x, refl, e)
 and_then_some None f y e = absurd cc
 
-pub mark_after-found : (front text : List ℕ) (m : Mark) → mark_after front text ≡ Some m → (text ≡ front ++ mark_text m) × IsMark m
+pub mark_after-found : (front text : List ℕ) (m : MarkData) → mark_after front text ≡ Some m → (text ≡ front ++ mark_text m) × IsStatedMark m
 unfolding mark_after
 mark_after-found front text m e =
     let p = and_then_some (after front text) mark_of m e in
@@ -116,7 +116,7 @@ digest_after-found front text bytes e =
     let h = digest_found p.0 bytes p.2 in
     (front_of front text p.0 p.1 ∙ ap (λ (x : List ℕ). front ++ x) h.0, h.1)
 
-pub marks_found : (front : List ℕ) (lines : List (List ℕ)) (marks : List Mark) → EachReads (mark_after front) lines marks → (lines ≡ mark_lines front marks) × AllByRecursion IsMark marks
+pub marks_found : (front : List ℕ) (lines : List (List ℕ)) (marks : List MarkData) → EachReads (mark_after front) lines marks → (lines ≡ mark_lines front marks) × AllByRecursion IsStatedMark marks
 marks_found front [] [] h = (refl, tt)
 marks_found front [] (m ∷ marks) h = absurd h
 marks_found front (text ∷ lines) [] h = absurd h

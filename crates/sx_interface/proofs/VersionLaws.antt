@@ -11,10 +11,10 @@ use Rattle.sx_lines.proofs.ReadLaws.{EachReads}
 use Rattle.sx_lines.proofs.StepLaws.{next_line-again, NotRead}
 use Rattle.sx_interface.specs.declared.version.Version.{Version}
 use Rattle.sx_interface.specs.declared.version.Version.TheVariants.{One, Two}
-use Rattle.sx_interface.specs.Interfaces.{Mark, InterfaceParts, mark_text, mark_lines, lines_in}
+use Rattle.sx_interface.specs.Interfaces.{MarkData, InterfaceParts, mark_text, mark_lines, lines_in}
 use Rattle.sx_interface.specs.Interfaces.{mark_after, version_of, use_after, stated_signature}
 use Rattle.sx_interface.specs.Interfaces.{other_version}
-use Rattle.sx_interface.specs.Stated.{IsMark, IsWhole}
+use Rattle.sx_interface.specs.Stated.{IsStatedMark, TellsAll}
 use Rattle.sx_interface.proofs.MarkTexts.{marks_again, marks_found}
 
 -- ---- the lines in one form
@@ -33,9 +33,9 @@ base_lines version it = (codes "base " ++ encode_lower it.base) ∷ (mark_lines 
 abbrev pub language_lines : Version → InterfaceParts → List (List ℕ)
 language_lines version it = (codes "language " ++ mark_text it.language) ∷ (mark_lines (codes "use ") it.uses ++ base_lines version it)
 
-pub one_form : (version : Version) (it : InterfaceParts) → IsWhole version it → lines_in version it ≡ first_text version ∷ (codes "module " ++ it.name) ∷ language_lines version it
+pub one_form : (version : Version) (it : InterfaceParts) → TellsAll version it → lines_in version it ≡ first_text version ∷ (codes "module " ++ it.name) ∷ language_lines version it
 one_form One it h =
-    ap (λ (uses : List Mark). codes "sxint 1" ∷ (codes "module " ++ it.name) ∷ (codes "language " ++ mark_text it.language) ∷ (mark_lines (codes "use ") uses ++ base_lines One it)) (sym h.0)
+    ap (λ (uses : List MarkData). codes "sxint 1" ∷ (codes "module " ++ it.name) ∷ (codes "language " ++ mark_text it.language) ∷ (mark_lines (codes "use ") uses ++ base_lines One it)) (sym h.0)
 one_form Two it h = refl
 
 -- ---- the first line
@@ -61,15 +61,15 @@ version_known (line n words rest lines) Two more e = let same : words ≡ codes 
 -- ---- the uses
 
 -- version 1 has none
-abbrev pub HasUses : Version → List Mark → Type 0
+abbrev pub HasUses : Version → List MarkData → Type 0
 HasUses One uses = uses ≡ []
 HasUses Two uses = Unit {0}
 
-pub uses_again : (version : Version) (it : InterfaceParts) → IsWhole version it → AllByRecursion IsMark it.uses → EachReads (use_after version) (mark_lines (codes "use ") it.uses) it.uses
-uses_again One it h k = subst (λ (uses : List Mark). EachReads (use_after One) (mark_lines (codes "use ") uses) uses) (sym h.0) tt
+pub uses_again : (version : Version) (it : InterfaceParts) → TellsAll version it → AllByRecursion IsStatedMark it.uses → EachReads (use_after version) (mark_lines (codes "use ") it.uses) it.uses
+uses_again One it h k = subst (λ (uses : List MarkData). EachReads (use_after One) (mark_lines (codes "use ") uses) uses) (sym h.0) tt
 uses_again Two it h k = marks_again (codes "use ") it.uses k
 
-pub uses_found : (version : Version) (lines : List (List ℕ)) (uses : List Mark) → EachReads (use_after version) lines uses → (lines ≡ mark_lines (codes "use ") uses) × AllByRecursion IsMark uses × HasUses version uses
+pub uses_found : (version : Version) (lines : List (List ℕ)) (uses : List MarkData) → EachReads (use_after version) lines uses → (lines ≡ mark_lines (codes "use ") uses) × AllByRecursion IsStatedMark uses × HasUses version uses
 uses_found One [] [] h = (refl, tt, refl)
 uses_found One [] (m ∷ uses) h = absurd h
 uses_found One (text ∷ lines) [] h = absurd h
@@ -93,16 +93,16 @@ abbrev pub HasStated : Version → (signature stated : List ℕ) → Type 0
 HasStated One signature stated = stated ≡ signature
 HasStated Two signature stated = Unit {0}
 
-pub stated_again : (version : Version) (it : InterfaceParts) (lines : Lines) → IsWhole version it → line_texts lines ≡ stated_lines version it.stated → (rest : Lines) × (stated_signature version (it.signature, lines) ≡ Ok (it.stated, rest)) × (line_texts rest ≡ [])
+pub stated_again : (version : Version) (it : InterfaceParts) (lines : Lines) → TellsAll version it → line_texts lines ≡ stated_lines version it.stated → (rest : Lines) × (stated_signature version (it.signature, lines) ≡ Ok (it.stated, rest)) × (line_texts rest ≡ [])
 stated_again One it lines h e = (lines, ap (λ (s : List ℕ). Ok (s, lines)) (sym h.1), e)
 stated_again Two it lines h e = next_line-again Some lines it.stated [] it.stated e refl
 
-pub is_whole : (version : Version) (it : InterfaceParts) → HasUses version it.uses → HasStated version it.signature it.stated → IsWhole version it
+pub is_whole : (version : Version) (it : InterfaceParts) → HasUses version it.uses → HasStated version it.signature it.stated → TellsAll version it
 is_whole One it h k = (h, k)
 is_whole Two it h k = tt
 
 -- version 1 has no rows of uses
-pub no_uses : (lines : Lines) → distinct_rows (λ (m : Mark). m.name) (use_after One) [] lines ≡ Ok ([], lines)
+pub no_uses : (lines : Lines) → distinct_rows (λ (m : MarkData). m.name) (use_after One) [] lines ≡ Ok ([], lines)
 unfolding distinct_rows
 no_uses (over n) = refl
 no_uses (line n words rest lines) = refl

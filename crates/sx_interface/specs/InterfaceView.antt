@@ -7,22 +7,22 @@ use Rattle.sx_interface.specs.declared.interface_rows.Front as front
 use Rattle.sx_interface.specs.declared.interface_rows.Rows.{Rows}
 use Rattle.sx_interface.specs.declared.marks.Digest.{Digest}
 use Rattle.sx_lines.specs.Left.{left}
-use Rattle.sx_interface.specs.Interfaces.{Mark, InterfaceParts, Front}
+use Rattle.sx_interface.specs.Interfaces.{MarkData, InterfaceParts, Front}
 
 -- a mark without where it lies in memory
-abbrev pub mark_view : mark.ImportMark → Mark
+abbrev pub mark_view : mark.ImportMark → MarkData
 mark_view m = record { name = m.name; digest = m.digest.bytes }
 
 -- the marks one after the other
-abbrev pub marks_view : List mark.ImportMark → List Mark
+abbrev pub marks_view : List mark.ImportMark → List MarkData
 marks_view marks = map mark_view marks
 
 -- a name and a digest as a mark
-abbrev pub import_view : Bor (List ℕ) × Digest → Mark
+abbrev pub import_view : Bor (List ℕ) × Digest → MarkData
 import_view p = record { name = p.0.now; digest = p.1.bytes }
 
 -- what stands before the imports, with the marks of the uses
-abbrev pub front_view : front.Front → List Mark → Front
+abbrev pub front_view : front.Front → List MarkData → Front
 front_view it uses = record {
   version = it.version;
   language = record { name = it.language.now; digest = it.language_digest.bytes };
@@ -32,7 +32,7 @@ front_view it uses = record {
 }
 
 -- what the rows of an interface say, under the module's name
-abbrev pub rows_view : List ℕ → Rows → (uses imports : List Mark) → InterfaceParts
+abbrev pub rows_view : List ℕ → Rows → (uses imports : List MarkData) → InterfaceParts
 rows_view name rows uses imports = record {
   name = name;
   language = record { name = rows.language.now; digest = rows.language_digest.bytes };

@@ -13,7 +13,7 @@ use Rattle.sx_interface.specs.declared.version.Version.{Version}
 use Rattle.sx_interface.specs.declared.version.Version.TheVariants.{One, Two}
 
 -- a name with a digest
-pub record Mark : Type 0 where
+pub record MarkData : Type 0 where
   pub name : List ℕ
   pub digest : List ℕ
 
@@ -21,19 +21,19 @@ pub record Mark : Type 0 where
 -- in the syntax of the extensions that it uses
 pub record InterfaceParts : Type 0 where
   pub name : List ℕ
-  pub language : Mark
-  pub uses : List Mark
+  pub language : MarkData
+  pub uses : List MarkData
   pub base : List ℕ
-  pub imports : List Mark
+  pub imports : List MarkData
   pub signature : List ℕ
   pub stated : List ℕ
 
 -- a name, a blank and the digits of a digest
-abbrev pub mark_text : Mark → List ℕ
+abbrev pub mark_text : MarkData → List ℕ
 mark_text m = m.name ++ space ∷ encode_lower m.digest
 
 -- a row for each mark
-abbrev pub mark_lines : List ℕ → List Mark → List (List ℕ)
+abbrev pub mark_lines : List ℕ → List MarkData → List (List ℕ)
 mark_lines front marks = map (λ m. front ++ mark_text m) marks
 
 -- the lines of an interface in version 1
@@ -56,17 +56,17 @@ lines_in One it = first_lines it
 lines_in Two it = interface_lines it
 
 -- the mark with this name, where the name is one and there is a digest
-abbrev pub mark_if : List ℕ → Option (List ℕ) → Option Mark
+abbrev pub mark_if : List ℕ → Option (List ℕ) → Option MarkData
 mark_if name (Some digest) =
     if is_name false name then Some (record { name = name; digest = digest }) else None
 mark_if name None = None
 
 -- the mark that a text states
-unfoldable pub mark_of : List ℕ → Option Mark
+unfoldable pub mark_of : List ℕ → Option MarkData
 mark_of text = mark_if (word_of text).0 (digest_of (word_of text).1)
 
 -- the mark that a row with this front states
-unfoldable pub mark_after : List ℕ → List ℕ → Option Mark
+unfoldable pub mark_after : List ℕ → List ℕ → Option MarkData
 mark_after front text = option_and_then mark_of (after front text)
 
 -- the digest that a row with this front states
@@ -80,7 +80,7 @@ version_of text =
     else if bytes_eq text (codes "sxint 2") then Some Two else None
 
 -- the mark that a `use` line states, in a version that has them
-abbrev pub use_after : Version → List ℕ → Option Mark
+abbrev pub use_after : Version → List ℕ → Option MarkData
 use_after One = λ text. None
 use_after Two = mark_after (codes "use ")
 
@@ -92,14 +92,14 @@ stated_signature Two signature = next_line Some signature.1
 -- what is stated before the imports, and the lines from there on
 pub record Front : Type 0 where
   pub version : Version
-  pub language : Mark
-  pub uses : List Mark
+  pub language : MarkData
+  pub uses : List MarkData
   pub base : List ℕ
   pub rest : Lines
 
 -- what stands before the imports, in a file of the module with this name
-unfoldable pub front_of : List ℕ → Lines → Result Front ℕ
-front_of name lines = do
+unfoldable pub interface_front : List ℕ → Lines → Result Front ℕ
+interface_front name lines = do
   version ← next_line version_of lines
   rest ← the_line (codes "module " ++ name) version.1
   language ← next_line (mark_after (codes "language ")) rest
@@ -126,7 +126,7 @@ signatures_of version lines = do
 -- defined.
 unfoldable pub interface_of : List ℕ → Lines → Result InterfaceParts ℕ
 interface_of name lines = do
-  front ← front_of name lines
+  front ← interface_front name lines
   imports ← distinct_rows (λ m. m.name) (mark_after (codes "import ")) [] front.rest
   signatures ← signatures_of front.version imports.1
   Ok (record {

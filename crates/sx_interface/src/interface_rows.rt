@@ -197,7 +197,7 @@ fn read_front<'a>(
 ) -> Result<Front<'a>, HeaderError>
     requires { uses.old.items ≡ [] }
     ensures rows { GivesRead (λ x. front_view x (marks_view uses.new.items)) RefusesHeader result
-        (spec.front_of name.now (lines_from 1 bytes.entry.now)) }
+        (spec.interface_front name.now (lines_from 1 bytes.entry.now)) }
     ensures named { IfOk result (λ x. is_name false x.language.now ≡ true) }
     ensures utf8 { IsUtf8 bytes.entry.now → IfOk result (λ x. IsUtf8 x.rest.bytes.now) }
 {

@@ -24,7 +24,7 @@ use Rattle.sx_directives.specs.declared.spelled.FormSymbol.{FormSymbol}
 use Rattle.sx_directives.specs.declared.spelled.FormSymbol.TheVariants.{Lit, Place}
 use Rattle.sx_directives.specs.declared.rows.FormLine.{FormLine}
 use Rattle.sx_outline.specs.Declarations.{Declared, declared_form}
-use Rattle.sx_outline.specs.Fitting.{sort_named, PlaceFits as IsSpelledFit, SymbolFits, sorts_at}
+use Rattle.sx_outline.specs.Fitting.{sort_named, RolePlaceFits as IsSpelledFit, SymbolFits, sorts_at}
 use Rattle.sx_outline.specs.Fitting.{HasOneSubjectSymbol}
 use Rattle.sx_notation.specs.Language.{PlaceFits, FormFits}
 use Rattle.sx_notation.specs.RuleParts.{judgement_sort, rule_parts}

@@ -29,8 +29,8 @@ use Rattle.sx_outline.specs.declared.main_form.MainForm.{MainForm}
 use Rattle.sx_outline.specs.Declarations.{Declared, declared_form}
 use Rattle.sx_outline.proofs.PlaceLaws.{at, first_at, found_in, find_place, find_nothing, position_is}
 use Rattle.sx_outline.proofs.FindLaws.{number_at}
-use Rattle.sx_outline.specs.Fitting.{sort_named, PlaceFits, SymbolFits, sorts_at, Kid, of_kind}
-use Rattle.sx_outline.specs.Fitting.{of_sort, kids_of, IsConstructor, IsMainOf}
+use Rattle.sx_outline.specs.Fitting.{sort_named, RolePlaceFits, SymbolFits, sorts_at, Kid, of_kind}
+use Rattle.sx_outline.specs.Fitting.{of_sort, parts_of_symbols, IsConstructor, IsMainOf}
 use Rattle.sx_notation.specs.RuleLaws.{spelled_sort, places_of, form_of, HasSortOf, HaveSortsOf}
 use Rattle.sx_notation.specs.RuleLaws.{IsSpelledSort}
 use Rattle.sx_notation.specs.Language.{sorts_with, IsMain}
@@ -84,7 +84,7 @@ module _ (p : Parts) where
   places_many (Place Out sort ∷ ss) = omega (arith, places_many ss)
 
   -- the places with a role fit, and their sorts are known
-  fits_at : (d : Declared) (role : Role) (ss : List FormSymbol) → AllByRecursion (SymbolFits d) ss → AllByRecursion (PlaceFits d role) (sorts_at role ss)
+  fits_at : (d : Declared) (role : Role) (ss : List FormSymbol) → AllByRecursion (SymbolFits d) ss → AllByRecursion (RolePlaceFits d role) (sorts_at role ss)
   fits_at d role [] all = tt
   fits_at d In (Lit text ∷ ss) all = fits_at d In ss all.1
   fits_at d Sub (Lit text ∷ ss) all = fits_at d Sub ss all.1
@@ -137,7 +137,7 @@ module _ (p : Parts) where
   kid_sort (of_kind kind) = TheSort.Lex kind
   kid_sort (of_sort name) = sort_with p.sorts (number_of (names p) name)
 
-  kids_are : (ss : List Symbol) → flat_map (kid_sorts p.sorts) (map (numbered_symbol (names p)) ss) ≡ map kid_sort (kids_of ss)
+  kids_are : (ss : List Symbol) → flat_map (kid_sorts p.sorts) (map (numbered_symbol (names p)) ss) ≡ map kid_sort (parts_of_symbols ss)
   kids_are [] = refl
   kids_are (TheSymbol.Lit text ∷ ss) = kids_are ss
   kids_are (TheSymbol.Lex kind ∷ ss) = ap (λ l. TheSort.Lex kind ∷ l) (kids_are ss)
@@ -184,14 +184,14 @@ module _ (p : Parts) (fs : List FormLine) (d : Declared) (sorts : d.sorts ≡ p.
 
   plain_at : (role : Role) (name : Text) (least : ℕ) → is_sub role ≡ false → sorts_at role symbols ≡ Named name least ∷ [] → sort_with p.sorts (number_of (names p) name) ≡ TheSort.Plain (number_of (names p) name)
   plain_at role name least plain e =
-      let one : PlaceFits d role (Named name least) = (subst (AllByRecursion (PlaceFits d role)) e (fits_at p d role symbols fit)).0 in
+      let one : RolePlaceFits d role (Named name least) = (subst (AllByRecursion (RolePlaceFits d role)) e (fits_at p d role symbols fit)).0 in
       as_plain p name (ap is_typed (found name) ∙ not_typed p (sort_named d name) (subst (λ b. IfSome (sort_named d name) (λ s. s.typed ≡ b)) plain one))
 
   -- the subject's sort is typed
   subject_at : (spelled : SpelledSort) → sorts_at Sub symbols ≡ spelled ∷ [] → (number : ℕ) × (spelled_sort p spelled ≡ TheSort.Typed number)
-  subject_at (Lex kind) e = let one : true ≡ false = (subst (AllByRecursion (PlaceFits d Sub)) e (fits_at p d Sub symbols fit)).0 in cc
+  subject_at (Lex kind) e = let one : true ≡ false = (subst (AllByRecursion (RolePlaceFits d Sub)) e (fits_at p d Sub symbols fit)).0 in cc
   subject_at (Named name least) e =
-      let one : PlaceFits d Sub (Named name least) = (subst (AllByRecursion (PlaceFits d Sub)) e (fits_at p d Sub symbols fit)).0 in
+      let one : RolePlaceFits d Sub (Named name least) = (subst (AllByRecursion (RolePlaceFits d Sub)) e (fits_at p d Sub symbols fit)).0 in
       let has : Contains (names p) name = (subst (AllByRecursion (IsSpelledSort p)) e (known_at p Sub symbols (known_of p fs main.form line.0 line.1 known))).0 in
       (number_of (names p) name, as_typed p name (ap is_typed (found name) ∙ is_found p name has (sort_named d name) (found name) one))
 

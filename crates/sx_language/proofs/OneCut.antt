@@ -15,8 +15,8 @@ use Rattle.sx_grammar.specs.Parts.{Parts, literals}
 use Rattle.sx_grammar.specs.Tables.{literals_of}
 use Rattle.sx_grammar.proofs.Finding.{distinct_are}
 use Rattle.sx_earley.specs.Tokens.{Stems}
-use Rattle.sx_earley.specs.Unknown.{HasStem, IsFirstUnknown}
-use Rattle.sx_notation.specs.ReadText.{IsLineCut, IsKnownCut, HasDefect, HasUnknown}
+use Rattle.sx_earley.specs.Unknown.{HasKnownStem, IsFirstUnknown}
+use Rattle.sx_notation.specs.ReadText.{IsLineCut, IsKnownCut, LineHasDefect, HasUnknown}
 
 abbrev back : Piece → Token
 back p = record { mark = p.mark; text = p.text; from = p.from; to = p.to }
@@ -52,7 +52,7 @@ module _ (p : Parts) (text : Text) where
   one_cut ts us c d = pieces_one ts us (ap pieces_in (outcome_one (tokens (pieces ts)) (tokens (pieces us)) c d))
 
   -- a line with a defect is not cut
-  pub defect_or_cut : (e : TokenError) (ts : List Token) → HasDefect p text e → IsLineCut p text ts → ⊥
+  pub defect_or_cut : (e : TokenError) (ts : List Token) → LineHasDefect p text e → IsLineCut p text ts → ⊥
   defect_or_cut token.Memory ts h c = h
   defect_or_cut (token.NotUtf8 place) ts h c = let e : not_utf8 place ≡ tokens (pieces ts) = outcome_one (not_utf8 place) (tokens (pieces ts)) h c in cc
   defect_or_cut (token.BadToken place) ts h c = let e : bad_token place ≡ tokens (pieces ts) = outcome_one (bad_token place) (tokens (pieces ts)) h c in cc
@@ -65,14 +65,14 @@ module _ (p : Parts) (text : Text) where
     holds : IsOutcome (literals_of p) true text outcome
     is : e ≡ defect_of (Some outcome)
 
-  told : (e : TokenError) → HasDefect p text e → IsTold e
+  told : (e : TokenError) → LineHasDefect p text e → IsTold e
   told token.Memory h = absurd h
   told (token.NotUtf8 place) h = record { outcome = not_utf8 place; holds = h; is = refl }
   told (token.BadToken place) h = record { outcome = bad_token place; holds = h; is = refl }
   told token.TooManyTokens h = record { outcome = too_many; holds = h; is = refl }
   told (token.OpenString place) h = record { outcome = open_string place; holds = h; is = refl }
 
-  pub defect_one : (e d : TokenError) → HasDefect p text e → HasDefect p text d → e ≡ d
+  pub defect_one : (e d : TokenError) → LineHasDefect p text e → LineHasDefect p text d → e ≡ d
   defect_one e d h k =
       let a = told e h in
       let b = told d k in
@@ -86,7 +86,7 @@ all_at P (u ∷ us) (suc n) t all at = all_at P us n t all.1 at
 
 unknown_or_known : (stems : Stems) (ts : List Token) (place : ℕ) → IsFirstUnknown stems ts (Some place) → IsFirstUnknown stems ts None → ⊥
 unknown_or_known stems ts place h all =
-    let has = all_at (HasStem stems) ts place h.1.0 all h.1.1 in
+    let has = all_at (HasKnownStem stems) ts place h.1.0 all h.1.1 in
     false≢true (sym (ap is_some h.1.2.1) ∙ has h.1.2.0)
 
 -- a line with an unknown stem is not cut into tokens whose stems are known

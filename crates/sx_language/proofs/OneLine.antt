@@ -12,7 +12,7 @@ use Rattle.sx_grammar.specs.Reading.{Reading}
 use Rattle.sx_grammar.specs.ReadOne.{IsAnswer, only}
 use Rattle.sx_earley.specs.Tokens.{Stems, plain_tokens}
 use Rattle.sx_earley.specs.Completed.{sort_number}
-use Rattle.sx_forest.specs.Names.{names_in, AddsEach}
+use Rattle.sx_forest.specs.Names.{reading_names, AddsEach}
 use Rattle.sx_lines.specs.declared.kind.Kind.TheVariants.{Variable}
 use Rattle.sx_rules.specs.Rules.{Premise, holds, apart}
 use Rattle.sx_outline.specs.Stages.{Numbered}
@@ -23,19 +23,19 @@ use Rattle.sx_notation.specs.declared.notation_error.NotationError.TheVariants.{
 use Rattle.sx_notation.specs.declared.notation_error.NotationError.TheVariants.{Grammar, Read}
 use Rattle.sx_notation.specs.declared.notation_error.NotationError.TheVariants.{Rules}
 use Rattle.sx_notation.specs.declared.unread.Unread.{Unread}
-use Rattle.sx_notation.specs.ReadText.{IsKnownCut, IsReadLine, HasDefect, HasUnknown, IsTextRefused}
+use Rattle.sx_notation.specs.ReadText.{IsKnownCut, IsReadLine, LineHasDefect, HasUnknown, IsTextRefused}
 use Rattle.sx_notation.specs.WhyUnread.{IsUnreadAs}
 use Rattle.sx_notation.specs.OneReason.{HaveThree, ShowTwo}
 use Rattle.sx_notation.proofs.OneReasons.{one_reason, unread_or_read}
-use Rattle.sx_language.specs.Alike.{HasThree, ShowOthers}
-use Rattle.sx_language.specs.RuleLine.{Reader, label_of, judgements, Says, IsLine, IsBadLine}
+use Rattle.sx_language.specs.Alike.{LineHasThree, LineShowsOthers}
+use Rattle.sx_language.specs.RuleLine.{Reader, label_of, judgements, Says, IsLine, IsBadRuleLine}
 use Rattle.sx_language.proofs.OneCut.{one_cut, defect_or_cut, defect_one, strange_or_cut}
 use Rattle.sx_language.proofs.OneReading.{reading_one}
 use Rattle.sx_language.proofs.Saying.{same_label, same_kids}
 
 -- the same refusal, but for the two readings that it shows of a line that has more
 abbrev pub Alike : (ℕ → Type 0) → NotationError → NotationError → Type 0
-Alike HasMore e d = (e ≡ d) ⊎ ShowOthers HasMore e d
+Alike HasMore e d = (e ≡ d) ⊎ LineShowsOthers HasMore e d
 
 -- so where another thing follows of the line
 pub alike_so : (P Q : ℕ → Type 0) → ((line : ℕ) → P line → Q line) → (e d : NotationError) → Alike P e d → Alike Q e d
@@ -44,7 +44,7 @@ alike_so P Q so e d (inr show) =
     inr (record { line = show.line; one = show.one; other = show.other; some = show.some; more = show.more; first = show.first; second = show.second; three = so show.line show.three })
 
 -- the refusals of one text by two reasons why its tokens have not one reading
-pub unreads_alike : (p : Parts) (stems : Stems) (sort : Sort) (text : Text) (ts : List Token) → IsKnownCut p stems text ts → (number : ℕ) (HasMore : ℕ → Type 0) → (HasThree p stems sort text → HasMore number) →
+pub unreads_alike : (p : Parts) (stems : Stems) (sort : Sort) (text : Text) (ts : List Token) → IsKnownCut p stems text ts → (number : ℕ) (HasMore : ℕ → Type 0) → (LineHasThree p stems sort text → HasMore number) →
     (e d : NotationError) (u v : Unread) → e ≡ Read number u → d ≡ Read number v → (u ≡ v) ⊎ (ShowTwo u v × HaveThree p stems sort ts) → Alike HasMore e d
 unreads_alike p stems sort text ts cut number HasMore so e d u v h k (inl same) = inl (h ∙ ap (Read number) same ∙ sym k)
 unreads_alike p stems sort text ts cut number HasMore so e d u v h k (inr (two, three)) =
@@ -79,9 +79,9 @@ module _ (p : Parts) (stems : Stems) (sort : Sort) (text : Text) where
       let cut = one_cut p text h.tokens k.tokens h.known.0 k.known.0 in
       let answer = subst (λ (ts : List Token). Answers ts h.reading) cut h.answer in
       let reading = reading_one p stems sort k.tokens h.reading k.reading answer k.answer in
-      let here = subst (λ (ts : List Token). AddsEach old (names_in ts h.reading) a) cut h.names in
-      let there = subst (λ (r : Reading). AddsEach old (names_in k.tokens r) a) reading here in
-      let names = adds_one old (names_in k.tokens k.reading) a b there k.names in
+      let here = subst (λ (ts : List Token). AddsEach old (reading_names ts h.reading) a) cut h.names in
+      let there = subst (λ (r : Reading). AddsEach old (reading_names k.tokens r) a) reading here in
+      let names = adds_one old (reading_names k.tokens k.reading) a b there k.names in
       (names, h.term ∙ (λ i. term_of (plain_tokens stems (cut i)) (names i) (reading i)) ∙ sym k.term)
 
   -- ---- a text that is refused
@@ -90,7 +90,7 @@ module _ (p : Parts) (stems : Stems) (sort : Sort) (text : Text) where
     record IsUncut (e : NotationError) : Type 0 where
       defect : TokenError
       is : e ≡ BadTokens number defect
-      has : HasDefect p text defect
+      has : LineHasDefect p text defect
 
     record IsStrange (e : NotationError) : Type 0 where
       is : e ≡ Notation number Variable
@@ -126,7 +126,7 @@ module _ (p : Parts) (stems : Stems) (sort : Sort) (text : Text) where
     pub refused_or_read : (old new : List Text) (t : Tree) (e : NotationError) → e ≢ Memory → IsTextRefused p stems sort text number e → IsReadLine p stems sort text old new t → ⊥
     refused_or_read old new t e n h k = why_or_read old new t e (whys e h n) k
 
-    module _ (HasMore : ℕ → Type 0) (so : HasThree p stems sort text → HasMore number) where
+    module _ (HasMore : ℕ → Type 0) (so : LineHasThree p stems sort text → HasMore number) where
       why_one : (e d : NotationError) → Why e → Why d → Alike HasMore e d
       why_one e d (inl h) (inl k) = inl (h.is ∙ ap (BadTokens number) (defect_one p text h.defect k.defect h.has k.has) ∙ sym k.is)
       why_one e d (inl h) (inr (inl k)) = absurd (defect_or_cut p text h.defect k.has.0 h.has k.has.2)
@@ -180,9 +180,9 @@ module _ (r : Reader) where
       let same = read_one r.parts r.stems (judgements r.parts) text old a b h.term k.term h.read k.read in
       (same.0, says_one k.term q w (subst (λ (t : Tree). Says r t q) same.1 h.says) k.says)
 
-  pub bad_or_line : (l : Numbered) (old new : List Text) (q : Premise) (e : NotationError) → e ≢ Memory → IsBadLine r l e → IsLine r l.text old new q → ⊥
+  pub bad_or_line : (l : Numbered) (old new : List Text) (q : Premise) (e : NotationError) → e ≢ Memory → IsBadRuleLine r l e → IsLine r l.text old new q → ⊥
   bad_or_line l old new q e n h k = refused_or_read r.parts r.stems (judgements r.parts) l.text l.number old new k.term e n h k.read
 
-  pub bad_line_one : (l : Numbered) (HasMore : ℕ → Type 0) → (HasThree r.parts r.stems (judgements r.parts) l.text → HasMore l.number) → (e d : NotationError) → e ≢ Memory → d ≢ Memory →
-      IsBadLine r l e → IsBadLine r l d → Alike HasMore e d
+  pub bad_line_one : (l : Numbered) (HasMore : ℕ → Type 0) → (LineHasThree r.parts r.stems (judgements r.parts) l.text → HasMore l.number) → (e d : NotationError) → e ≢ Memory → d ≢ Memory →
+      IsBadRuleLine r l e → IsBadRuleLine r l d → Alike HasMore e d
   bad_line_one l HasMore so e d n m h k = refused_one r.parts r.stems (judgements r.parts) l.text l.number HasMore so e d n m h k

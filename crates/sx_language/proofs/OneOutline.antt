@@ -15,7 +15,7 @@ use Rattle.sx_directives.specs.declared.rows.VarLine.{VarLine}
 use Rattle.sx_outline.specs.declared.outline.Outline.{Outline}
 use Rattle.sx_outline.specs.declared.outline_error.OutlineError.{OutlineError}
 use Rattle.sx_outline.specs.declared.outline_error.OutlineError.TheVariants as outlines
-use Rattle.sx_outline.specs.Declarations.{FormData, declared_form}
+use Rattle.sx_outline.specs.Declarations.{DeclaredForm, declared_form}
 use Rattle.sx_outline.specs.Outlined.{OutlineData, outline, IsOutlined}
 use Rattle.sx_outline.proofs.OneOutline.{one_answer}
 use Rattle.sx_notation.specs.RuleParts.{judgement_sort, symbol_for, form_line, apart_lines}
@@ -51,10 +51,10 @@ module _ (name bytes : Text) where
 -- ---- forms
 
 -- the production that a form is, and the form, of its name and its symbols
-abbrev line_of : FormData → Line
+abbrev line_of : DeclaredForm → Line
 line_of f = record { label = codes "form " ++ f.name; sort = codes "a judgement"; level = 0; symbols = map symbol_for f.symbols }
 
-abbrev spelled_by : Parts → FormData → view.FormData
+abbrev spelled_by : Parts → DeclaredForm → view.FormData
 spelled_by p f = record { name = f.name; places = flat_map (places_of p) f.symbols }
 
 lines_are : (fs : List FormLine) → map form_line fs ≡ map line_of (map declared_form fs)

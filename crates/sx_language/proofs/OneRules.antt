@@ -13,7 +13,7 @@ use Rattle.sx_notation.specs.declared.notation_error.NotationError.TheVariants.{
 use Rattle.sx_notation.specs.declared.notation_error.NotationError.TheVariants.{Notation, Token}
 use Rattle.sx_notation.specs.declared.notation_error.NotationError.TheVariants.{Grammar, Read}
 use Rattle.sx_notation.specs.declared.notation_error.NotationError.TheVariants.{Rules}
-use Rattle.sx_language.specs.Alike.{HasThree, IsSubjectSort, RuleHasThree, RulesHaveThree}
+use Rattle.sx_language.specs.Alike.{LineHasThree, IsSubjectSort, RuleHasThree, RulesHaveThree}
 use Rattle.sx_language.specs.Laws.{OneRules}
 use Rattle.sx_language.specs.RuleLine.{Reader, judgements, subject_sort, IsLine}
 use Rattle.sx_language.specs.RuleTexts.{ArePremises, IsRuleBody, AreStated, IsRule, AreRules}
@@ -109,7 +109,7 @@ module _ (r : Reader) where
 
   -- the line has more than two readings as a judgement
   abbrev JudgementHasThree : Numbered → Type 0
-  JudgementHasThree l = HasThree r.parts r.stems (judgements r.parts) l.text
+  JudgementHasThree l = LineHasThree r.parts r.stems (judgements r.parts) l.text
 
   -- the first bad lines, of a rule of which it is known what follows of each line with more than two readings
   module _ (HasMore : ℕ → Type 0) where
@@ -130,7 +130,7 @@ module _ (r : Reader) where
     bad_conclusion_one l so old e d n m (inr h) (inl k) = absurd (bad_or_line r l old h.0 (apart h.1 h.2) d m k h.3)
     bad_conclusion_one l so old e d n m (inr h) (inr k) = inl (h.4 ∙ sym k.4)
 
-    bad_body_one : (line : Option Numbered) (subject : Option Sort) → ((l : Numbered) (sort : Sort) → line ≡ Some l → subject ≡ Some sort → HasThree r.parts r.stems sort l.text → HasMore l.number) →
+    bad_body_one : (line : Option Numbered) (subject : Option Sort) → ((l : Numbered) (sort : Sort) → line ≡ Some l → subject ≡ Some sort → LineHasThree r.parts r.stems sort l.text → HasMore l.number) →
         (e d : NotationError) → e ≢ Memory → d ≢ Memory → IsBadBody r line subject e → IsBadBody r line subject d → Alike HasMore e d
     bad_body_one None subject so e d n m h k = absurd h
     bad_body_one (Some l) None so e d n m h k = absurd h
@@ -164,7 +164,7 @@ module _ (r : Reader) where
     of_conclusion three = record { line = l.conclusion; sort = judgements r.parts; read_as = inr (inl (refl, refl)); is = refl; three = three }
 
     of_body : (old new : List Text) (j : Judgement) → IsLine r l.conclusion.text old new (holds j) → (line : Numbered) (sort : Sort) → l.body ≡ Some line → subject_sort r.forms j.form ≡ Some sort →
-        HasThree r.parts r.stems sort line.text → RuleHasThree r l line.number
+        LineHasThree r.parts r.stems sort line.text → RuleHasThree r l line.number
     of_body old new j read line sort has subject three =
         let sorted : IsSubjectSort r l sort = record { old = old; new = new; conclusion = j; read = read; is = subject } in
         record { line = line; sort = sort; read_as = inr (inr (has, sorted)); is = refl; three = three }

@@ -10,7 +10,7 @@ use Rattle.sx_notation.specs.declared.notation_error.NotationError.TheVariants.{
 use Rattle.sx_notation.specs.declared.notation_error.NotationError.TheVariants.{Notation, Token}
 use Rattle.sx_notation.specs.declared.notation_error.NotationError.TheVariants.{Grammar, Read}
 use Rattle.sx_notation.specs.declared.notation_error.NotationError.TheVariants.{Rules}
-use Rattle.sx_language.specs.RuleLine.{Reader, IsLine, IsBadLine}
+use Rattle.sx_language.specs.RuleLine.{Reader, IsLine, IsBadRuleLine}
 use Rattle.sx_language.specs.RuleTexts.{ArePremises, IsBadPremise, OrMemory}
 
 -- why something is refused is why, or memory is lacking
@@ -60,7 +60,7 @@ module _ (r : Reader) (lines : List RuleLine) where
     }
 
     -- the line is bad
-    pub one_bad : (e : NotationError) → IsBadLine r (numbered_rule_line l) e → OrMemory (IsBadPremise r (map numbered_rule_line lines) []) e
+    pub one_bad : (e : NotationError) → IsBadRuleLine r (numbered_rule_line l) e → OrMemory (IsBadPremise r (map numbered_rule_line lines) []) e
     one_bad e h = or_memory (IsBadPremise r (map numbered_rule_line lines) []) e (before.bad e (subst (λ x. IsBadPremise r (map numbered_rule_line x) now e) (sym split) (inl h)))
 
   -- none is left

@@ -28,7 +28,7 @@ use Rattle.sx_earley.specs.Completed.{IsSort, sort_number}
 use Rattle.sx_earley.specs.Tokens.{Stems, stem_sort, without_digits, meta_stem, as_stem, found_stem}
 use Rattle.sx_earley.specs.Tokens.{read_token, plain_tokens}
 use Rattle.sx_forest.specs.Text.{token_texts}
-use Rattle.sx_forest.specs.Names.{names_in, names_of, AddsEach}
+use Rattle.sx_forest.specs.Names.{reading_names, names_of, AddsEach}
 use Rattle.sx_forest.proofs.Naming.{each_more}
 use Rattle.sx_directives.specs.declared.rows.FormLine.{FormLine}
 use Rattle.sx_directives.specs.declared.rows.VarLine.{VarLine}
@@ -173,7 +173,7 @@ module _ (p : Parts) (stems : Stems) (own : (stem : Text) (s : Sort) → stem_so
   found (t ∷ us) (suc n) stem h has = found us n stem h has
 
   mutual
-    reads_sorted : {sort least from to : ℕ} {r : Reading} → Reads (numbered p) (plain_tokens stems ts) sort least from to r → AllByRecursion (Contains ns) (names_in ts r) →
+    reads_sorted : {sort least from to : ℕ} {r : Reading} → Reads (numbered p) (plain_tokens stems ts) sort least from to r → AllByRecursion (Contains ns) (reading_names ts r) →
         HasSort (shapes_of p) sorts (term_of (plain_tokens stems ts) ns r) (sort_with p.sorts sort)
     reads_sorted (by_production {label = label} {p = r} at level kids) h = (shape_of p.sorts r, shape_at label r at, refl, all_sorted kids h)
     reads_sorted (by_brackets pair opening inner closing) h = reads_sorted inner h
@@ -190,7 +190,7 @@ module _ (p : Parts) (stems : Stems) (own : (stem : Text) (s : Sort) → stem_so
         let x = found ts from (plain.of_kind kind) marked h.0 in
         (subst (HasSort (shapes_of p) sorts (variable_term ns (slice_get (plain_tokens stems ts) from))) (sym (kind_found x.sort kind x.stemmed)) x.sorted, all_sorted rest h.1)
     all_sorted (by_part {kid = one} {kids = more} kid rest) h =
-        (reads_sorted kid (all_left (Contains ns) (names_in ts one) (names_of ts more) h), all_sorted rest (all_right (Contains ns) (names_in ts one) (names_of ts more) h))
+        (reads_sorted kid (all_left (Contains ns) (reading_names ts one) (names_of ts more) h), all_sorted rest (all_right (Contains ns) (reading_names ts one) (names_of ts more) h))
 
 -- ---- lines and bodies
 
@@ -202,7 +202,7 @@ sort_is p (TheSort.Typed n) h = ap (λ (b : Bool). cond b (TheSort.Typed n) (The
 pub reads_are_sorted : ReadsAreSorted
 reads_are_sorted p fs vars stems sort line old new t sorts are is read have =
     let q = rule_parts p fs in
-    let here = reads_sorted q stems (λ stem s e. own_stem p fs vars stems stem s are e) read.tokens new sorts have read.answer.1.0 (all_added old (names_in read.tokens read.reading) new read.names) in
+    let here = reads_sorted q stems (λ stem s e. own_stem p fs vars stems stem s are e) read.tokens new sorts have read.answer.1.0 (all_added old (reading_names read.tokens read.reading) new read.names) in
     subst (λ (u : Tree). HasSort (shapes_of q) sorts u sort) (sym read.term)
     (subst (HasSort (shapes_of q) sorts (term_of (plain_tokens stems read.tokens) new read.reading)) (sort_is q sort is) here)
 

@@ -45,7 +45,7 @@ use Rattle.sx_notation.specs.RuleLaws.{HaveSortsOf, form_of}
 use Rattle.sx_notation.specs.Language.{FormFits, RuleHasLexemes, IsMain, IsLanguage}
 use Rattle.sx_notation.proofs.Numbers.{number_is}
 use Rattle.sx_language.specs.declared.preparing.Prepared.{Prepared}
-use Rattle.sx_language.specs.RuleLine.{Reader, judgements, subject_sort, IsBadLine}
+use Rattle.sx_language.specs.RuleLine.{Reader, judgements, subject_sort, IsBadRuleLine}
 use Rattle.sx_language.specs.RuleTexts.{AreBareRules, IsBadPremise, IsBadConclusion, IsBadBody}
 use Rattle.sx_language.specs.RuleTexts.{IsBadEnd, IsBadRule, IsFirstBadRule, OrMemory}
 use Rattle.sx_language.specs.States.{IsNameOfSort, IsSortNamed, AreStems, IsLanguageIn, IsNoRules}
@@ -255,7 +255,7 @@ text_kind p stems sort text number (Grammar e) h = absurd h
 text_kind p stems sort text number (Read n e) h = tt
 text_kind p stems sort text number (Rules e v) h = absurd h
 
-line_kind : (r : Reader) (l : Numbered) (e : NotationError) → IsBadLine r l e → IsLineError e
+line_kind : (r : Reader) (l : Numbered) (e : NotationError) → IsBadRuleLine r l e → IsLineError e
 line_kind r l e h = text_kind r.parts r.stems (judgements r.parts) l.text l.number e h
 
 premise_kind : (r : Reader) (ls : List Numbered) (old : List Text) (e : NotationError) → IsBadPremise r ls old e → IsLineError e

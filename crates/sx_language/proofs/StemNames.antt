@@ -10,9 +10,9 @@ use Rattle.sx_grammar.specs.Grammar.{Text}
 use Rattle.sx_grammar.specs.Parts.{Parts}
 use Rattle.sx_grammar.specs.Reading.{Reading, Readings, branch, bracket, leaf, variable, done, ◌▸◌}
 use Rattle.sx_earley.specs.Tokens.{Stems, stem_sort, without_digits}
-use Rattle.sx_earley.specs.Unknown.{HasStem}
+use Rattle.sx_earley.specs.Unknown.{HasKnownStem}
 use Rattle.sx_forest.specs.Text.{token_texts}
-use Rattle.sx_forest.specs.Names.{IsMetavariable, IsMarked, AreMarked, names_in, names_of, AddsEach}
+use Rattle.sx_forest.specs.Names.{IsMetavariable, IsMarked, AreMarked, reading_names, names_of, AddsEach}
 use Rattle.sx_rules.specs.Rules.{Judgement, Premise, holds}
 use Rattle.sx_outline.specs.Stages.{Numbered, RuleData}
 use Rattle.sx_notation.specs.ReadText.{IsReadLine}
@@ -24,15 +24,15 @@ stems_append : (stems : Stems) (xs ys : List Text) → NamesHaveStems stems xs �
 stems_append stems [] ys h k = k
 stems_append stems (x ∷ xs) ys h k = (h.0, stems_append stems xs ys h.1 k)
 
-variable_stem : (stems : Stems) (ts : List Token) (n : ℕ) → IsMetavariable (slice_get ts n) → AllByRecursion (HasStem stems) ts
+variable_stem : (stems : Stems) (ts : List Token) (n : ℕ) → IsMetavariable (slice_get ts n) → AllByRecursion (HasKnownStem stems) ts
     → is_some (stem_sort stems (without_digits (without_tilde (slice_index_or (token_texts ts) n [])))) ≡ true
 variable_stem stems [] n h all = absurd h
 variable_stem stems (t ∷ ts) zero h all = all.0 h
 variable_stem stems (t ∷ ts) (suc n) h all = variable_stem stems ts n h all.1
 
-module _ (stems : Stems) (ts : List Token) (all : AllByRecursion (HasStem stems) ts) where
+module _ (stems : Stems) (ts : List Token) (all : AllByRecursion (HasKnownStem stems) ts) where
   mutual
-    reading_stems : (r : Reading) → IsMarked ts r → NamesHaveStems stems (names_in ts r)
+    reading_stems : (r : Reading) → IsMarked ts r → NamesHaveStems stems (reading_names ts r)
     reading_stems (branch label kids from to) h = readings_stems kids h
     reading_stems (bracket inner from to) h = reading_stems inner h
     reading_stems (leaf token) h = tt
@@ -40,7 +40,7 @@ module _ (stems : Stems) (ts : List Token) (all : AllByRecursion (HasStem stems)
 
     readings_stems : (ks : Readings) → AreMarked ts ks → NamesHaveStems stems (names_of ts ks)
     readings_stems done h = tt
-    readings_stems (kid ▸ kids) h = stems_append stems (names_in ts kid) (names_of ts kids) (reading_stems kid h.0) (readings_stems kids h.1)
+    readings_stems (kid ▸ kids) h = stems_append stems (reading_names ts kid) (names_of ts kids) (reading_stems kid h.0) (readings_stems kids h.1)
 
 added_stems : (stems : Stems) (old new : List Text) (name : Text) (number : ℕ) → NamesHaveStems stems old → is_some (stem_sort stems (without_digits name)) ≡ true → IsAdded old new name number → NamesHaveStems stems new
 added_stems stems old new name number h k added = by added.list
@@ -57,7 +57,7 @@ each_stems stems old (name ∷ names) new h k e = each_stems stems e.0 names new
 read_stems : (p : Parts) (stems : Stems) (sort : Sort) (text : Text) (old new : List Text) (t : Tree) →
     IsReadLine p stems sort text old new t → NamesHaveStems stems old → NamesHaveStems stems new
 read_stems p stems sort text old new t read h =
-    each_stems stems old (names_in read.tokens read.reading) new h
+    each_stems stems old (reading_names read.tokens read.reading) new h
     (reading_stems stems read.tokens read.known.1 read.reading
     (is_marked p stems text read.tokens read.known sort read.reading read.answer)) read.names
 

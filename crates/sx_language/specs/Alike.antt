@@ -18,8 +18,8 @@ use Rattle.sx_language.specs.RuleLine.{Reader, judgements, subject_sort, IsLine}
 use Rattle.sx_language.specs.States.{IsReadable}
 
 -- the line has more than two readings as the sort; metavariables may stand in it
-abbrev pub HasThree : Parts → Stems → Sort → (line : Text) → Type 0
-HasThree p stems sort line =
+abbrev pub LineHasThree : Parts → Stems → Sort → (line : Text) → Type 0
+LineHasThree p stems sort line =
     (ts : List Token) × IsKnownCut p stems line ts × HaveThree p stems sort ts
 
 -- the conclusion of the rule is read, and its subject has this sort
@@ -44,7 +44,7 @@ pub record RuleHasThree (r : Reader) (lines : RuleData) (number : ℕ) : Type 0 
   pub sort : Sort
   pub read_as : IsLineAs r lines line sort
   pub is : line.number ≡ number
-  pub three : HasThree r.parts r.stems sort line.text
+  pub three : LineHasThree r.parts r.stems sort line.text
 
 -- so it is of a line of one of these rules
 abbrev pub RulesHaveThree : Reader → List RuleData → (number : ℕ) → Type 0
@@ -58,7 +58,7 @@ pub record LanguageHasThree (name bytes : Text) (number : ℕ) : Type 0 where
   pub three : RulesHaveThree reader (map rule_data outline.rules.items) number
 
 -- both say that the line has more than one reading, and show two of them; it has more than two
-pub record ShowOthers (HasMore : (line : ℕ) → Type 0) (e d : NotationError) : Type 0 where
+pub record LineShowsOthers (HasMore : (line : ℕ) → Type 0) (e d : NotationError) : Type 0 where
   pub line : ℕ
   pub one : Text
   pub other : Text

@@ -29,7 +29,7 @@ use Rattle.sx_notation.specs.RuleParts.{rule_parts}
 use Rattle.sx_language.specs.RuleLine.{Reader, subject_sort, CanReadRules}
 use Rattle.sx_language.specs.RuleTexts.{HaveStemSorts, IsRule, AreRules, IsFirstBadRule}
 use Rattle.sx_language.specs.States.{AreStems, IsLanguageIn, name_unbound, IsLanguageTextRefused}
-use Rattle.sx_language.specs.Alike.{RulesHaveThree, LanguageHasThree, ShowOthers}
+use Rattle.sx_language.specs.Alike.{RulesHaveThree, LanguageHasThree, LineShowsOthers}
 use Rattle.sx_term.specs.Limits.{most_depth}
 
 -- two languages are the same, but for where they lie in memory
@@ -59,7 +59,7 @@ pub record OneLanguage : Type 0 where
       IsLanguageTextRefused name bytes e → e ≡ Memory
   pub refused : (name bytes : List ℕ) (e d : NotationError) → IsLanguageTextRefused name bytes e →
       IsLanguageTextRefused name bytes d → e ≢ Memory → d ≢ Memory →
-      (e ≡ d) ⊎ ShowOthers (LanguageHasThree name bytes) e d
+      (e ≡ d) ⊎ LineShowsOthers (LanguageHasThree name bytes) e d
 
 -- Lines state one list of rules with their bodies and names, or have one first bad line, but for
 -- the two readings that its refusal shows where the line has more than two.
@@ -72,7 +72,7 @@ pub record OneRules : Type 0 where
       IsFirstBadRule r ls e → e ≡ Memory
   pub refused : (r : Reader) (ls : List RuleData) (e d : NotationError) → IsFirstBadRule r ls e →
       IsFirstBadRule r ls d → e ≢ Memory → d ≢ Memory →
-      (e ≡ d) ⊎ ShowOthers (RulesHaveThree r ls) e d
+      (e ≡ d) ⊎ LineShowsOthers (RulesHaveThree r ls) e d
 
 -- what is read at a sort of the grammar of rules has it, where variables have the sorts of their
 -- stems

@@ -52,8 +52,8 @@ pub record IsLine (r : Reader) (text : Text) (old new : List Text) (q : Premise)
   pub says : Says r term q
 
 -- why the line is not read, out of memory aside
-abbrev pub IsBadLine : Reader → Numbered → NotationError → Type 0
-IsBadLine r l e = IsTextRefused r.parts r.stems (judgements r.parts) l.text l.number e
+abbrev pub IsBadRuleLine : Reader → Numbered → NotationError → Type 0
+IsBadRuleLine r l e = IsTextRefused r.parts r.stems (judgements r.parts) l.text l.number e
 
 -- each line that is read says a premise, and bodies can be read at the sorts of subjects
 pub record CanReadRules (r : Reader) : Type 0 where

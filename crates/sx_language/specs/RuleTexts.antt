@@ -13,7 +13,7 @@ use Rattle.sx_outline.specs.Stages.{Numbered, RuleData}
 use Rattle.sx_notation.specs.declared.notation_error.NotationError.{NotationError}
 use Rattle.sx_notation.specs.declared.notation_error.NotationError.TheVariants.{Memory, Notation}
 use Rattle.sx_notation.specs.ReadText.{IsReadLine, IsTextRefused}
-use Rattle.sx_language.specs.RuleLine.{Reader, subject_sort, IsLine, IsBadLine}
+use Rattle.sx_language.specs.RuleLine.{Reader, subject_sort, IsLine, IsBadRuleLine}
 
 -- the lines state the premises in order, and each adds the names that it is the first to have
 abbrev pub ArePremises : Reader → List Numbered → (old new : List Text) → List Premise → Type 0
@@ -75,14 +75,14 @@ AreBareRules r ls names qs = AreRules r ls names qs (map (λ l. None) ls)
 abbrev pub IsBadPremise : Reader → List Numbered → (old : List Text) → NotationError → Type 0
 IsBadPremise r [] old e = ⊥
 IsBadPremise r (l ∷ ls) old e =
-    IsBadLine r l e
+    IsBadRuleLine r l e
     ⊎ ((middle : List Text) × (q : Premise) × IsLine r l.text old middle q ×
     IsBadPremise r ls middle e)
 
 -- the conclusion is not read, or says that two lexemes are to be apart
 abbrev pub IsBadConclusion : Reader → Numbered → (old : List Text) → NotationError → Type 0
 IsBadConclusion r l old e =
-    IsBadLine r l e
+    IsBadRuleLine r l e
     ⊎ ((new : List Text) × (t : Tree) × (u : Tree) × IsLine r l.text old new (apart t u) ×
     (e ≡ Notation l.number Shape))
 

@@ -6,7 +6,7 @@ ghost use Rattle.sx_earley.specs.Completed.{IsSort};
 ghost use Rattle.sx_rules.specs.Views as view;
 ghost use Rattle.sx_outline.specs.Stages.{numbered_rule_line};
 ghost use Rattle.sx_notation.specs.ReadText.{IsReadLine, IsTextRefused};
-ghost use Rattle.sx_language.specs.RuleLine.{judgements, CanReadRules, IsLine, IsBadLine};
+ghost use Rattle.sx_language.specs.RuleLine.{judgements, CanReadRules, IsLine, IsBadRuleLine};
 ghost use Rattle.sx_language.specs.Readers.{reader, AreReaderTables};
 ghost use Rattle.sx_term.specs.Limits.{most_bytes, most_tokens};
 
@@ -64,7 +64,7 @@ fn judgement_term(
     requires room { length vars.now + most_tokens < 2 ^ 32 }
     ensures read { IfOk result (λ t. IsReadLine (reader by.now).parts (reader by.now).stems
         (judgements (reader by.now).parts) line.now.text vars.old vars.new (tree t)) }
-    ensures refused { IfErr result (IsBadLine (reader by.now) (numbered_rule_line line.now)) }
+    ensures refused { IfErr result (IsBadRuleLine (reader by.now) (numbered_rule_line line.now)) }
     ensures grows { length vars.new ≤ length vars.old + most_tokens }
 {
     let sort = judgements(by.grammar);
@@ -85,7 +85,7 @@ pub(crate) fn read_line(
     requires room { length vars.now + most_tokens < 2 ^ 32 }
     ensures read { IfOk result (λ q.
         IsLine (reader by.now) line.now.text vars.old vars.new (view.premise q)) }
-    ensures refused { IfErr result (IsBadLine (reader by.now) (numbered_rule_line line.now)) }
+    ensures refused { IfErr result (IsBadRuleLine (reader by.now) (numbered_rule_line line.now)) }
     ensures grows { length vars.new ≤ length vars.old + most_tokens }
 {
     match judgement_term(alloc, by, tables, line, vars) {

@@ -8,7 +8,7 @@ use Rattle.sx_rules.specs.Modes.{Modes, inputs_of, AllModed}
 use Rattle.sx_rules.specs.Rules.{Judgement, Rule, Hypotheses}
 use Rattle.sx_plain.specs.Plain.{Table, image}
 use Rattle.sx_rewrite.specs.Accepted.{Accepted, Signature, IsAccepted, extended_rules}
-use Rattle.sx_rewrite.specs.Extensions.{Extension, FitsRules, extended, with_table}
+use Rattle.sx_rewrite.specs.Extensions.{StoredExtension, FitsRules, extended, with_table}
 use Rattle.sx_rewrite.specs.Lowers.{Lowers}
 use Rattle.sx_rewrite.specs.Sound.{AreSoundBy}
 use Rattle.sx_lexemes.specs.Lexemes.{IsToken, LexemesAre, AllLexemesAre, JudgementLexemesAre}
@@ -49,7 +49,7 @@ LoweredKeepLexemes =
 abbrev pub GrownSetsKeepLexemes : Type 0
 GrownSetsKeepLexemes =
     (literals : List (List ℕ)) (sig : Signature) (base shapes all : List Shape) (a : Accepted)
-    (e : Extension) → IsAccepted sig base shapes a →
+    (e : StoredExtension) → IsAccepted sig base shapes a →
     FitsRules sig base shapes all a.table e.table e.rules →
     AreSoundBy sig.subjects (length base) (with_table a e.table) e.rules e.stored →
     SetLexemesAre (IsToken literals) a →

@@ -17,7 +17,7 @@ use Rattle.sx_grammar.proofs.Finding.{at_contains, contains_place}
 use Rattle.sx_earley.specs.Tokens.{Stems, plain_tokens}
 use Rattle.sx_earley.specs.Completed.{sort_number}
 use Rattle.sx_forest.specs.Text.{token_texts}
-use Rattle.sx_forest.specs.Names.{IsMetavariable, IsMarked, AreMarked, names_in, names_of, AddsEach}
+use Rattle.sx_forest.specs.Names.{IsMetavariable, IsMarked, AreMarked, reading_names, names_of, AddsEach}
 use Rattle.sx_notation.specs.declared.notation_error.NotationError.{NotationError}
 use Rattle.sx_notation.specs.declared.notation_error.NotationError.TheVariants.{Memory, NotUtf8}
 use Rattle.sx_notation.specs.declared.notation_error.NotationError.TheVariants.{Notation}
@@ -66,7 +66,7 @@ all_append names (x ∷ xs) ys h k = (h.0, all_append names xs ys h.1 k)
 
 module _ (names : List Text) (ts : List Token) (all : AllByRecursion (IsNamed names) ts) where
   mutual
-    reading_named : (r : Reading) → IsMarked ts r → AllByRecursion (Contains names) (names_in ts r)
+    reading_named : (r : Reading) → IsMarked ts r → AllByRecursion (Contains names) (reading_names ts r)
     reading_named (branch label kids from to) h = readings_named kids h
     reading_named (bracket inner from to) h = reading_named inner h
     reading_named (leaf token) h = tt
@@ -74,7 +74,7 @@ module _ (names : List Text) (ts : List Token) (all : AllByRecursion (IsNamed na
 
     readings_named : (ks : Readings) → AreMarked ts ks → AllByRecursion (Contains names) (names_of ts ks)
     readings_named done h = tt
-    readings_named (kid ▸ kids) h = all_append names (names_in ts kid) (names_of ts kids) (reading_named kid h.0) (readings_named kids h.1)
+    readings_named (kid ▸ kids) h = all_append names (reading_names ts kid) (names_of ts kids) (reading_named kid h.0) (readings_named kids h.1)
 
 -- names that are there add none
 one_there : (names new : List Text) (n : Text) (number : ℕ) → Contains names n → IsAdded names new n number → new ≡ names
@@ -98,13 +98,13 @@ none_added names (n ∷ ns) all =
 
 module _ (p : Parts) (stems : Stems) (line : Text) (names : List Text) (ts : List Token) (cut : IsNamedCut p stems names line ts) (sort : Sort) (r : Reading)
     (answer : IsAnswer (numbered p) (plain_tokens stems ts) (sort_number sort) (only r)) where
-  all_there : AllByRecursion (Contains names) (names_in ts r)
+  all_there : AllByRecursion (Contains names) (reading_names ts r)
   all_there = reading_named names ts cut.1 r (is_marked p stems line ts cut.0 sort r answer)
 
   -- the term of the reading is that of the line
-  pub is_read_among : (old new : List Text) → old ≡ names → AddsEach old (names_in ts r) new → (t : Tree) → t ≡ term_of (plain_tokens stems ts) (new ++ []) r → IsReadAmong p stems sort line names t
+  pub is_read_among : (old new : List Text) → old ≡ names → AddsEach old (reading_names ts r) new → (t : Tree) → t ≡ term_of (plain_tokens stems ts) (new ++ []) r → IsReadAmong p stems sort line names t
   is_read_among old new was added t is =
-      let same : new ≡ names = adds_none names (names_in ts r) new all_there (subst (λ l. AddsEach l (names_in ts r) new) was added) in
+      let same : new ≡ names = adds_none names (reading_names ts r) new all_there (subst (λ l. AddsEach l (reading_names ts r) new) was added) in
       record { tokens = ts; cut = cut; reading = r; answer = answer; term = is ∙ ap (λ l. term_of (plain_tokens stems ts) l r) (append-nil new ∙ same) }
 
 -- what is read among names is read without a further name
@@ -114,7 +114,7 @@ among_is_read p stems sort line names t h = record {
   known = h.cut.0;
   reading = h.reading;
   answer = h.answer;
-  names = none_added names (names_in h.tokens h.reading) (all_there p stems line names h.tokens h.cut sort h.reading h.answer);
+  names = none_added names (reading_names h.tokens h.reading) (all_there p stems line names h.tokens h.cut sort h.reading h.answer);
   term = h.term;
 }
 

@@ -17,7 +17,7 @@ use Rattle.sx_grammar.specs.Numbered.{symbol, production}
 use Rattle.sx_grammar.specs.Tables.{literals_of}
 use Rattle.sx_grammar.specs.Told.{kid_sorts}
 use Rattle.sx_grammar.specs.Print.{print_symbols}
-use Rattle.sx_print.specs.Printed.{parts_in, IsBuilt}
+use Rattle.sx_print.specs.Printed.{parts_in, HasProductions}
 use Rattle.sx_print.proofs.Fitting.{built}
 use Rattle.sx_rules.specs.declared.rule.Form.{Form}
 use Rattle.sx_rules.specs.declared.rule.Place.{Place}
@@ -25,7 +25,7 @@ use Rattle.sx_rules.specs.Deep.{AreShallow}
 use Rattle.sx_rules.specs.Modes.{Goal}
 use Rattle.sx_rules.specs.Views.{FormData, form, forms, places_or_none, places_at, is_out, modes_of}
 use Rattle.sx_notation.specs.Forms.{HasForms, HaveFits, MayFit, GoalFits}
-use Rattle.sx_notation.specs.GoalText.{contents, printer, symbols_of, form_label, goal_tokens}
+use Rattle.sx_notation.specs.GoalText.{contents, printer, production_symbols, form_label, goal_tokens}
 use Rattle.sx_notation.specs.Placed.{shown_term, IsPuttable, ArePuttable}
 
 -- there are as many parts as sorts of parts
@@ -67,7 +67,7 @@ module _ (p : Parts) (known : List FormData) (goal : Goal) (m : ℕ) (q : Number
       → print_symbols (map (symbol (literals_of p)) ss) (map (printer (numbered p) names) here) ≡ goal_tokens p names known goal got
   row_is names got here is =
       (λ i. print_symbols (map (symbol (literals_of p)) (symbols i)) (map (printer (numbered p) names) (is i)))
-      ∙ ap (λ r. print_symbols (symbols_of r) (map (printer (numbered p) names) (contents (modes_of known goal.form) goal.terms (unwrap_or got [])))) (sym found)
+      ∙ ap (λ r. print_symbols (production_symbols r) (map (printer (numbered p) names) (contents (modes_of known goal.form) goal.terms (unwrap_or got [])))) (sym found)
 
   -- as many parts as contents
   pub as_many : (variables : ℕ) (got : Option (List Tree)) (here : List (Option (Bor Term))) → HasForms p known → GoalFits (numbered p) variables known goal got
@@ -85,7 +85,7 @@ module _ (p : Parts) (known : List FormData) (goal : Goal) (m : ℕ) (q : Number
 
 -- each of the terms is at most 1,000 deep and built by the grammar
 abbrev AreBuiltTerms : Grammar → ℕ → List Tree → Type 0
-AreBuiltTerms g variables ts = AllByRecursion (λ t. (depth_of t ≤ 1000) × IsBuilt g variables t) ts
+AreBuiltTerms g variables ts = AllByRecursion (λ t. (depth_of t ≤ 1000) × HasProductions g variables t) ts
 
 fits_built : (g : Grammar) (variables : ℕ) (stems : List Stem) → length stems ≤ variables → (sorts : List Sort) (ts : List Tree) → HaveFits g stems sorts ts → AreShallow ts → AreBuiltTerms g variables ts
 fits_built g variables stems named [] [] fits shallow = tt

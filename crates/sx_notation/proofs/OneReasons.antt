@@ -20,7 +20,7 @@ use Rattle.sx_notation.specs.declared.unread.Unread.{Unread}
 use Rattle.sx_notation.specs.declared.unread.Unread.TheVariants.{TooHard, NoReading, TooDeep}
 use Rattle.sx_notation.specs.declared.unread.Unread.TheVariants.{Ambiguous}
 use Rattle.sx_notation.specs.WhyUnread.{IsUnreadAs, AreTwo, place_in}
-use Rattle.sx_notation.specs.OneReason.{HasReading, HaveThree, ShowTwo, OneReason}
+use Rattle.sx_notation.specs.OneReason.{LineHasReading, HaveThree, ShowTwo, OneReason}
 use Rattle.sx_notation.proofs.SameReadings.{same_reading}
 
 -- texts neither of which is after the other are the same
@@ -45,7 +45,7 @@ module _ (p : Parts) (stems : Stems) (sort : Sort) (ts : List Token) where
   abbrev Result : (one other some more : Text) → Type 0
   Result one other some more = (Ambiguous one other ≡ Ambiguous some more) ⊎ HaveThree p stems sort ts
 
-  three : (r s t : Reading) → HasReading p stems sort ts r → HasReading p stems sort ts s → HasReading p stems sort ts t → r ≢ s → r ≢ t → s ≢ t → HaveThree p stems sort ts
+  three : (r s t : Reading) → LineHasReading p stems sort ts r → LineHasReading p stems sort ts s → LineHasReading p stems sort ts t → r ≢ s → r ≢ t → s ≢ t → HaveThree p stems sort ts
   three r s t a b c rs rt st = record { one = r; two = s; three = t; first = a; second = b; third = c; one_two = rs; one_three = rt; two_three = st }
 
   module _ (one other some more : Text) (h : AreTwo p stems sort ts one other) (k : AreTwo p stems sort ts some more) where
@@ -65,7 +65,7 @@ module _ (p : Parts) (stems : Stems) (sort : Sort) (ts : List Token) where
         let same : one ≡ other = in_order one other h.5 back in
         inl (λ i. Ambiguous ((same ∙ first) i) ((sym same ∙ second) i))
 
-    third : (t : Reading) → HasReading p stems sort ts t → t ≢ h.0 → t ≢ h.1 → Result one other some more
+    third : (t : Reading) → LineHasReading p stems sort ts t → t ≢ h.0 → t ≢ h.1 → Result one other some more
     third t reads a b = inr (three h.0 h.1 t h.2.2 h.2.3 reads h.2.4 (λ e. a (sym e)) (λ e. b (sym e)))
 
     by_cases : (k.0 ≡ h.0) ⊎ (k.0 ≢ h.0) → (k.0 ≡ h.1) ⊎ (k.0 ≢ h.1) → (k.1 ≡ h.0) ⊎ (k.1 ≢ h.0) → (k.1 ≡ h.1) ⊎ (k.1 ≢ h.1) → Result one other some more

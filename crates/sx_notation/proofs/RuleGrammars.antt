@@ -15,7 +15,7 @@ use Rattle.sx_grammar.specs.Told.{is_typed, sort_with, kid_sorts, shapes_of}
 use Rattle.sx_grammar.specs.Print.{Fits, node_fits, lexeme_fits, hole_fits, AllFit, none_fit, past_literal_fit, lexical_fit, part_fit}
 use Rattle.sx_grammar.proofs.Finding.{mapped_at, named_at}
 use Rattle.sx_grammar.proofs.Widening.{number_stays, productions_grown, got_kept}
-use Rattle.sx_print.specs.Sorted.{place_of}
+use Rattle.sx_print.specs.Sorted.{place_of_sort}
 use Rattle.sx_print.proofs.Sorting.{sorted_fits}
 use Rattle.sx_rules.specs.Views.{modes_of, sorts_of}
 use Rattle.sx_rules.specs.Modes.{inputs, outputs}
@@ -105,13 +105,13 @@ module _ (p : Parts) (fs : List FormLine) (is : IsGrammar p) (stems : List Stem)
     all_stay (lexical_fit one fits) = lexical_fit (fits_stay one) (all_stay fits)
     all_stay (part_fit one fits) = part_fit (fits_stay one) (all_stay fits)
 
-have_fits : (p : Parts) (fs : List FormLine) → IsGrammar p → (vars sorts : List Sort) (ts : List Tree) → HaveSorts (shapes_of p) vars ts sorts → HaveFits (numbered (rule_parts p fs)) (map place_of vars) sorts ts
+have_fits : (p : Parts) (fs : List FormLine) → IsGrammar p → (vars sorts : List Sort) (ts : List Tree) → HaveSorts (shapes_of p) vars ts sorts → HaveFits (numbered (rule_parts p fs)) (map place_of_sort vars) sorts ts
 have_fits p fs is vars [] [] have = tt
 have_fits p fs is vars [] (t ∷ ts) have = absurd have
 have_fits p fs is vars (s ∷ ss) [] have = absurd have
-have_fits p fs is vars (s ∷ ss) (t ∷ ts) have = (fits_stay p fs is (map place_of vars) (sorted_fits p vars t s have.0), have_fits p fs is vars ss ts have.1)
+have_fits p fs is vars (s ∷ ss) (t ∷ ts) have = (fits_stay p fs is (map place_of_sort vars) (sorted_fits p vars t s have.0), have_fits p fs is vars ss ts have.1)
 
-may_fit : (p : Parts) (fs : List FormLine) → IsGrammar p → (vars sorts : List Sort) (got : Option (List Tree)) → MayHaveSorts (shapes_of p) vars got sorts → MayFit (numbered (rule_parts p fs)) (map place_of vars) sorts got
+may_fit : (p : Parts) (fs : List FormLine) → IsGrammar p → (vars sorts : List Sort) (got : Option (List Tree)) → MayHaveSorts (shapes_of p) vars got sorts → MayFit (numbered (rule_parts p fs)) (map place_of_sort vars) sorts got
 may_fit p fs is vars sorts None have = tt
 may_fit p fs is vars sorts (Some ts) have = have_fits p fs is vars sorts ts have
 
@@ -119,8 +119,8 @@ pub sorted_goals_fit : SortedGoalsFit
 sorted_goals_fit p fs known form vars variables goal got is named at sorted outs = record {
   form = form;
   is = at;
-  stems = map place_of vars;
-  named = omega (arith, named, length-map vars place_of);
+  stems = map place_of_sort vars;
+  named = omega (arith, named, length-map vars place_of_sort);
   inputs_fit = have_fits p fs is vars (inputs (modes_of known goal.form) (sorts_of known goal.form)) goal.terms sorted;
   outputs_fit = may_fit p fs is vars (outputs (modes_of known goal.form) (sorts_of known goal.form)) got outs;
 }

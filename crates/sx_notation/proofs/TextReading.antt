@@ -14,7 +14,7 @@ use Rattle.sx_grammar.specs.ReadOne.{IsAnswer, only}
 use Rattle.sx_grammar.specs.Print.{term_of}
 use Rattle.sx_earley.specs.Tokens.{Stems, read_token, plain_tokens}
 use Rattle.sx_earley.specs.Completed.{sort_number}
-use Rattle.sx_forest.specs.Names.{IsMarked, names_in, AddsEach}
+use Rattle.sx_forest.specs.Names.{IsMarked, reading_names, AddsEach}
 use Rattle.sx_forest.proofs.Fits.{readings_marked, readings_few}
 use Rattle.sx_forest.proofs.Naming.{each_long}
 use Rattle.sx_notation.specs.declared.notation_error.NotationError.{NotationError}
@@ -59,19 +59,19 @@ module _ (p : Parts) (stems : Stems) (line : Text) (ts : List Token) (known : Is
     pub is_marked : IsMarked ts r
     is_marked = readings_marked (numbered p) stems ts (sort_number sort) 0 0 (length (plain_tokens stems ts)) r answer.1.0
 
-    few_names : length (names_in ts r) ≤ 10000
+    few_names : length (reading_names ts r) ≤ 10000
     few_names =
-        let few : 0 + length (names_in ts r) ≤ length (plain_tokens stems ts) = readings_few (numbered p) (plain_tokens stems ts) ts (sort_number sort) 0 0 (length (plain_tokens stems ts)) r answer.1.0 in
+        let few : 0 + length (reading_names ts r) ≤ length (plain_tokens stems ts) = readings_few (numbered p) (plain_tokens stems ts) ts (sort_number sort) 0 0 (length (plain_tokens stems ts)) r answer.1.0 in
         let same : length (plain_tokens stems ts) ≡ length ts = length-map ts (λ t. read_token stems t.mark t.text) in
         omega (arith, few, same, few_tokens)
 
     -- there is room for the names
-    pub has_room : (old : List Text) → length old + 10000 < 2 ^ 32 → length old + length (names_in ts r) < 2 ^ 32
+    pub has_room : (old : List Text) → length old + 10000 < 2 ^ 32 → length old + length (reading_names ts r) < 2 ^ 32
     has_room old room = omega (arith, room, few_names)
 
-    module _ (old new : List Text) (names : AddsEach old (names_in ts r) new) where
+    module _ (old new : List Text) (names : AddsEach old (reading_names ts r) new) where
       pub grown : length new ≤ length old + 10000
-      grown = omega (arith, each_long old (names_in ts r) new names, few_names)
+      grown = omega (arith, each_long old (reading_names ts r) new names, few_names)
 
       -- the term of the reading is that of the line
       pub is_read : (t : Tree) → t ≡ term_of (plain_tokens stems ts) (new ++ []) r → IsReadLine p stems sort line old new t

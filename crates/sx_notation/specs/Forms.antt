@@ -7,7 +7,7 @@ use Rattle.sx_grammar.specs.Grammar.{Production, Grammar, Stem}
 use Rattle.sx_grammar.specs.Parts.{Parts, numbered}
 use Rattle.sx_grammar.specs.Print.{Fits}
 use Rattle.sx_grammar.specs.Told.{kid_sorts}
-use Rattle.sx_print.specs.Sorted.{place_of}
+use Rattle.sx_print.specs.Sorted.{place_of_sort}
 use Rattle.sx_rules.specs.Views.{FormData, modes_of, sorts_of}
 use Rattle.sx_rules.specs.Modes.{inputs, outputs, Goal}
 use Rattle.sx_notation.specs.GoalText.{form_label}
@@ -27,7 +27,7 @@ pub record HasForms (p : Parts) (forms : List FormData) : Type 0 where
 -- the terms have these sorts, one for each, under these sorts of their variables
 abbrev pub HaveFits : Grammar → List Stem → List Sort → List Tree → Type 0
 HaveFits g stems [] [] = Unit {0}
-HaveFits g stems (s ∷ ss) (t ∷ ts) = Fits g stems (place_of s) t × HaveFits g stems ss ts
+HaveFits g stems (s ∷ ss) (t ∷ ts) = Fits g stems (place_of_sort s) t × HaveFits g stems ss ts
 HaveFits g stems _ _ = ⊥
 
 -- so it is of the terms, where there are some

@@ -22,9 +22,9 @@ printer g names None = λ place least. literal_token (codes "_") ∷ []
 printer g names (Some t) = print g names t
 
 -- the symbols of the production, if there is one
-abbrev pub symbols_of : Option Production → List Symbol
-symbols_of None = []
-symbols_of (Some r) = r.symbols
+abbrev pub production_symbols : Option Production → List Symbol
+production_symbols None = []
+production_symbols (Some r) = r.symbols
 
 -- the label of a form in a rule grammar, whose last productions are one for each form, in order,
 -- and three for `!=`
@@ -35,7 +35,7 @@ form_label productions forms form = (productions - (forms + 3)) + form
 -- or as `_`
 abbrev pub goal_tokens : Parts → List Text → List FormData → Goal → Option (List Tree) → List Token
 goal_tokens p names forms goal got =
-    print_symbols (symbols_of (slice_get (numbered p).productions
+    print_symbols (production_symbols (slice_get (numbered p).productions
     (form_label (length p.productions) (length forms) goal.form)))
     (map (printer (numbered p) names)
     (contents (modes_of forms goal.form) goal.terms (unwrap_or got [])))

@@ -12,17 +12,18 @@ use Rattle.sx_notation.specs.declared.unread.Unread.TheVariants.{Ambiguous}
 use Rattle.sx_notation.specs.WhyUnread.{IsUnreadAs}
 
 -- the tokens have this reading as the sort
-abbrev pub HasReading : Parts → Stems → Sort → List Token → Reading → Type 0
-HasReading p stems sort ts r = ReadsWhole (numbered p) (plain_tokens stems ts) (sort_number sort) r
+abbrev pub LineHasReading : Parts → Stems → Sort → List Token → Reading → Type 0
+LineHasReading p stems sort ts r = ReadsWhole (numbered p) (plain_tokens stems ts)
+    (sort_number sort) r
 
 -- they have more than two readings
 pub record HaveThree (p : Parts) (stems : Stems) (sort : Sort) (ts : List Token) : Type 0 where
   pub one : Reading
   pub two : Reading
   pub three : Reading
-  pub first : HasReading p stems sort ts one
-  pub second : HasReading p stems sort ts two
-  pub third : HasReading p stems sort ts three
+  pub first : LineHasReading p stems sort ts one
+  pub second : LineHasReading p stems sort ts two
+  pub third : LineHasReading p stems sort ts three
   pub one_two : one ≢ two
   pub one_three : one ≢ three
   pub two_three : two ≢ three

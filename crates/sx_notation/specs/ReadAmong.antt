@@ -16,7 +16,7 @@ use Rattle.sx_earley.specs.Unknown.{IsUnknownStem}
 use Rattle.sx_earley.specs.Completed.{sort_number}
 use Rattle.sx_lines.specs.declared.kind.Kind.TheVariants.{Variable}
 use Rattle.sx_notation.specs.WhyUnread.{IsUnreadAs}
-use Rattle.sx_notation.specs.ReadText.{IsLineCut, IsKnownCut, HasDefect}
+use Rattle.sx_notation.specs.ReadText.{IsLineCut, IsKnownCut, LineHasDefect}
 use Rattle.sx_notation.specs.declared.notation_error.NotationError.{NotationError}
 use Rattle.sx_notation.specs.declared.notation_error.NotationError.TheVariants.{Memory, Notation}
 use Rattle.sx_notation.specs.declared.notation_error.NotationError.TheVariants.{Token as BadTokens}
@@ -54,7 +54,7 @@ abbrev pub IsRefusedAmong : Parts → Stems → Sort → (line : Text) → (name
     (number : ℕ) → NotationError → Type 0
 IsRefusedAmong p stems sort line names number Memory = Unit {0}
 IsRefusedAmong p stems sort line names number (BadTokens at e) =
-    (at ≡ number) × HasDefect p line e
+    (at ≡ number) × LineHasDefect p line e
 IsRefusedAmong p stems sort line names number (Notation at kind) =
     (at ≡ number) × (kind ≡ Variable) × HasStranger p stems names line
 IsRefusedAmong p stems sort line names number (Read at e) = (at ≡ number) ×

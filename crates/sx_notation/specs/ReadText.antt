@@ -16,7 +16,7 @@ use Rattle.sx_grammar.specs.Print.{term_of}
 use Rattle.sx_earley.specs.Tokens.{Stems, plain_tokens}
 use Rattle.sx_earley.specs.Unknown.{HaveStems, IsFirstUnknown}
 use Rattle.sx_earley.specs.Completed.{sort_number}
-use Rattle.sx_forest.specs.Names.{names_in, AddsEach}
+use Rattle.sx_forest.specs.Names.{reading_names, AddsEach}
 use Rattle.sx_lines.specs.declared.kind.Kind.TheVariants.{Variable}
 use Rattle.sx_notation.specs.WhyUnread.{IsUnreadAs}
 use Rattle.sx_notation.specs.declared.notation_error.NotationError.{NotationError}
@@ -45,13 +45,13 @@ pub record IsReadLine (p : Parts) (stems : Stems) (sort : Sort) (line : Text) (o
   pub known : IsKnownCut p stems line tokens
   pub reading : Reading
   pub answer : IsAnswer (numbered p) (plain_tokens stems tokens) (sort_number sort) (only reading)
-  pub names : AddsEach old (names_in tokens reading) new
+  pub names : AddsEach old (reading_names tokens reading) new
   pub term : t ≡ term_of (plain_tokens stems tokens) new reading
 
 -- the line has this first defect
-abbrev pub HasDefect : Parts → (line : Text) → TokenError → Type 0
-HasDefect p line token.Memory = ⊥
-HasDefect p line e = IfSome (outcome_of (Err e)) (IsOutcome (literals_of p) true line)
+abbrev pub LineHasDefect : Parts → (line : Text) → TokenError → Type 0
+LineHasDefect p line token.Memory = ⊥
+LineHasDefect p line e = IfSome (outcome_of (Err e)) (IsOutcome (literals_of p) true line)
 
 -- a metavariable among the tokens of the line has an unknown stem
 abbrev pub HasUnknown : Parts → Stems → (line : Text) → Type 0
@@ -61,7 +61,7 @@ HasUnknown p stems line = (ts : List Token) × (place : ℕ) × IsLineCut p line
 -- why the line with this number has no tokens whose stems are known, out of memory aside
 abbrev pub IsUncut : Parts → Stems → (line : Text) → (number : ℕ) → NotationError → Type 0
 IsUncut p stems line number Memory = Unit {0}
-IsUncut p stems line number (BadTokens at e) = (at ≡ number) × HasDefect p line e
+IsUncut p stems line number (BadTokens at e) = (at ≡ number) × LineHasDefect p line e
 IsUncut p stems line number (Notation at kind) = (at ≡ number) × (kind ≡ Variable) ×
     HasUnknown p stems line
 IsUncut p stems line number _ = ⊥
@@ -70,7 +70,7 @@ IsUncut p stems line number _ = ⊥
 abbrev pub IsTextRefused : Parts → Stems → Sort → (line : Text) → (number : ℕ) → NotationError →
     Type 0
 IsTextRefused p stems sort line number Memory = Unit {0}
-IsTextRefused p stems sort line number (BadTokens at e) = (at ≡ number) × HasDefect p line e
+IsTextRefused p stems sort line number (BadTokens at e) = (at ≡ number) × LineHasDefect p line e
 IsTextRefused p stems sort line number (Notation at kind) = (at ≡ number) × (kind ≡ Variable) ×
     HasUnknown p stems line
 IsTextRefused p stems sort line number (Read at e) = (at ≡ number) ×

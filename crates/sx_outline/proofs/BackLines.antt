@@ -17,14 +17,14 @@ use Rattle.sx_outline.specs.Stages.{at_body, at_plains, at_rules, at_premises, a
 use Rattle.sx_outline.specs.Stages.{at_end, State, start, start_after, StepsAt, IsGoodRow, IsBar}
 use Rattle.sx_outline.specs.Stages.{IsWhole, MayStandAt, HasMain, after, begun_plain, paired}
 use Rattle.sx_outline.specs.Stages.{head_row}
-use Rattle.sx_outline.specs.Structure.{IsDeclaring, AreBodies, ArePairs, AreRules}
+use Rattle.sx_outline.specs.Structure.{IsDeclaring, AreBodies, ArePlainPairs, AreRuleRows}
 use Rattle.sx_outline.specs.BadLines.{AreMains, AreLinesAmong, AreLanguageLines}
 use Rattle.sx_outline.proofs.Led.{Leads}
 
 -- the lines of rules
 pub record RestRules (kind : FileKind) (lines : List Numbered) : Type 0 where
   pub stated : List RuleData
-  pub are : AreRules kind lines stated
+  pub are : AreRuleRows kind lines stated
 
 -- the lines of plain pairs and of rules
 pub record RestPairs (kind : FileKind) (known : Declared) (lines : List Numbered) : Type 0 where
@@ -32,7 +32,7 @@ pub record RestPairs (kind : FileKind) (known : Declared) (lines : List Numbered
   pub rules : List Numbered
   pub lines_are : lines ≡ pairs ++ rules
   pub plains : List PlainData
-  pub pairs_are : ArePairs kind known pairs plains
+  pub pairs_are : ArePlainPairs kind known pairs plains
   pub rest : RestRules kind rules
 
 -- a body, and then the lines of plain pairs and of rules

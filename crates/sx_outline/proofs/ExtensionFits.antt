@@ -19,7 +19,7 @@ use Rattle.sx_outline.specs.Headers.{HeaderData, header_begun, with_use, AreUses
 use Rattle.sx_outline.specs.Known.{kept_lines}
 use Rattle.sx_outline.specs.Stages.{PlainData, State, start_after, IsWhole}
 use Rattle.sx_outline.specs.Sized.{HasShortLines}
-use Rattle.sx_outline.specs.Reading.{IsAhead}
+use Rattle.sx_outline.specs.Reading.{IsDeclaredAhead}
 use Rattle.sx_outline.specs.ExtensionOutlined.{ExtensionOutlineData, extension_outline}
 use Rattle.sx_outline.specs.ExtensionOutlined.{extension_declares, AreReadAfter, IsExtensionEnd}
 use Rattle.sx_outline.specs.ExtensionOutlined.{IsExtensionOutlineOf, IsExtensionReadAs}
@@ -49,8 +49,8 @@ last_of_extension sorts vars h lines o r =
     let first : State = start_after (declared_before sorts vars h.uses) in
     let last : IsReached files.Extension r.known h.name first lines (λ s end. IsExtensionEnd sorts h s (Ok o)) =
     reached files.Extension r.known h.name (λ s end. IsExtensionEnd sorts h s (Ok o)) (λ n bad. Ok o ≡ Err (Notation n bad)) (λ n bad e. no_error o n bad (Ok o) refl e) first lines r.outcome in
-    let ahead : IsAhead files.Extension last.state.stage last.state.declared (over last.number) r.known =
-    kept_to files.Extension r.known h.name (λ s left. IsAhead files.Extension s.stage s.declared left r.known) (λ s n text after more t steps k. ahead_next files.Extension h.name s n text after more r.known t steps k)
+    let ahead : IsDeclaredAhead files.Extension last.state.stage last.state.declared (over last.number) r.known =
+    kept_to files.Extension r.known h.name (λ s left. IsDeclaredAhead files.Extension s.stage s.declared left r.known) (λ s n text after more t steps k. ahead_next files.Extension h.name s n text after more r.known t steps k)
     first lines last.state last.number last.reaches r.declares in
     let same : last.state.declared ≡ r.known = whole_known files.Extension last.state.stage last.state.declared r.known last.number ahead last.holds.0 in
     record {

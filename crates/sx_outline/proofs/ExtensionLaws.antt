@@ -23,13 +23,13 @@ use Rattle.sx_outline.specs.declared.outline_error.OutlineError.TheVariants.{Not
 use Rattle.sx_outline.specs.declared.reader.Reader.{Reader}
 use Rattle.sx_outline.specs.Declarations.{Declared, declare, declared_before}
 use Rattle.sx_outline.specs.Headers.{HeaderData, header, IsHeader}
-use Rattle.sx_outline.specs.HeaderReading.{EndsWith, IsBadIn, IsAnyHeaderRead}
+use Rattle.sx_outline.specs.HeaderReading.{EndsTheHeader, IsBadIn, IsAnyHeaderRead}
 use Rattle.sx_outline.specs.Known.{Declares, RowGoesOn, kept_lines}
 use Rattle.sx_outline.specs.Stages.{PlainData, plain_data, RuleData, rule_data, Stage, at_start}
 use Rattle.sx_outline.specs.Stages.{at_declarations, at_body, at_plains, at_rules, at_premises}
 use Rattle.sx_outline.specs.Stages.{at_conclusion, at_end, State, start_after, Steps, StepsAt}
 use Rattle.sx_outline.specs.Stages.{IsWhole, IsInside, MayStandAt, after}
-use Rattle.sx_outline.specs.Outcomes.{IsOutcome}
+use Rattle.sx_outline.specs.Outcomes.{IsReadingOutcome}
 use Rattle.sx_outline.specs.Reading.{IsOutlineReader, IsReaderAfter, IsMainRead, ReadingEndsAt}
 use Rattle.sx_outline.specs.Reading.{IsBadLine, AreLinesRead}
 use Rattle.sx_outline.proofs.EndLaws.{all_same}
@@ -134,7 +134,7 @@ bad_extension number bad = Err (Notation number bad)
 
 pub extension_ends : (known : Declared) (name : List ℕ) (base : Declared) (lines : Lines) (reader : Reader) (n : ℕ) (After : State → ℕ → Type 0) (Bad : ℕ → Kind → Type 0)
     → AreLinesRead files.Extension known name (start_after base) lines (Ok (reader, n))
-    → ((s : State) → IsOutlineReader known reader s → IsBegun s → (IsWhole s.stage → s.declared ≡ known) → After s n) → IsOutcome files.Extension known name (start_after base) lines After Bad
+    → ((s : State) → IsOutlineReader known reader s → IsBegun s → (IsWhole s.stage → s.declared ≡ known) → After s n) → IsReadingOutcome files.Extension known name (start_after base) lines After Bad
 extension_ends known name base lines reader n After Bad h f =
     let last = reached files.Extension known name (ReadingEndsAt known (Ok (reader, n))) (IsBadLine (Ok (reader, n))) (λ number bad k. no_bad (reader, n) bad number (Ok (reader, n)) refl k) (start_after base) lines h in
     let begun : IsBegun last.state = kept_to files.Extension known name (λ s left. IsBegun s) (begun_on files.Extension known name) (start_after base) lines last.state last.number last.reaches
@@ -195,7 +195,7 @@ extension_read sorts vars bytes given rest whole result e utf8 head = by result
         → IsHeader (kept_lines (lines_from 1 bytes)) (λ h lines. AreReadAfter sorts vars h lines given_result) (λ number bad. given_result ≡ Err (Notation number bad))
     lead r k =
         subst (λ x. IsHeader x (λ h lines. AreReadAfter sorts vars h lines r) (λ number bad. r ≡ Err (Notation number bad))) e
-        (header_to (EndsWith (Ok (header given, kept_lines (left rest)))) (λ h lines. AreReadAfter sorts vars h lines r) (IsBadIn (Ok (header given, kept_lines (left rest)))) (λ number bad. r ≡ Err (Notation number bad))
+        (header_to (EndsTheHeader (Ok (header given, kept_lines (left rest)))) (λ h lines. AreReadAfter sorts vars h lines r) (IsBadIn (Ok (header given, kept_lines (left rest)))) (λ number bad. r ≡ Err (Notation number bad))
         (λ h lines f. subst (λ (x : HeaderData × Lines). AreReadAfter sorts vars x.0 x.1 r) (ok_same (header given, kept_lines (left rest)) (h, lines) (Ok (header given, kept_lines (left rest))) refl f) k)
         (λ number bad f. absurd (ok_bad (header given, kept_lines (left rest)) (Notation number bad) (Ok (header given, kept_lines (left rest))) refl f)) whole head)
 
@@ -212,7 +212,7 @@ extension_refused sorts vars bytes whole (NotUtf8 place) is utf8 h = absurd h
 extension_refused sorts vars bytes whole (Notation l kind) is utf8 h = (
   utf8,
   subst (λ x. IsHeader x (λ h lines. AreReadAfter sorts vars h lines (Err (Notation l kind))) (λ number bad. bad_extension l kind ≡ Err (Notation number bad))) is
-      (header_to (EndsWith (Err (Notation l kind))) (λ h lines. AreReadAfter sorts vars h lines (Err (Notation l kind))) (IsBadIn (Err (Notation l kind))) (λ number bad. bad_extension l kind ≡ Err (Notation number bad))
+      (header_to (EndsTheHeader (Err (Notation l kind))) (λ h lines. AreReadAfter sorts vars h lines (Err (Notation l kind))) (IsBadIn (Err (Notation l kind))) (λ number bad. bad_extension l kind ≡ Err (Notation number bad))
       (λ h lines f. absurd (ok_bad (h, lines) (Notation l kind) (Err (Notation l kind)) f refl))
       (λ number bad f. ap Err (bad_same (Notation l kind) (Notation number bad) (Err (Notation l kind)) refl f)) whole h),
 )

@@ -12,7 +12,7 @@ use Rattle.sx_outline.specs.Declarations.{Declared, declared_before}
 use Rattle.sx_outline.specs.Headers.{HeaderData, IsHeaderIn, IsUseLine}
 use Rattle.sx_outline.specs.Known.{kept_lines}
 use Rattle.sx_outline.specs.Stages.{Numbered, PlainData, RuleData, start_after}
-use Rattle.sx_outline.specs.Structure.{numbered_lines, IsDeclaring, AreDeclarations, ArePairs, AreRules, AreHeaderLines, AreExtensionLines}
+use Rattle.sx_outline.specs.Structure.{numbered_lines, IsDeclaring, AreDeclarations, ArePlainPairs, AreRuleRows, AreHeaderLines, AreExtensionLines}
 use Rattle.sx_outline.specs.ExtensionOutlined.{ExtensionOutlineData, extension_declares, AreReadAfter, IsExtensionEnd, IsExtensionOutlineOf, IsExtensionReadAs}
 use Rattle.sx_outline.specs.BadExtensions.{BeginOther, HaveHeader}
 use Rattle.sx_outline.proofs.OutcomeSteps.{reaches_outcome}
@@ -31,8 +31,8 @@ pub record LinesAfter (sorts : List SortLine) (vars : List VarLine) (h : HeaderD
   pub lines_are : lines ≡ declarations ++ (pairs ++ rules)
   pub header : o.header ≡ h
   pub declared : AreDeclarations files.Extension (extension_declares sorts o) (declared_before sorts vars h.uses) declarations (extension_declares sorts o)
-  pub pairs_are : ArePairs files.Extension (extension_declares sorts o) pairs o.plains
-  pub rules_are : AreRules files.Extension rules o.rules
+  pub pairs_are : ArePlainPairs files.Extension (extension_declares sorts o) pairs o.plains
+  pub rules_are : AreRuleRows files.Extension rules o.rules
 
 after_lines : (sorts : List SortLine) (vars : List VarLine) (h : HeaderData) (lines : Lines) (o : ExtensionOutlineData) → AreReadAfter sorts vars h lines (Ok o)
     → LinesAfter sorts vars h (numbered_lines lines) o
@@ -50,8 +50,8 @@ after_lines sorts vars h lines o r =
       lines_are = left.lines_are ∙ ap (λ (x : List Numbered). left.declarations ++ x) rest.lines_are;
       header = last.is.header;
       declared = subst (λ k. AreDeclarations files.Extension k base left.declarations k) last.known_is left.declared;
-      pairs_are = subst (ArePairs files.Extension (extension_declares sorts o) rest.pairs) (sym rest.plains_are) (subst (λ k. ArePairs files.Extension k rest.pairs rest.more_plains) last.known_is rest.pairs_are);
-      rules_are = subst (AreRules files.Extension rest.rule_lines) (sym rest.rules_are) rest.are;
+      pairs_are = subst (ArePlainPairs files.Extension (extension_declares sorts o) rest.pairs) (sym rest.plains_are) (subst (λ k. ArePlainPairs files.Extension k rest.pairs rest.more_plains) last.known_is rest.pairs_are);
+      rules_are = subst (AreRuleRows files.Extension rest.rule_lines) (sym rest.rules_are) rest.are;
     }
 
 pub extension_lines : (sorts : List SortLine) (vars : List VarLine) (bytes : List ℕ) (o : ExtensionOutlineData) → IsExtensionReadAs sorts vars bytes (Ok o)
@@ -74,7 +74,7 @@ extension_lines sorts vars bytes o r =
 
 -- ---- the other way
 
-rules_other : (lines : List Numbered) (rules : List RuleData) → AreRules files.Extension lines rules → BeginOther lines
+rules_other : (lines : List Numbered) (rules : List RuleData) → AreRuleRows files.Extension lines rules → BeginOther lines
 rules_other [] rules h = tt
 rules_other (l ∷ lines) [] h = absurd (no_lines l lines h)
   where
@@ -85,7 +85,7 @@ rules_other (l ∷ lines) (r ∷ rules) (front, back, parts, rule, others) =
     subst (λ (x : Numbered). IsUseLine x.text → ⊥) (sym (head_same l rule.first lines ((r.premises ++ rule.bar ∷ r.conclusion ∷ rule.bodies ++ rule.last ∷ []) ++ back) whole))
     (no_use rule.first.text (Rule r.name) rule.begins tt)
 
-pairs_other : (known : Declared) (pairs rules : List Numbered) (plains : List PlainData) → ArePairs files.Extension known pairs plains → BeginOther rules → BeginOther (pairs ++ rules)
+pairs_other : (known : Declared) (pairs rules : List Numbered) (plains : List PlainData) → ArePlainPairs files.Extension known pairs plains → BeginOther rules → BeginOther (pairs ++ rules)
 pairs_other known [] rules plains h k = k
 pairs_other known (first ∷ []) rules plains h k = absurd h
 pairs_other known (first ∷ body ∷ pairs) rules [] h k = absurd h
@@ -105,7 +105,7 @@ declarations_other known d all (l ∷ declarations) rest (row, spelled, declarin
 
 after_of : (sorts : List SortLine) (vars : List VarLine) (o : ExtensionOutlineData) (left : Lines) (declarations pairs rules : List Numbered) → numbered_lines left ≡ declarations ++ (pairs ++ rules)
     → AreDeclarations files.Extension (extension_declares sorts o) (declared_before sorts vars o.header.uses) declarations (extension_declares sorts o)
-    → ArePairs files.Extension (extension_declares sorts o) pairs o.plains → AreRules files.Extension rules o.rules → AreReadAfter sorts vars o.header left (Ok o)
+    → ArePlainPairs files.Extension (extension_declares sorts o) pairs o.plains → AreRuleRows files.Extension rules o.rules → AreReadAfter sorts vars o.header left (Ok o)
 after_of sorts vars o left declarations pairs rules e declared pairs_are rules_are =
     let known : Declared = extension_declares sorts o in
     let base : Declared = declared_before sorts vars o.header.uses in

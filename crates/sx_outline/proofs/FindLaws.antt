@@ -24,12 +24,12 @@ use Rattle.sx_term.specs.declared.no_memory.NoMemory.{NoMemory}
 use Rattle.sx_directives.specs.declared.row.Row.{Row}
 use Rattle.sx_directives.specs.declared.row.Row.TheVariants.{Var, Form, Plain}
 use Rattle.sx_outline.specs.declared.main_form.MainForm.{MainForm}
-use Rattle.sx_outline.specs.Declarations.{Declared, FormData, declared_form, declared_parts}
+use Rattle.sx_outline.specs.Declarations.{Declared, DeclaredForm, declared_form, declared_parts}
 use Rattle.sx_outline.specs.Fitting.{ArePartNames, RowFits, HasOneSubjectSymbol}
 use Rattle.sx_lines.specs.Distinct.{AreTextsDistinct}
 use Rattle.sx_outline.specs.Fitting.{IsConstructor, IsKnownSort, IsMainOf, IsPlain, IsVariableOf}
-use Rattle.sx_outline.specs.Fitting.{Kid, NamesFit, SymbolFits, form_names, kids_of}
-use Rattle.sx_outline.specs.Fitting.{production_named, sort_named, sort_names, sorts_at, stems}
+use Rattle.sx_outline.specs.Fitting.{Kid, NamesFit, SymbolFits, declared_form_names, parts_of_symbols}
+use Rattle.sx_outline.specs.Fitting.{production_named, sort_named, declared_sort_names, sorts_at, stems}
 use Rattle.sx_outline.specs.Fitting.{var_named}
 use Rattle.sx_outline.specs.Variables.{stem_of}
 use Rattle.sx_outline.specs.MainSorts.{AreConstructors, AreMainSorts, IsOneName}
@@ -38,22 +38,22 @@ use Rattle.sx_outline.proofs.PlaceLaws.{at, first_at, found_in, none_in, number_
 -- ---- sorts
 
 -- the first sort with the name of a place
-pub typed_found : (sorts : List SortLine) (name : List ℕ) (i : ℕ) (s : SortLine) (d : Declared) → d.sorts ≡ sorts → first_at name (sort_names d) ≡ Some i → s ≡ get_or sorts i s → Some s.typed ≡ option_map (λ x. x.typed) (sort_named d name)
+pub typed_found : (sorts : List SortLine) (name : List ℕ) (i : ℕ) (s : SortLine) (d : Declared) → d.sorts ≡ sorts → first_at name (declared_sort_names d) ≡ Some i → s ≡ get_or sorts i s → Some s.typed ≡ option_map (λ x. x.typed) (sort_named d name)
 typed_found sorts name i s d same e is =
     let there : sort_named d name ≡ Some (get_or d.sorts i s) = find_place (λ (x : SortLine). x.name) d.sorts name i s e in
     ap (λ (x : SortLine). Some x.typed) (is ∙ ap (λ xs. get_or xs i s) (sym same)) ∙ sym (ap (option_map (λ (x : SortLine). x.typed)) there)
 
-pub typed_none : (name : List ℕ) (d : Declared) → first_at name (sort_names d) ≡ None → None ≡ option_map (λ (x : SortLine). x.typed) (sort_named d name)
+pub typed_none : (name : List ℕ) (d : Declared) → first_at name (declared_sort_names d) ≡ None → None ≡ option_map (λ (x : SortLine). x.typed) (sort_named d name)
 typed_none name d e = sym (ap (option_map (λ (x : SortLine). x.typed)) (find_nothing (λ (x : SortLine). x.name) d.sorts name e))
 
 -- the name of a sort that is not lexical is found
-pub known_sort : (d : Declared) (name : List ℕ) (r : Option ℕ) (b : Bool) → ((kind : LexKind) × (name ≡ lex_text kind) → ⊥) → first_at name (sort_names d) ≡ r → b ≡ is_some r → IsTrue b ↔ IsKnownSort d name
+pub known_sort : (d : Declared) (name : List ℕ) (r : Option ℕ) (b : Bool) → ((kind : LexKind) × (name ≡ lex_text kind) → ⊥) → first_at name (declared_sort_names d) ≡ r → b ≡ is_some r → IsTrue b ↔ IsKnownSort d name
 known_sort d name None b n e f = ((λ t. absurd (false≢true (sym f ∙ t))), λ k. absurd (by k))
   where
     by : IsKnownSort d name → ⊥
     by (inl lexical) = n lexical
-    by (inr there) = none_in (sort_names d) name e there
-known_sort d name (Some i) b n e f = ((λ t. inr (found_in (sort_names d) name i e)), λ k. f)
+    by (inr there) = none_in (declared_sort_names d) name e there
+known_sort d name (Some i) b n e f = ((λ t. inr (found_in (declared_sort_names d) name i e)), λ k. f)
 
 -- ---- rows
 
@@ -64,9 +64,9 @@ fits_var known before vars v row b e f h =
     subst (λ r. IsTrue b ↔ RowFits known before r) (sym e) (subst (λ names. IsTrue b ↔ ((Contains names v.stem → ⊥) × IsKnownSort known v.sort)) same h)
 
 pub fits_form : (known before : Declared) (forms : ℕ) (f : FormLine) (row : Row) (b : Bool) → row ≡ Form f → before.forms ≡ take forms known.forms
-    → IsTrue b ↔ ((Contains (take forms (form_names known)) f.name → ⊥) × AllByRecursion (SymbolFits known) f.symbols.items × HasOneSubjectSymbol f.symbols.items) → IsTrue b ↔ RowFits known before row
+    → IsTrue b ↔ ((Contains (take forms (declared_form_names known)) f.name → ⊥) × AllByRecursion (SymbolFits known) f.symbols.items × HasOneSubjectSymbol f.symbols.items) → IsTrue b ↔ RowFits known before row
 fits_form known before forms f row b e g h =
-    let same : take forms (form_names known) ≡ form_names before = take-map (λ (x : FormData). x.name) forms known.forms ∙ ap (map (λ (x : FormData). x.name)) (sym g) in
+    let same : take forms (declared_form_names known) ≡ declared_form_names before = take-map (λ (x : DeclaredForm). x.name) forms known.forms ∙ ap (map (λ (x : DeclaredForm). x.name)) (sym g) in
     subst (λ r. IsTrue b ↔ RowFits known before r) (sym e) (subst (λ names. IsTrue b ↔ ((Contains names f.name → ⊥) × AllByRecursion (SymbolFits known) f.symbols.items × HasOneSubjectSymbol f.symbols.items)) same h)
 
 -- ---- numbers
@@ -92,7 +92,7 @@ got_within f xs n x e = let lt = slice_get_within xs n x e in omega (arith, lt, 
 
 -- ---- constructors
 
-pub constructor_is : (d : Declared) (label sort : List ℕ) (n : ℕ) (l : Line) → first_at label (labels (declared_parts d)) ≡ Some n → slice_get d.productions n ≡ Some l → l.sort ≡ sort → IsConstructor d label n sort (kids_of l.symbols)
+pub constructor_is : (d : Declared) (label sort : List ℕ) (n : ℕ) (l : Line) → first_at label (labels (declared_parts d)) ≡ Some n → slice_get d.productions n ≡ Some l → l.sort ≡ sort → IsConstructor d label n sort (parts_of_symbols l.symbols)
 constructor_is d label sort n l e is same = record { line = l; is = is; first = number_at (labels (declared_parts d)) label n e; sort_is = same; kids_are = refl }
 
 -- a constructor stands at the first place of its label
@@ -104,11 +104,11 @@ constructor_none d label sort e n kids h = let clash : None ≡ Some n = sym e �
 
 -- the production at the place is that of the constructor
 pub constructor_line : (d : Declared) (label sort : List ℕ) (place n : ℕ) (l : Line) (kids : List Kid) → first_at label (labels (declared_parts d)) ≡ Some place → slice_get d.productions place ≡ Some l → IsConstructor d label n sort kids
-    → (n ≡ place) × (l.sort ≡ sort) × (kids_of l.symbols ≡ kids)
+    → (n ≡ place) × (l.sort ≡ sort) × (parts_of_symbols l.symbols ≡ kids)
 constructor_line d label sort place n l kids e is h =
     let same : n ≡ place = some_same n place (sym (constructor_place d label sort n kids h) ∙ e) in
     let line_same : l ≡ h.line = some_same l h.line (sym is ∙ ap (slice_get d.productions) (sym same) ∙ h.is) in
-    (same, ap (λ (x : Line). x.sort) line_same ∙ h.sort_is, ap (λ (x : Line). kids_of x.symbols) line_same ∙ h.kids_are)
+    (same, ap (λ (x : Line). x.sort) line_same ∙ h.sort_is, ap (λ (x : Line). parts_of_symbols x.symbols) line_same ∙ h.kids_are)
 
 -- a production of a list by its place
 pub line_at : (ps : List Production) (i : ℕ) (p : Production) → i < length ps → p ≡ get_or ps i p → slice_get (map line ps) i ≡ Some (line p)
@@ -131,27 +131,27 @@ named_same a b l m xs ys e = cc
 pub one_name : (symbols : List FormSymbol) (role : Role) (a b : List ℕ) → IsOneName symbols role a → IsOneName symbols role b → a ≡ b
 one_name symbols role a b h k = named_same a b h.0 k.0 [] [] (sym h.1 ∙ k.1)
 
-main_place : (d : Declared) (m : MainLine) (main : MainForm) → IsMainOf d m main → first_at m.form (form_names d) ≡ Some main.form
-main_place d m main h = number_place (form_names d) m.form main.form h.form_first (got_within (λ (f : FormData). f.name) d.forms main.form h.form h.form_is)
+main_place : (d : Declared) (m : MainLine) (main : MainForm) → IsMainOf d m main → first_at m.form (declared_form_names d) ≡ Some main.form
+main_place d m main h = number_place (declared_form_names d) m.form main.form h.form_first (got_within (λ (f : DeclaredForm). f.name) d.forms main.form h.form h.form_is)
 
-pub no_main_place : (d : Declared) (m : MainLine) → first_at m.form (form_names d) ≡ None → (main : MainForm) → IsMainOf d m main → ⊥
+pub no_main_place : (d : Declared) (m : MainLine) → first_at m.form (declared_form_names d) ≡ None → (main : MainForm) → IsMainOf d m main → ⊥
 no_main_place d m e main h = let clash : None ≡ Some main.form = sym e ∙ main_place d m main h in cc
 
 -- the sorts of the main form are those of the form at the place of its name
-pub main_sorts_at : (d : Declared) (m : MainLine) (place : ℕ) (f : FormData) → first_at m.form (form_names d) ≡ Some place → slice_get d.forms place ≡ Some f → (main : MainForm) → (h : IsMainOf d m main) → AreMainSorts f.symbols h.environment h.signature
+pub main_sorts_at : (d : Declared) (m : MainLine) (place : ℕ) (f : DeclaredForm) → first_at m.form (declared_form_names d) ≡ Some place → slice_get d.forms place ≡ Some f → (main : MainForm) → (h : IsMainOf d m main) → AreMainSorts f.symbols h.environment h.signature
 main_sorts_at d m place f e is main h =
     let same : main.form ≡ place = some_same main.form place (sym (main_place d m main h) ∙ e) in
     let form_same : h.form ≡ f = some_same h.form f (sym h.form_is ∙ ap (slice_get d.forms) same ∙ is) in
-    subst (λ (x : FormData). AreMainSorts x.symbols h.environment h.signature) form_same
+    subst (λ (x : DeclaredForm). AreMainSorts x.symbols h.environment h.signature) form_same
     (record { input = (h.input.least, h.input.is); subject_sort = h.subject_sort; subject = h.subject; output = (h.output.least, h.output.is) })
 
-pub no_main_plain : (d : Declared) (m : MainLine) (place : ℕ) (f : FormData) (environment signature : List ℕ) → first_at m.form (form_names d) ≡ Some place → slice_get d.forms place ≡ Some f → AreMainSorts f.symbols environment signature
+pub no_main_plain : (d : Declared) (m : MainLine) (place : ℕ) (f : DeclaredForm) (environment signature : List ℕ) → first_at m.form (declared_form_names d) ≡ Some place → slice_get d.forms place ≡ Some f → AreMainSorts f.symbols environment signature
     → (IsPlain d signature → ⊥) → (main : MainForm) → IsMainOf d m main → ⊥
 no_main_plain d m place f environment signature e is sorts n main h =
     let same : h.signature ≡ signature = one_name f.symbols Out h.signature signature (main_sorts_at d m place f e is main h).output sorts.output in
     n (subst (IsPlain d) same (h.signature_line, h.signature_is, h.signature_plain))
 
-pub no_main_constructors : (d : Declared) (m : MainLine) (place : ℕ) (f : FormData) (environment signature : List ℕ) → first_at m.form (form_names d) ≡ Some place → slice_get d.forms place ≡ Some f → AreMainSorts f.symbols environment signature
+pub no_main_constructors : (d : Declared) (m : MainLine) (place : ℕ) (f : DeclaredForm) (environment signature : List ℕ) → first_at m.form (declared_form_names d) ≡ Some place → slice_get d.forms place ≡ Some f → AreMainSorts f.symbols environment signature
     → ((empty add : ℕ) → AreConstructors d m environment signature empty add → ⊥) → (main : MainForm) → IsMainOf d m main → ⊥
 no_main_constructors d m place f environment signature e is sorts n main h =
     let own = main_sorts_at d m place f e is main h in
@@ -159,12 +159,12 @@ no_main_constructors d m place f environment signature e is sorts n main h =
     let same_e : h.environment ≡ environment = one_name f.symbols In h.environment environment own.input sorts.input in
     n main.empty main.add (subst (λ x. AreConstructors d m x signature main.empty main.add) same_e (subst (λ x. AreConstructors d m h.environment x main.empty main.add) same_s (record { empty_is = h.empty; add_is = h.add })))
 
-pub main_is : (d : Declared) (m : MainLine) (place empty add : ℕ) (f : FormData) (environment signature : List ℕ) → first_at m.form (form_names d) ≡ Some place → slice_get d.forms place ≡ Some f → AreMainSorts f.symbols environment signature
+pub main_is : (d : Declared) (m : MainLine) (place empty add : ℕ) (f : DeclaredForm) (environment signature : List ℕ) → first_at m.form (declared_form_names d) ≡ Some place → slice_get d.forms place ≡ Some f → AreMainSorts f.symbols environment signature
     → IsPlain d signature → AreConstructors d m environment signature empty add → IsMainOf d m (record { form = place; empty = empty; add = add })
 main_is d m place empty add f environment signature e is sorts plain made = record {
   form = f;
   form_is = is;
-  form_first = number_at (form_names d) m.form place e;
+  form_first = number_at (declared_form_names d) m.form place e;
   environment = environment;
   input = record { least = sorts.input.0; is = sorts.input.1 };
   subject_sort = sorts.subject_sort;
@@ -187,8 +187,8 @@ line_found ps label i p e is =
 
 pub form_found : (fs : List FormLine) (name : List ℕ) (i : ℕ) (f : FormLine) → first_at name (map (λ x. x.name) (map declared_form fs)) ≡ Some i → f ≡ get_or fs i f → slice_get (map declared_form fs) i ≡ Some (declared_form f)
 form_found fs name i f e is =
-    let lt = number_found (map (λ (x : FormData). x.name) (map declared_form fs)) name i e in
-    form_at fs i f (omega (arith, lt, length-map (map declared_form fs) (λ (x : FormData). x.name), length-map fs declared_form)) is
+    let lt = number_found (map (λ (x : DeclaredForm). x.name) (map declared_form fs)) name i e in
+    form_at fs i f (omega (arith, lt, length-map (map declared_form fs) (λ (x : DeclaredForm). x.name), length-map fs declared_form)) is
 
 -- ---- the sorts of main forms
 
@@ -233,12 +233,12 @@ variable_none d name sort b e f =
 -- ---- the names of parts
 
 pub parts_are : (d : Declared) (label : List ℕ) (names : List (List ℕ)) (p : Line) (b : Bool) → production_named d label ≡ Some p
-    → IsTrue b ↔ (IsPlain d p.sort × AreTextsDistinct names × NamesFit d names (kids_of p.symbols)) → IsTrue b ↔ ArePartNames d label names
+    → IsTrue b ↔ (IsPlain d p.sort × AreTextsDistinct names × NamesFit d names (parts_of_symbols p.symbols)) → IsTrue b ↔ ArePartNames d label names
 parts_are d label names p b found h = (
   (λ t. let k = h.0 t in record { line = p; line_is = found; plain = k.0; once = k.1; fit = k.2 }),
   λ k.
       let same : k.line ≡ p = some_line k.line p (sym k.line_is ∙ found) in
-      h.1 (subst (λ (x : Line). IsPlain d x.sort) same k.plain, k.once, subst (λ (x : Line). NamesFit d names (kids_of x.symbols)) same k.fit),
+      h.1 (subst (λ (x : Line). IsPlain d x.sort) same k.plain, k.once, subst (λ (x : Line). NamesFit d names (parts_of_symbols x.symbols)) same k.fit),
 )
   where
     some_line : (a b : Line) → Some a ≡ Some b → a ≡ b

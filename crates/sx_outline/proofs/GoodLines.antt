@@ -9,7 +9,7 @@ use Rattle.sx_directives.specs.declared.row.Row.TheVariants.{Sort, Prod, Var, Fo
 use Rattle.sx_outline.specs.Declarations.{Declared, nothing, declare}
 use Rattle.sx_outline.specs.Fitting.{ArePartNames}
 use Rattle.sx_outline.specs.Stages.{Numbered, PlainData, RuleData, Begun, Stage, at_declarations, at_plains, at_rules, at_premises, at_conclusion, at_end, State, start, start_after, StepsAt, IsBar, IsWhole, after, at as to, begun_plain, paired, with_plain, with_premise, with_body, concluded, ended}
-use Rattle.sx_outline.specs.Structure.{AreBodies, AreDeclarations, ArePairs, AreRules, AreRuleLines}
+use Rattle.sx_outline.specs.Structure.{AreBodies, AreDeclarations, ArePlainPairs, AreRuleRows, AreRuleLines}
 use Rattle.sx_outline.specs.BadLines.{AreMains, AreLinesAmong, AreLanguageLines}
 use Rattle.sx_outline.proofs.Led.{Leads, leads_append}
 use Rattle.sx_outline.proofs.MainLines.{first_main, mains_stay}
@@ -73,7 +73,7 @@ plain_step at_declarations kind known name d plains rules n text row is spelled 
 plain_step at_plains kind known name d plains rules n text row is spelled fits = (Plain row, record { spelled = spelled; fits = fits; stands = tt; main = tt }, refl)
 plain_step _ kind known name d plains rules n text row is spelled fits = absurd is
 
-pub pairs_lead : (kind : FileKind) (known : Declared) (name : List ℕ) (s : State) (pairs : List Numbered) (stated : List PlainData) → IsBeforePairs s.stage → ArePairs kind known pairs stated
+pub pairs_lead : (kind : FileKind) (known : Declared) (name : List ℕ) (s : State) (pairs : List Numbered) (stated : List PlainData) → IsBeforePairs s.stage → ArePlainPairs kind known pairs stated
     → LeadsOut kind known name s pairs IsBeforePairs
 pairs_lead kind known name s [] stated is h = record { last = s; leads = refl; is = is; keeps = refl }
 pairs_lead kind known name s (first ∷ []) stated is h = absurd h
@@ -175,7 +175,7 @@ rule_leads kind known name s lines r is h =
       keeps = last.keeps;
     }
 
-pub rules_lead : (kind : FileKind) (known : Declared) (name : List ℕ) (s : State) (lines : List Numbered) (rules : List RuleData) → IsBeforeRules s.stage → AreRules kind lines rules
+pub rules_lead : (kind : FileKind) (known : Declared) (name : List ℕ) (s : State) (lines : List Numbered) (rules : List RuleData) → IsBeforeRules s.stage → AreRuleRows kind lines rules
     → LeadsOut kind known name s lines IsBeforeRules
 rules_lead kind known name s lines [] is h = record { last = s; leads = subst (λ (x : List Numbered). Leads kind known name s x s) (sym h) refl; is = is; keeps = refl }
 rules_lead kind known name s lines (r ∷ rules) is (front, back, parts, h, others) =

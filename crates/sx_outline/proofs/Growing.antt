@@ -17,7 +17,7 @@ use Rattle.sx_directives.specs.declared.row.Row.TheVariants.{Sort, Prod, Var, Fo
 use Rattle.sx_directives.specs.declared.row.Row.TheVariants.{Use, Plain, To}
 use Rattle.sx_outline.specs.Declarations.{Declared, declare}
 use Rattle.sx_outline.specs.Known.{Declares, RowGoesOn}
-use Rattle.sx_outline.specs.Fitting.{Kid, kid_sort, kids_of, IsKnownSort, IsPlain, IsVariableOf}
+use Rattle.sx_outline.specs.Fitting.{Kid, kid_sort, parts_of_symbols, IsKnownSort, IsPlain, IsVariableOf}
 use Rattle.sx_outline.specs.Fitting.{NamesFit, ArePartNames, RowFits}
 use Rattle.sx_outline.specs.Variables.{stem_of}
 use Rattle.sx_outline.specs.Stages.{Numbered, PlainData, RuleData, Stage, at_start, at_declarations}
@@ -182,7 +182,7 @@ part_names_more d e label names g h = record {
   line_is = ap (λ (x : List Line). find (λ p. bytes_eq p.label label) x) g.productions_are ∙ found_more (λ p. bytes_eq p.label label) d.productions g.productions h.line h.line_is;
   plain = plain_same d e h.line.sort g.sorts h.plain;
   once = h.once;
-  fit = names_more d e names (kids_of h.line.symbols) g h.fit;
+  fit = names_more d e names (parts_of_symbols h.line.symbols) g h.fit;
 }
 
 known_same : (d e : Declared) (name : List ℕ) → e.sorts ≡ d.sorts → IsKnownSort d name → IsKnownSort e name

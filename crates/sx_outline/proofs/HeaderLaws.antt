@@ -22,8 +22,8 @@ use Rattle.sx_outline.specs.Known.{kept_lines}
 use Rattle.sx_outline.specs.Headers.{HeaderData, header, header_begun, with_use, IsHeader}
 use Rattle.sx_outline.specs.Headers.{IsHeaderOf, IsHeaderRead, IsLanguageLine, IsLanguageNext}
 use Rattle.sx_outline.specs.Headers.{IsUseLine, IsNewUse, AreUses}
-use Rattle.sx_outline.specs.HeaderReading.{using, IsUseRefused, IsUseRead, EndsWith, IsBadIn}
-use Rattle.sx_outline.specs.HeaderReading.{AreUsesOf, AreUsesRead, OrLacking, read_header}
+use Rattle.sx_outline.specs.HeaderReading.{using, IsUseRefused, IsUseRead, EndsTheHeader, IsBadIn}
+use Rattle.sx_outline.specs.HeaderReading.{AreUseRows, AreUsesRead, OrLacking, read_header}
 use Rattle.sx_outline.specs.HeaderReading.{IsLanguageRead, IsNamedHeaderRead, IsAnyHeaderRead}
 use Rattle.sx_outline.proofs.SameRows.{same_row}
 
@@ -46,21 +46,21 @@ stands_there h text name is there used new =
 
 -- what comes of the lines that are left comes of all
 pub record Using (all : Lines) (names : List (List ℕ)) (rest : Lines) : Type 0 where
-  pub goes : (h : HeaderData) (result : Result (HeaderData × Lines) OutlineError) → h.uses ≡ [] → AreUsesOf rest (using h names) result → AreUsesOf all h result
+  pub goes : (h : HeaderData) (result : Result (HeaderData × Lines) OutlineError) → h.uses ≡ [] → AreUseRows rest (using h names) result → AreUseRows all h result
 
 uses_same : (h : HeaderData) (names : List (List ℕ)) → names ≡ [] → h.uses ≡ [] → using h names ≡ h
 uses_same h names e f = λ i. record { name = h.name; language = h.language; uses = (e ∙ sym f) i }
 
 pub using_begin : (all : Lines) (names : List (List ℕ)) → names ≡ [] → Using all names all
-using_begin all names e = record { goes = λ h result none is. subst (λ (x : HeaderData). AreUsesOf all x result) (uses_same h names e none) is }
+using_begin all names e = record { goes = λ h result none is. subst (λ (x : HeaderData). AreUseRows all x result) (uses_same h names e none) is }
 
 -- where no line is left
 pub using_over : (all : Lines) (names given : List (List ℕ)) (rest : Lines) (n : ℕ) → Using all names rest → rest ≡ over n → given ≡ names
-    → (h : HeaderData) → h.uses ≡ [] → AreUsesOf all h (Ok (using h given, rest))
+    → (h : HeaderData) → h.uses ≡ [] → AreUseRows all h (Ok (using h given, rest))
 using_over all names given rest n u e g = λ h none.
-    let at_end : (lines : Lines) → lines ≡ over n → AreUsesOf lines (using h names) (Ok (using h names, lines)) = λ lines f.
-    subst (λ (x : Lines). AreUsesOf x (using h names) (Ok (using h names, x))) (sym f) refl in
-    subst (λ (x : List (List ℕ)). AreUsesOf all h (Ok (using h x, rest))) (sym g) (u.goes h (Ok (using h names, rest)) none (at_end rest e))
+    let at_end : (lines : Lines) → lines ≡ over n → AreUseRows lines (using h names) (Ok (using h names, lines)) = λ lines f.
+    subst (λ (x : Lines). AreUseRows x (using h names) (Ok (using h names, x))) (sym f) refl in
+    subst (λ (x : List (List ℕ)). AreUseRows all h (Ok (using h x, rest))) (sym g) (u.goes h (Ok (using h names, rest)) none (at_end rest e))
 
 pub using_more : (all rest more : Lines) (old new : List (List ℕ)) (n : ℕ) (text after : List ℕ) (b : Bool) → Using all old rest → rest ≡ line n text after more
     → ((h : HeaderData) → IsUseRead (using h old) (using h new) n text (Ok b)) → b ≡ true → Using all new more
@@ -68,7 +68,7 @@ using_more all rest more old new n text after false u e is t = absurd cc
 using_more all rest more old new n text after true u e is t = record {
   goes = λ h result none next.
       let w = is h in
-      u.goes h result none (subst (λ (x : Lines). AreUsesOf x (using h old) result) (sym e) (inl (w.0, w.1, subst (λ (x : HeaderData). AreUsesOf more x result) w.2 next)));
+      u.goes h result none (subst (λ (x : Lines). AreUseRows x (using h old) result) (sym e) (inl (w.0, w.1, subst (λ (x : HeaderData). AreUseRows more x result) w.2 next)));
 }
 
 -- a header and the lines after it
@@ -78,22 +78,22 @@ header_with h lines = Ok (h, lines)
 -- where the line has another word
 pub using_ends : (all rest more : Lines) (old new given : List (List ℕ)) (n : ℕ) (text after : List ℕ) (b : Bool) → Using all old rest → rest ≡ line n text after more
     → ((h : HeaderData) → IsUseRead (using h old) (using h new) n text (Ok b)) → b ≡ false → given ≡ new
-    → (h : HeaderData) → h.uses ≡ [] → AreUsesOf all h (Ok (using h given, rest))
+    → (h : HeaderData) → h.uses ≡ [] → AreUseRows all h (Ok (using h given, rest))
 using_ends all rest more old new given n text after true u e is t g = absurd cc
 using_ends all rest more old new given n text after false u e is t g = λ h none.
     let w = is h in
     let l : Lines = line n text after more in
     let same : header_with (using h given) rest ≡ header_with (using h old) l = ap (λ (x : HeaderData). header_with x rest) (ap (using h) g ∙ w.1) ∙ ap (header_with (using h old)) e in
-    u.goes h (Ok (using h given, rest)) none (subst (λ (x : Lines). AreUsesOf x (using h old) (Ok (using h given, rest))) (sym e) (inr (inr (w.0, same))))
+    u.goes h (Ok (using h given, rest)) none (subst (λ (x : Lines). AreUseRows x (using h old) (Ok (using h given, rest))) (sym e) (inr (inr (w.0, same))))
 
 pub using_refused : (all rest more : Lines) (old : List (List ℕ)) (n : ℕ) (text after : List ℕ) (x : OutlineError) → Using all old rest → rest ≡ line n text after more
-    → ((h : HeaderData) → IsUseRefused (using h old) n text x) → (h : HeaderData) → h.uses ≡ [] → OrLacking (AreUsesOf all h) (Err x)
+    → ((h : HeaderData) → IsUseRefused (using h old) n text x) → (h : HeaderData) → h.uses ≡ [] → OrLacking (AreUseRows all h) (Err x)
 using_refused all rest more old n text after Memory u e is = λ h none. tt
 using_refused all rest more old n text after (NotUtf8 place) u e is = λ h none. is (header_begun [] [])
 using_refused all rest more old n text after (Notation l Shape) u e is = λ h none.
     let w = is h in
     u.goes h (Err (Notation l Shape)) none
-    (subst (λ (x : Lines). AreUsesOf x (using h old) (Err (Notation l Shape))) (sym e) (inr (inl (w.1, w.2, ap (λ (k : ℕ). Err (Notation k Shape)) w.0))))
+    (subst (λ (x : Lines). AreUseRows x (using h old) (Err (Notation l Shape))) (sym e) (inr (inl (w.1, w.2, ap (λ (k : ℕ). Err (Notation k Shape)) w.0))))
 using_refused all rest more old n text after (Notation l Head) u e is = λ h none. absurd (is h)
 using_refused all rest more old n text after (Notation l Directive) u e is = λ h none. absurd (is h)
 using_refused all rest more old n text after (Notation l Order) u e is = λ h none. absurd (is h)
@@ -105,13 +105,13 @@ using_refused all rest more old n text after (Notation l Variable) u e is = λ h
 
 -- an outcome of the uses is one of the lines with the second before them
 language_on : (name language : List ℕ) (n : ℕ) (text after : List ℕ) (more lines : Lines) (r : Result (HeaderData × Lines) OutlineError) → lines ≡ line n text after more → IsLanguageLine text language
-    → OrLacking (AreUsesOf more (header_begun name language)) r → OrLacking (λ x. IsLanguageNext name lines (EndsWith x) (IsBadIn x)) r
+    → OrLacking (AreUseRows more (header_begun name language)) r → OrLacking (λ x. IsLanguageNext name lines (EndsTheHeader x) (IsBadIn x)) r
 language_on name language n text after more lines (Err Memory) e is h = tt
 language_on name language n text after more lines (Err (NotUtf8 place)) e is h = h
 language_on name language n text after more lines (Err (Notation l kind)) e is h =
-    subst (λ (x : Lines). IsLanguageNext name x (EndsWith (Err (Notation l kind))) (IsBadIn (Err (Notation l kind)))) (sym e) (inl (language, is, h))
+    subst (λ (x : Lines). IsLanguageNext name x (EndsTheHeader (Err (Notation l kind))) (IsBadIn (Err (Notation l kind)))) (sym e) (inl (language, is, h))
 language_on name language n text after more lines (Ok x) e is h =
-    subst (λ (y : Lines). IsLanguageNext name y (EndsWith (Ok x)) (IsBadIn (Ok x))) (sym e) (inl (language, is, h))
+    subst (λ (y : Lines). IsLanguageNext name y (EndsTheHeader (Ok x)) (IsBadIn (Ok x))) (sym e) (inl (language, is, h))
 
 -- a second line and the uses after it
 pub language_read : (name language : List ℕ) (uses : Vec (List ℕ)) (rest : Rest) (n : ℕ) (text after : List ℕ) (more lines : Lines) → lines ≡ line n text after more → IsLanguageLine text language
@@ -125,24 +125,24 @@ language_refused name language n text after more lines x e is h = language_on na
 
 -- an outcome of the lines after the first is one of all
 named_on : (name : List ℕ) (n : ℕ) (text after : List ℕ) (more lines : Lines) (r : Result (HeaderData × Lines) OutlineError) → lines ≡ line n text after more → IsRow files.Extension text (Extension name)
-    → OrLacking (λ x. IsLanguageNext name more (EndsWith x) (IsBadIn x)) r → OrLacking (λ x. IsHeaderOf name lines (EndsWith x) (IsBadIn x)) r
+    → OrLacking (λ x. IsLanguageNext name more (EndsTheHeader x) (IsBadIn x)) r → OrLacking (λ x. IsHeaderOf name lines (EndsTheHeader x) (IsBadIn x)) r
 named_on name n text after more lines (Err Memory) e is h = tt
 named_on name n text after more lines (Err (NotUtf8 place)) e is h = h
 named_on name n text after more lines (Err (Notation l kind)) e is h =
-    subst (λ (x : Lines). IsHeaderOf name x (EndsWith (Err (Notation l kind))) (IsBadIn (Err (Notation l kind)))) (sym e) (inl (is, h))
-named_on name n text after more lines (Ok x) e is h = subst (λ (y : Lines). IsHeaderOf name y (EndsWith (Ok x)) (IsBadIn (Ok x))) (sym e) (inl (is, h))
+    subst (λ (x : Lines). IsHeaderOf name x (EndsTheHeader (Err (Notation l kind))) (IsBadIn (Err (Notation l kind)))) (sym e) (inl (is, h))
+named_on name n text after more lines (Ok x) e is h = subst (λ (y : Lines). IsHeaderOf name y (EndsTheHeader (Ok x)) (IsBadIn (Ok x))) (sym e) (inl (is, h))
 
 pub named_read : (name : List ℕ) (n : ℕ) (text after : List ℕ) (more lines : Lines) (result : Result (ExtensionHeader × Rest) OutlineError) → lines ≡ line n text after more
     → IsRow files.Extension text (Extension name) → IsLanguageRead name more result → IsNamedHeaderRead name lines result
 named_read name n text after more lines result e is h = named_on name n text after more lines (read_header result) e is h
 
 any_on : (name : List ℕ) (n : ℕ) (text after : List ℕ) (more lines : Lines) (r : Result (HeaderData × Lines) OutlineError) → lines ≡ line n text after more → IsRow files.Extension text (Extension name)
-    → OrLacking (λ x. IsLanguageNext name more (EndsWith x) (IsBadIn x)) r → OrLacking (λ x. IsHeader lines (EndsWith x) (IsBadIn x)) r
+    → OrLacking (λ x. IsLanguageNext name more (EndsTheHeader x) (IsBadIn x)) r → OrLacking (λ x. IsHeader lines (EndsTheHeader x) (IsBadIn x)) r
 any_on name n text after more lines (Err Memory) e is h = tt
 any_on name n text after more lines (Err (NotUtf8 place)) e is h = h
 any_on name n text after more lines (Err (Notation l kind)) e is h =
-    subst (λ (x : Lines). IsHeader x (EndsWith (Err (Notation l kind))) (IsBadIn (Err (Notation l kind)))) (sym e) (inl (name, is, h))
-any_on name n text after more lines (Ok x) e is h = subst (λ (y : Lines). IsHeader y (EndsWith (Ok x)) (IsBadIn (Ok x))) (sym e) (inl (name, is, h))
+    subst (λ (x : Lines). IsHeader x (EndsTheHeader (Err (Notation l kind))) (IsBadIn (Err (Notation l kind)))) (sym e) (inl (name, is, h))
+any_on name n text after more lines (Ok x) e is h = subst (λ (y : Lines). IsHeader y (EndsTheHeader (Ok x)) (IsBadIn (Ok x))) (sym e) (inl (name, is, h))
 
 pub any_read : (name : List ℕ) (n : ℕ) (text after : List ℕ) (more lines : Lines) (result : Result (ExtensionHeader × Rest) OutlineError) → lines ≡ line n text after more
     → IsRow files.Extension text (Extension name) → IsLanguageRead name more result → IsAnyHeaderRead lines result
@@ -199,7 +199,7 @@ header_read name bytes result lines e utf8 k = by result (subst (λ x. IsNamedHe
     by : (result : Result (ExtensionHeader × Rest) OutlineError) → IsNamedHeaderRead name (kept_lines (lines_from 1 bytes)) result → IsHeaderRead name bytes (first_of result)
     by (Ok x) k = (
       utf8,
-      named_to (EndsWith (Ok (header x.0, kept_lines (left x.1)))) (λ h lines. Ok (header x.0) ≡ Ok h) (IsBadIn (Ok (header x.0, kept_lines (left x.1)))) (λ n bad. Ok (header x.0) ≡ Err (Notation n bad))
+      named_to (EndsTheHeader (Ok (header x.0, kept_lines (left x.1)))) (λ h lines. Ok (header x.0) ≡ Ok h) (IsBadIn (Ok (header x.0, kept_lines (left x.1)))) (λ n bad. Ok (header x.0) ≡ Err (Notation n bad))
           (λ h lines e. ap (λ (y : HeaderData × Lines). Ok y.0) (ok_same (header x.0, kept_lines (left x.1)) (h, lines) (Ok (header x.0, kept_lines (left x.1))) refl e))
           (λ n bad e. absurd (ok_bad (header x.0, kept_lines (left x.1)) (Notation n bad) (Ok (header x.0, kept_lines (left x.1))) refl e)) name (kept_lines (lines_from 1 bytes)) k,
     )
@@ -207,6 +207,6 @@ header_read name bytes result lines e utf8 k = by result (subst (λ x. IsNamedHe
     by (Err (NotUtf8 place)) k = absurd k
     by (Err (Notation l kind)) k = (
       utf8,
-      named_to (EndsWith (Err (Notation l kind))) (λ h lines. Err (Notation l kind) ≡ Ok h) (IsBadIn (Err (Notation l kind))) (λ n bad. Err (Notation l kind) ≡ Err (Notation n bad))
+      named_to (EndsTheHeader (Err (Notation l kind))) (λ h lines. Err (Notation l kind) ≡ Ok h) (IsBadIn (Err (Notation l kind))) (λ n bad. Err (Notation l kind) ≡ Err (Notation n bad))
           (λ h lines e. absurd (ok_bad (h, lines) (Notation l kind) (Err (Notation l kind)) e refl)) (λ n bad e. ap Err (bad_same (Notation l kind) (Notation n bad) (Err (Notation l kind)) refl e)) name (kept_lines (lines_from 1 bytes)) k,
     )

@@ -10,22 +10,22 @@ use Rattle.sx_directives.specs.declared.file_kind.FileKind.{FileKind}
 use Rattle.sx_directives.specs.declared.file_kind.FileKind.TheVariants as files
 use Rattle.sx_directives.specs.Parts as directives
 use Rattle.sx_directives.specs.Spelling.{NotLexical}
-use Rattle.sx_directives.specs.Rows.{IsRow, IsBodyText, is_word_of, word_of}
+use Rattle.sx_directives.specs.Rows.{IsRow, IsBodyText, is_word_of, row_word}
 use Rattle.sx_grammar.specs.declared.sort_line.SortLine.{SortLine}
 use Rattle.sx_directives.specs.declared.rows.VarLine.{VarLine}
 use Rattle.sx_directives.specs.declared.row.Row.{Row}
 use Rattle.sx_directives.specs.declared.row.Row.TheVariants.{Sort, Prod, Var, Form, Main, Plain}
 use Rattle.sx_directives.specs.declared.row.Row.TheVariants.{Rule, End, To}
-use Rattle.sx_outline.specs.Declarations.{Declared, FormData, declared_form, declare}
+use Rattle.sx_outline.specs.Declarations.{Declared, DeclaredForm, declared_form, declare}
 use Rattle.sx_outline.specs.Fitting.{ArePartNames, RowFits, IsKnownSort}
 use Rattle.sx_lines.specs.Distinct.{AreTextsDistinct}
-use Rattle.sx_outline.specs.Fitting.{SymbolFits, HasOneSubjectSymbol, stems, form_names}
+use Rattle.sx_outline.specs.Fitting.{SymbolFits, HasOneSubjectSymbol, stems, declared_form_names}
 use Rattle.sx_outline.specs.Stages.{Numbered, PlainData, RuleData, Stage, at_start, at_declarations}
 use Rattle.sx_outline.specs.Stages.{at_body, at_plains, at_rules, at_premises, at_conclusion}
 use Rattle.sx_outline.specs.Stages.{at_end, State, Steps, StepsAt, IsGoodRow, MayStandAt, after}
 use Rattle.sx_outline.specs.Stages.{paired}
 use Rattle.sx_outline.specs.Sized.{HasShortLines}
-use Rattle.sx_outline.specs.Reading.{IsAhead}
+use Rattle.sx_outline.specs.Reading.{IsDeclaredAhead}
 use Rattle.sx_outline.proofs.AheadLaws.{ahead_next}
 use Rattle.sx_outline.proofs.OutcomeLaws.{after_declared, bytes_in, bytes_line, AreFull, parts_few}
 use Rattle.sx_outline.proofs.WeightLaws.{all_push, weight, row_weighs, AreGood, row_good}
@@ -84,7 +84,7 @@ pub record AreFitting (known base d : Declared) : Type 0 where
   pub stems_once : AreTextsDistinct (stems_of own_vars)
   pub stems_apart : AllByRecursion (λ v. Contains (stems base) v.stem → ⊥) own_vars
   pub vars : AllByRecursion (λ v. IsKnownSort known v.sort) own_vars
-  pub forms_once : AreTextsDistinct (form_names d)
+  pub forms_once : AreTextsDistinct (declared_form_names d)
   pub places : AllByRecursion (λ f. AllByRecursion (SymbolFits known) f.symbols) d.forms
   pub subjects : AllByRecursion (λ f. HasOneSubjectSymbol f.symbols) d.forms
 
@@ -145,9 +145,9 @@ fitting_row kind known base d text (Form f) is fits h = record {
   stems_once = h.stems_once;
   stems_apart = h.stems_apart;
   vars = h.vars;
-  forms_once = subst AreTextsDistinct (sym (map-append (λ (f : FormData). f.name) d.forms (declared_form f ∷ []))) (distinct_push (form_names d) f.name h.forms_once fits.0);
-  places = all_push (λ (f : FormData). AllByRecursion (SymbolFits known) f.symbols) d.forms (declared_form f) h.places fits.1;
-  subjects = all_push (λ (f : FormData). HasOneSubjectSymbol f.symbols) d.forms (declared_form f) h.subjects fits.2;
+  forms_once = subst AreTextsDistinct (sym (map-append (λ (f : DeclaredForm). f.name) d.forms (declared_form f ∷ []))) (distinct_push (declared_form_names d) f.name h.forms_once fits.0);
+  places = all_push (λ (f : DeclaredForm). AllByRecursion (SymbolFits known) f.symbols) d.forms (declared_form f) h.places fits.1;
+  subjects = all_push (λ (f : DeclaredForm). HasOneSubjectSymbol f.symbols) d.forms (declared_form f) h.subjects fits.2;
 }
 fitting_row kind known base d text (Main m) is fits h = record {
   own_sorts = h.own_sorts;
@@ -179,7 +179,7 @@ no_body_yet files.Language = refl
 no_body_yet files.Extension = tt
 
 -- a body is read in extension files alone
-may_have : (kind : FileKind) (body : List ℕ) (l : Numbered) → IsTrue (is_word_of kind (word_of (To body))) → MayHaveBody kind (Some l)
+may_have : (kind : FileKind) (body : List ℕ) (l : Numbered) → IsTrue (is_word_of kind (row_word (To body))) → MayHaveBody kind (Some l)
 may_have files.Language body l word = absurd (false≢true word)
 may_have files.Extension body l word = tt
 
@@ -210,7 +210,7 @@ pub record IsKept (kind : FileKind) (size top : ℕ) (base known : Declared) (s 
   pub stage : IsShortStage kind known size (bytes_in left) s.stage
   pub plains : AllByRecursion (IsGoodPlain known size) s.plains
   pub rules : AllByRecursion (IsShortRule kind size) s.rules
-  pub ahead : IsAhead kind s.stage s.declared left known
+  pub ahead : IsDeclaredAhead kind s.stage s.declared left known
 
 -- what is kept of what is declared
 pub record IsKeptRow (top : ℕ) (base known d : Declared) (left : ℕ) : Type 0 where

@@ -12,7 +12,7 @@ use Rattle.sx_outline.specs.Fitting.{IsMainOf}
 use Rattle.sx_outline.specs.Known.{Declares, kept_lines}
 use Rattle.sx_outline.specs.Stages.{Numbered, PlainData, RuleData, start}
 use Rattle.sx_outline.specs.Outlined.{OutlineData, declared_by, IsEnd, IsOutlineOf, IsReadAs}
-use Rattle.sx_outline.specs.Structure.{numbered_lines, AreDeclarations, ArePairs, AreRules, AreOutlineLines}
+use Rattle.sx_outline.specs.Structure.{numbered_lines, AreDeclarations, ArePlainPairs, AreRuleRows, AreOutlineLines}
 use Rattle.sx_outline.proofs.OutcomeSteps.{IsReached, reached, reaches_outcome}
 use Rattle.sx_outline.proofs.FitLaws.{known_by, no_error}
 use Rattle.sx_outline.proofs.LeftLines.{Whole, IsFile}
@@ -21,7 +21,7 @@ use Rattle.sx_outline.proofs.LinesLead.{HasAll, all_of}
 use Rattle.sx_outline.proofs.LinesDeclared.{none_first, head_same, tail_same, declares_of}
 
 -- a language file has no plain pairs
-pub no_pairs : (known : Declared) (lines : List Numbered) (plains : List PlainData) → ArePairs files.Language known lines plains → lines ≡ []
+pub no_pairs : (known : Declared) (lines : List Numbered) (plains : List PlainData) → ArePlainPairs files.Language known lines plains → lines ≡ []
 no_pairs known [] [] h = refl
 no_pairs known [] (p ∷ plains) h = absurd h
 no_pairs known (l ∷ []) plains h = absurd h
@@ -49,14 +49,14 @@ outline_lines name bytes o h =
       main_line = by.0;
       declared = subst (λ k. AreDeclarations files.Language k nothing left.rest.declarations k) by.1 left.rest.declared;
       main = by.2;
-      rules_are = subst (AreRules files.Language rest.rule_lines) (sym rest.rules_are) rest.are;
+      rules_are = subst (AreRuleRows files.Language rest.rule_lines) (sym rest.rules_are) rest.are;
     }
 
 -- ---- the other way
 
 declares_file : (known : Declared) (name : List ℕ) (left : Lines) (first : Numbered) (declarations rule_lines : List Numbered) (rules : List RuleData)
     → numbered_lines left ≡ first ∷ declarations ++ rule_lines → IsRow files.Language first.text (Language name) → AreDeclarations files.Language known nothing declarations known
-    → AreRules files.Language rule_lines rules → Declares files.Language false nothing left known
+    → AreRuleRows files.Language rule_lines rules → Declares files.Language false nothing left known
 declares_file known name (over n) first declarations rule_lines rules e named h rest = absurd (none_first first (declarations ++ rule_lines) e)
 declares_file known name (line n text after more) first declarations rule_lines rules e named h rest =
     let here : Numbered = record { number = n; text = text } in

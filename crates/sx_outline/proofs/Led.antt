@@ -5,7 +5,7 @@ use Rattle.sx_lines.specs.declared.kind.Kind.{Kind}
 use Rattle.sx_directives.specs.declared.file_kind.FileKind.{FileKind}
 use Rattle.sx_outline.specs.Declarations.{Declared}
 use Rattle.sx_outline.specs.Stages.{Numbered, State, Steps, IsBad}
-use Rattle.sx_outline.specs.Outcomes.{IsOutcome}
+use Rattle.sx_outline.specs.Outcomes.{IsReadingOutcome}
 use Rattle.sx_outline.specs.Structure.{numbered_lines}
 use Rattle.sx_outline.specs.BadLines.{end_number}
 use Rattle.sx_outline.proofs.OneOutline.{one_step}
@@ -71,7 +71,7 @@ one_more kind known name s n text after more After Bad t step (stops number wron
 one_more kind known name s n text after more After Bad t step (ends h) = ends (record { state = h.state; leads = (t, step, h.leads); holds = h.holds })
 
 pub course : (kind : FileKind) (known : Declared) (name : List ℕ) (After : State → ℕ → Type 0) (Bad : ℕ → Kind → Type 0) (s : State) (lines : Lines)
-    → IsOutcome kind known name s lines After Bad → Course kind known name s lines After Bad
+    → IsReadingOutcome kind known name s lines After Bad → Course kind known name s lines After Bad
 course kind known name After Bad s (over end) h = ends (record { state = s; leads = refl; holds = h })
 course kind known name After Bad s (line n text after more) (inl h) = one_more kind known name s n text after more After Bad h.0 h.1 (course kind known name After Bad h.0 more h.2)
 course kind known name After Bad s (line n text after more) (inr h) =

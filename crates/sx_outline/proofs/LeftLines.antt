@@ -6,7 +6,7 @@ use Rattle.sx_directives.specs.Rows.{IsRow}
 use Rattle.sx_directives.specs.declared.row.Row.TheVariants.{End}
 use Rattle.sx_outline.specs.Declarations.{Declared}
 use Rattle.sx_outline.specs.Stages.{Numbered, PlainData, RuleData, Begun, BegunPlain, Stage, at_start, at_declarations, at_body, at_plains, at_rules, at_premises, at_conclusion, at_end, State, IsBar, head_row, paired, with_body}
-use Rattle.sx_outline.specs.Structure.{AreBodies, AreDeclarations, ArePairs, AreRules}
+use Rattle.sx_outline.specs.Structure.{AreBodies, AreDeclarations, ArePlainPairs, AreRuleRows}
 
 -- all plain pairs and all rules of a file
 pub record Whole : Type 0 where
@@ -19,7 +19,7 @@ pub record IsRest (kind : FileKind) (known d : Declared) (plains : List PlainDat
   pub plains_are : plains ≡ o.plains
   pub more : List RuleData
   pub rules_are : o.rules ≡ rules ++ more
-  pub are : AreRules kind lines more
+  pub are : AreRuleRows kind lines more
 
 -- within a rule: what is left of its lines, and the lines of more rules
 pub record IsInRule (Left : List Numbered → RuleData → Type 0) (kind : FileKind) (known d : Declared) (plains : List PlainData) (rules : List RuleData) (o : Whole) (lines : List Numbered) : Type 0 where
@@ -32,7 +32,7 @@ pub record IsInRule (Left : List Numbered → RuleData → Type 0) (kind : FileK
   pub plains_are : plains ≡ o.plains
   pub more : List RuleData
   pub rules_are : o.rules ≡ rules ++ rule ∷ more
-  pub are : AreRules kind back more
+  pub are : AreRuleRows kind back more
 
 pub record LeftPremises (kind : FileKind) (b : Begun) (front : List Numbered) (r : RuleData) : Type 0 where
   pub premises : List Numbered
@@ -78,10 +78,10 @@ pub record IsRestOfPairs (kind : FileKind) (known d : Declared) (plains : List P
   pub declared : d ≡ known
   pub more_plains : List PlainData
   pub plains_are : o.plains ≡ plains ++ more_plains
-  pub pairs_are : ArePairs kind known pairs more_plains
+  pub pairs_are : ArePlainPairs kind known pairs more_plains
   pub more : List RuleData
   pub rules_are : o.rules ≡ rules ++ more
-  pub are : AreRules kind rule_lines more
+  pub are : AreRuleRows kind rule_lines more
 
 -- after the first line of a plain pair: its body, and what comes after it
 pub record IsInPair (kind : FileKind) (known d : Declared) (b : BegunPlain) (plains : List PlainData) (rules : List RuleData) (o : Whole) (lines : List Numbered) : Type 0 where

@@ -8,7 +8,7 @@ use Rattle.std.proofs.lemmas.Bool.Decides.{nat_tests}
 use Rattle.sx_lines.specs.Bytes.{is_blank}
 use Rattle.sx_lines.specs.Lines.{Lines, over, line}
 use Rattle.sx_lines.specs.Words.{after}
-use Rattle.sx_directives.specs.Parts.{parts_of, begun_part, with_byte}
+use Rattle.sx_directives.specs.Parts.{parts_of, begun_part, part_with_byte}
 use Rattle.sx_outline.specs.Known.{is_dropped, kept_lines}
 
 -- ---- the front of a line
@@ -37,11 +37,11 @@ all_off text at le so_far = ap is_dropped (sym so_far ∙ ap parts_of (drop_all 
 first_part : (b : ℕ) (text : List ℕ) → is_blank b ≡ false → (tail : List ℕ) × (parts : List (List ℕ)) × (parts_of (b ∷ text) ≡ (b ∷ tail) ∷ parts)
 first_part b text t = by text (parts_of text) (parts_begin b text t)
   where
-    behind : (parts : List (List ℕ)) → (tail : List ℕ) × (more : List (List ℕ)) × (with_byte b parts ≡ (b ∷ tail) ∷ more)
+    behind : (parts : List (List ℕ)) → (tail : List ℕ) × (more : List (List ℕ)) × (part_with_byte b parts ≡ (b ∷ tail) ∷ more)
     behind [] = ([], [], refl)
     behind (part ∷ parts) = (part, parts, refl)
 
-    going : (test : Bool) (parts : List (List ℕ)) → (tail : List ℕ) × (more : List (List ℕ)) × (cond test ((b ∷ []) ∷ parts) (with_byte b parts) ≡ (b ∷ tail) ∷ more)
+    going : (test : Bool) (parts : List (List ℕ)) → (tail : List ℕ) × (more : List (List ℕ)) × (cond test ((b ∷ []) ∷ parts) (part_with_byte b parts) ≡ (b ∷ tail) ∷ more)
     going true parts = ([], parts, refl)
     going false parts = behind parts
 
@@ -63,12 +63,12 @@ blank_no_slash : (c : ℕ) → is_blank c ≡ true → eqb c 47 ≡ false
 blank_no_slash c t = grind (arith, nat_tests)
 
 front_step : (b c : ℕ) (more : List ℕ) (parts : List (List ℕ)) (test : Bool) → is_blank c ≡ test → (test ≡ false → (tail : List ℕ) × (others : List (List ℕ)) × (parts ≡ (c ∷ tail) ∷ others))
-    → is_dropped (cond test ((b ∷ []) ∷ parts) (with_byte b parts)) ≡ is_some (after (codes "//") (b ∷ c ∷ more))
+    → is_dropped (cond test ((b ∷ []) ∷ parts) (part_with_byte b parts)) ≡ is_some (after (codes "//") (b ∷ c ∷ more))
 unfolding after
 front_step b c more parts true t h = after_one (eqb b 47) (eqb c 47) more (blank_no_slash c t)
 front_step b c more parts false t h =
     let w = h refl in
-    ap (λ z. is_dropped (with_byte b z)) w.2 ∙ after_two (eqb b 47) (eqb c 47) w.0 more
+    ap (λ z. is_dropped (part_with_byte b z)) w.2 ∙ after_two (eqb b 47) (eqb c 47) w.0 more
 
 dropped_begun : (b : ℕ) (text : List ℕ) → is_dropped (begun_part b text (parts_of text)) ≡ is_some (after (codes "//") (b ∷ text))
 unfolding after

@@ -9,8 +9,8 @@ use Rattle.sx_directives.specs.declared.row.Row.TheVariants.{Rule}
 use Rattle.sx_outline.specs.Declarations.{Declared, declare}
 use Rattle.sx_outline.specs.Known.{Declares, RowGoesOn}
 use Rattle.sx_outline.specs.Stages.{Numbered, PlainData, RuleData}
-use Rattle.sx_outline.specs.Structure.{numbered_lines, IsDeclaring, AreDeclarations, ArePairs}
-use Rattle.sx_outline.specs.Structure.{AreRules}
+use Rattle.sx_outline.specs.Structure.{numbered_lines, IsDeclaring, AreDeclarations, ArePlainPairs}
+use Rattle.sx_outline.specs.Structure.{AreRuleRows}
 
 pub none_first : (l : Numbered) (lines : List Numbered) → [] ≡ l ∷ lines → ⊥
 none_first l lines e = cc
@@ -21,7 +21,7 @@ head_same a b x y e = cc
 pub tail_same : (a b : Numbered) (x y : List Numbered) → a ∷ x ≡ b ∷ y → x ≡ y
 tail_same a b x y e = cc
 
-declares_rules : (kind : FileKind) (known d : Declared) (left : Lines) (rules : List RuleData) → d ≡ known → AreRules kind (numbered_lines left) rules → Declares kind false d left known
+declares_rules : (kind : FileKind) (known d : Declared) (left : Lines) (rules : List RuleData) → d ≡ known → AreRuleRows kind (numbered_lines left) rules → Declares kind false d left known
 declares_rules kind known d (over n) rules e h = sym e
 declares_rules kind known d (line n text after more) [] e h = absurd (none_first (record { number = n; text = text }) (numbered_lines more) (sym h))
 declares_rules kind known d (line n text after more) (r ∷ rules) e (front, back, parts, rule, others) =
@@ -32,8 +32,8 @@ declares_rules kind known d (line n text after more) (r ∷ rules) e (front, bac
 
 -- a plain pair declares nothing
 declares_pairs : (kind : FileKind) (known d : Declared) (left : Lines) (pairs rule_lines : List Numbered) (plains : List PlainData) (rules : List RuleData) → numbered_lines left ≡ pairs ++ rule_lines
-    → d ≡ known → ArePairs kind known pairs plains → AreRules kind rule_lines rules → Declares kind false d left known
-declares_pairs kind known d left [] rule_lines plains rules e is pairs rest = declares_rules kind known d left rules is (subst (λ x. AreRules kind x rules) (sym e) rest)
+    → d ≡ known → ArePlainPairs kind known pairs plains → AreRuleRows kind rule_lines rules → Declares kind false d left known
+declares_pairs kind known d left [] rule_lines plains rules e is pairs rest = declares_rules kind known d left rules is (subst (λ x. AreRuleRows kind x rules) (sym e) rest)
 declares_pairs kind known d left (first ∷ []) rule_lines plains rules e is pairs rest = absurd pairs
 declares_pairs kind known d left (first ∷ body ∷ pairs) rule_lines [] rules e is h rest = absurd h
 declares_pairs kind known d (over n) (first ∷ body ∷ pairs) rule_lines (p ∷ plains) rules e is h rest = absurd (none_first first (body ∷ pairs ++ rule_lines) e)
@@ -59,7 +59,7 @@ goes_on d (Main m) all Next declaring h = h
 goes_on d _ all Next declaring h = absurd declaring
 
 pub declares_of : (kind : FileKind) (known d : Declared) (left : Lines) (declarations pairs rule_lines : List Numbered) (plains : List PlainData) (rules : List RuleData)
-    → numbered_lines left ≡ declarations ++ (pairs ++ rule_lines) → AreDeclarations kind known d declarations known → ArePairs kind known pairs plains → AreRules kind rule_lines rules
+    → numbered_lines left ≡ declarations ++ (pairs ++ rule_lines) → AreDeclarations kind known d declarations known → ArePlainPairs kind known pairs plains → AreRuleRows kind rule_lines rules
     → Declares kind false d left known
 declares_of kind known d left [] pairs rule_lines plains rules e h are rest = declares_pairs kind known d left pairs rule_lines plains rules e h are rest
 declares_of kind known d (over n) (first ∷ declarations) pairs rule_lines plains rules e h are rest = absurd (none_first first (declarations ++ (pairs ++ rule_lines)) e)

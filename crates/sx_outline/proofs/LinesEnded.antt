@@ -3,17 +3,17 @@ use Rattle.std.proofs.Common.{◌≡◌, ℕ, List, [], ◌∷◌, ◌++◌, ref
 use Rattle.sx_directives.specs.declared.file_kind.FileKind.{FileKind}
 use Rattle.sx_outline.specs.Declarations.{Declared}
 use Rattle.sx_outline.specs.Stages.{Numbered, PlainData, RuleData, Begun, Stage, at_start, at_declarations, at_body, at_plains, at_rules, at_premises, at_conclusion, at_end, IsWhole}
-use Rattle.sx_outline.specs.Structure.{AreDeclarations, ArePairs, AreRules}
+use Rattle.sx_outline.specs.Structure.{AreDeclarations, ArePlainPairs, AreRuleRows}
 use Rattle.sx_outline.proofs.LinesDeclared.{none_first}
 use Rattle.sx_outline.proofs.LeftLines.{Whole, LeftPremises, IsRestOfPairs, IsLeft}
 
 -- no rule has no lines
-no_rules : (kind : FileKind) (rules : List RuleData) → AreRules kind [] rules → rules ≡ []
+no_rules : (kind : FileKind) (rules : List RuleData) → AreRuleRows kind [] rules → rules ≡ []
 no_rules kind [] h = refl
 no_rules kind (r ∷ rules) (front, back, e, lines, more) =
     absurd (none_first lines.first ((r.premises ++ lines.bar ∷ r.conclusion ∷ lines.bodies ++ lines.last ∷ []) ++ back) (e ∙ ap (λ (x : List Numbered). x ++ back) lines.lines_are))
 
-no_plains : (kind : FileKind) (known : Declared) (pairs rule_lines : List Numbered) (plains : List PlainData) → [] ≡ pairs ++ rule_lines → ArePairs kind known pairs plains → plains ≡ []
+no_plains : (kind : FileKind) (known : Declared) (pairs rule_lines : List Numbered) (plains : List PlainData) → [] ≡ pairs ++ rule_lines → ArePlainPairs kind known pairs plains → plains ≡ []
 no_plains kind known [] rule_lines [] e h = refl
 no_plains kind known [] rule_lines (p ∷ plains) e h = absurd h
 no_plains kind known (l ∷ pairs) rule_lines plains e h = absurd (none_first l (pairs ++ rule_lines) e)
@@ -47,7 +47,7 @@ pairs_whole kind known at d plains rules o lines e whole h =
       whole = whole;
       declared = h.declared;
       plains_are = all_plains plains h.more_plains o h.plains_are (no_plains kind known h.pairs h.rule_lines h.more_plains none h.pairs_are);
-      rules_are = all_rules rules h.more o h.rules_are (no_rules kind h.more (subst (λ x. AreRules kind x h.more) (end_lines h.pairs h.rule_lines none) h.are));
+      rules_are = all_rules rules h.more o h.rules_are (no_rules kind h.more (subst (λ x. AreRuleRows kind x h.more) (end_lines h.pairs h.rule_lines none) h.are));
     }
 
 -- what is left of a rule has a line

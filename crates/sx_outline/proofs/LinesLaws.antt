@@ -16,7 +16,7 @@ use Rattle.sx_outline.specs.Stages.{at_premises, at_conclusion, at_end, State, S
 use Rattle.sx_outline.specs.Stages.{IsWhole, MayStandAt, after, with_premise, with_body, concluded}
 use Rattle.sx_outline.specs.Stages.{paired}
 use Rattle.sx_outline.specs.Structure.{numbered_lines, IsDeclaring, AreBodies}
-use Rattle.sx_outline.specs.Reading.{IsAhead}
+use Rattle.sx_outline.specs.Reading.{IsDeclaredAhead}
 use Rattle.sx_outline.proofs.AheadLaws.{ahead_next, whole_known}
 use Rattle.sx_outline.proofs.OutcomeSteps.{Reaches}
 use Rattle.sx_outline.proofs.LeftLines.{Whole, IsRest, IsInRule, LeftPremises, LeftConclusion, LeftEnd, IsBodyLeft, IsInPair, IsRestOfPairs, IsRestOfFile, IsLeft, LeftAt}
@@ -38,7 +38,7 @@ none_of_pairs kind known d plains rules o e p r = record {
   are = refl;
 }
 
-none_left : (kind : FileKind) (known : Declared) (name : List ℕ) (at : Stage) (d : Declared) (plains : List PlainData) (rules : List RuleData) (o : Whole) (n : ℕ) → IsAhead kind at d (over n) known
+none_left : (kind : FileKind) (known : Declared) (name : List ℕ) (at : Stage) (d : Declared) (plains : List PlainData) (rules : List RuleData) (o : Whole) (n : ℕ) → IsDeclaredAhead kind at d (over n) known
     → IsWhole at → plains ≡ o.plains → rules ≡ o.rules → IsLeft kind known name at d plains rules o []
 none_left kind known name at_start d plains rules o n ahead whole p e = absurd whole
 none_left kind known name at_declarations d plains rules o n ahead whole p e = record {
@@ -347,7 +347,7 @@ left_before kind known name (at_end r) d plains rules o n text lines t (row, goo
     end_row kind known name r d plains rules o n text row lines good.spelled good.stands (subst (LeftAt kind known name o lines) e h)
 
 -- what the lines are that lead to a state in which nothing is left open
-pub left_of : (kind : FileKind) (known : Declared) (name : List ℕ) (s : State) (left : Lines) (t : State) (number : ℕ) (o : Whole) → IsAhead kind s.stage s.declared left known
+pub left_of : (kind : FileKind) (known : Declared) (name : List ℕ) (s : State) (left : Lines) (t : State) (number : ℕ) (o : Whole) → IsDeclaredAhead kind s.stage s.declared left known
     → Reaches kind known name s left t number → IsWhole t.stage → t.plains ≡ o.plains → t.rules ≡ o.rules → LeftAt kind known name o (numbered_lines left) s
 left_of kind known name s (over n) t number o ahead h whole p r =
     none_left kind known name s.stage s.declared s.plains s.rules o n ahead (subst (λ (x : State). IsWhole x.stage) (sym h.0) whole)

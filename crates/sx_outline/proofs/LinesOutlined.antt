@@ -14,7 +14,7 @@ use Rattle.sx_outline.specs.Stages.{Stage, at_start, at_declarations, at_body, a
 use Rattle.sx_outline.specs.Stages.{at_premises, at_conclusion, at_end, State, StepsAt, IsGoodRow}
 use Rattle.sx_outline.specs.Stages.{IsBar, MayStandAt, after, at as to, with_premise, with_body}
 use Rattle.sx_outline.specs.Stages.{with_plain, concluded, paired, head_row}
-use Rattle.sx_outline.specs.Structure.{IsDeclaring, AreBodies, AreDeclarations, ArePairs, AreRules}
+use Rattle.sx_outline.specs.Structure.{IsDeclaring, AreBodies, AreDeclarations, ArePlainPairs, AreRuleRows}
 use Rattle.sx_outline.specs.BadLines.{AreMains}
 use Rattle.sx_outline.proofs.MainLines.{first_main, mains_stay}
 use Rattle.sx_outline.proofs.LinesDeclared.{none_first, head_same, tail_same}
@@ -30,7 +30,7 @@ pub record LeadsOn (kind : FileKind) (known : Declared) (name : List ℕ) (at : 
 
 -- the first line of a rule
 begin_rule : (kind : FileKind) (known d : Declared) (plains : List PlainData) (rules : List RuleData) (o : Whole) (n : ℕ) (text : List ℕ) (lines : List Numbered) (more : List RuleData) → d ≡ known
-    → plains ≡ o.plains → o.rules ≡ rules ++ more → AreRules kind (record { number = n; text = text } ∷ lines) more
+    → plains ≡ o.plains → o.rules ≡ rules ++ more → AreRuleRows kind (record { number = n; text = text } ∷ lines) more
     → (given : List ℕ) × IsRow kind text (Rule given) × IsInRule (LeftPremises kind (record { number = n; name = given; premises = [] })) kind known d plains rules o lines
 begin_rule kind known d plains rules o n text lines [] e p are h = absurd (none_first (record { number = n; text = text }) lines (sym h))
 begin_rule kind known d plains rules o n text lines (r ∷ more) e p are (front, back, parts, rule, others) =
@@ -91,9 +91,9 @@ data PairsOn (kind : FileKind) (known d : Declared) (plains : List PlainData) (r
 
 pair_on : (kind : FileKind) (known d : Declared) (plains : List PlainData) (rules : List RuleData) (o : Whole) (n : ℕ) (text : List ℕ) (lines pairs rule_lines : List Numbered)
     (more_plains : List PlainData) (more : List RuleData) → record { number = n; text = text } ∷ lines ≡ pairs ++ rule_lines → d ≡ known → o.plains ≡ plains ++ more_plains
-    → ArePairs kind known pairs more_plains → o.rules ≡ rules ++ more → AreRules kind rule_lines more → PairsOn kind known d plains rules o n text lines
+    → ArePlainPairs kind known pairs more_plains → o.rules ≡ rules ++ more → AreRuleRows kind rule_lines more → PairsOn kind known d plains rules o n text lines
 pair_on kind known d plains rules o n text lines [] rule_lines [] more e declared plains_are pairs_are rules_are are =
-    let rule = begin_rule kind known d plains rules o n text lines more declared (sym (plains_are ∙ append-nil plains)) rules_are (subst (λ x. AreRules kind x more) (sym e) are) in
+    let rule = begin_rule kind known d plains rules o n text lines more declared (sym (plains_are ∙ append-nil plains)) rules_are (subst (λ x. AreRuleRows kind x more) (sym e) are) in
     by_rule rule.0 rule.1 rule.2
 pair_on kind known d plains rules o n text lines [] rule_lines (p ∷ more_plains) more e declared plains_are pairs_are rules_are are = absurd pairs_are
 pair_on kind known d plains rules o n text lines (first ∷ []) rule_lines more_plains more e declared plains_are pairs_are rules_are are = absurd pairs_are
@@ -220,7 +220,7 @@ premises_lead : (kind : FileKind) (known : Declared) (name : List ℕ) (b : Begu
     (r : RuleData) (bar : Numbered) (bodies : List Numbered) (last : Numbered) (premises back : List Numbered) (more : List RuleData)
     → record { number = n; text = text } ∷ lines ≡ (premises ++ bar ∷ r.conclusion ∷ bodies ++ last ∷ []) ++ back
     → AllByRecursion (λ l. IsBar l.text → ⊥) premises → IsBar bar.text → AreBodies kind bodies r.body → IsRow kind last.text End → b.number ≡ r.number → b.name ≡ r.name → r.premises ≡ b.premises ++ premises
-    → d ≡ known → plains ≡ o.plains → o.rules ≡ rules ++ r ∷ more → AreRules kind back more → LeadsOn kind known name (at_premises b) d plains rules o n text lines
+    → d ≡ known → plains ≡ o.plains → o.rules ≡ rules ++ r ∷ more → AreRuleRows kind back more → LeadsOn kind known name (at_premises b) d plains rules o n text lines
 premises_lead kind known name b d plains rules o n text lines r bar bodies last [] back more e plain divides body ends number named premises_are declared plains_are are rest =
     let here : Numbered = record { number = n; text = text } in
     let same : here ≡ bar = head_same here bar lines (r.conclusion ∷ (bodies ++ last ∷ []) ++ back) e in
@@ -326,7 +326,7 @@ one_body kind first (other ∷ bodies) b h = absurd h
 
 end_leads : (kind : FileKind) (known : Declared) (name : List ℕ) (given : RuleData) (d : Declared) (plains : List PlainData) (rules : List RuleData) (o : Whole) (n : ℕ) (text : List ℕ) (lines : List Numbered)
     (r : RuleData) (bodies : List Numbered) (last : Numbered) (back : List Numbered) (more : List RuleData) → record { number = n; text = text } ∷ lines ≡ (bodies ++ last ∷ []) ++ back
-    → IsBodyLeft kind given bodies r → IsRow kind last.text End → d ≡ known → plains ≡ o.plains → o.rules ≡ rules ++ r ∷ more → AreRules kind back more
+    → IsBodyLeft kind given bodies r → IsRow kind last.text End → d ≡ known → plains ≡ o.plains → o.rules ≡ rules ++ r ∷ more → AreRuleRows kind back more
     → LeadsOn kind known name (at_end given) d plains rules o n text lines
 end_leads kind known name given d plains rules o n text lines r [] last back more e is ends declared plains_are are rest =
     let here : Numbered = record { number = n; text = text } in
@@ -339,7 +339,7 @@ end_leads kind known name given d plains rules o n text lines r [] last back mor
         plains_are = plains_are;
         more = more;
         rules_are = are ∙ ap (λ (x : RuleData). rules ++ x ∷ more) (sym is) ∙ sym (append_assoc rules (given ∷ []) more);
-        are = subst (λ x. AreRules kind x more) (sym (tail_same here last lines back e)) rest;
+        are = subst (λ x. AreRuleRows kind x more) (sym (tail_same here last lines back e)) rest;
       };
     }
 end_leads kind known name given d plains rules o n text lines r (first ∷ bodies) last back more e (none, b, is, body) ends declared plains_are are rest =

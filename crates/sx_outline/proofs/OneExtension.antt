@@ -11,7 +11,7 @@ use Rattle.sx_outline.specs.Declarations.{Declared, declared_before}
 use Rattle.sx_outline.specs.Headers.{HeaderData}
 use Rattle.sx_outline.specs.Known.{kept_lines}
 use Rattle.sx_outline.specs.Stages.{State, start_after, IsInside}
-use Rattle.sx_outline.specs.Outcomes.{IsOutcome}
+use Rattle.sx_outline.specs.Outcomes.{IsReadingOutcome}
 use Rattle.sx_outline.specs.ExtensionOutlined.{ExtensionOutlineData, extension_declares, IsExtensionOutlineOf, IsExtensionEnd, AreReadAfter, IsExtensionReadAs, IsExtensionAnswer}
 use Rattle.sx_outline.proofs.OneOutline.{one_known, both_outcomes, inside_or_whole, one_inside}
 use Rattle.sx_outline.proofs.OneHeader.{both_headers}
@@ -64,7 +64,7 @@ one_after sorts vars h lines a b x y =
     let e : x.known ≡ y.known = one_known files.Extension false base lines x.known y.known x.declares y.declares in
     both_outcomes (a ≡ b) (λ s end. IsExtensionEnd sorts h s a) (λ s end. IsExtensionEnd sorts h s b) (λ n bad. a ≡ Err (Notation n bad)) (λ n bad. b ≡ Err (Notation n bad))
     (λ s end p q. one_end sorts h s a b p q) (λ n bad p q. p ∙ sym q) files.Extension y.known h.name (start_after base) lines
-    (subst (λ d. IsOutcome files.Extension d h.name (start_after base) lines (λ s end. IsExtensionEnd sorts h s a) (λ n bad. a ≡ Err (Notation n bad))) e x.outcome) y.outcome
+    (subst (λ d. IsReadingOutcome files.Extension d h.name (start_after base) lines (λ s end. IsExtensionEnd sorts h s a) (λ n bad. a ≡ Err (Notation n bad))) e x.outcome) y.outcome
 
 one_reading : (sorts : List SortLine) (vars : List VarLine) (bytes : List ℕ) (a b : Result ExtensionOutlineData OutlineError) → IsExtensionReadAs sorts vars bytes a → IsExtensionReadAs sorts vars bytes b → a ≡ b
 one_reading sorts vars bytes a b x y =

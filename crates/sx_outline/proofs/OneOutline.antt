@@ -19,13 +19,13 @@ use Rattle.sx_outline.specs.declared.outline_error.OutlineError.{OutlineError}
 use Rattle.sx_outline.specs.declared.outline_error.OutlineError.TheVariants.{Memory, NotUtf8}
 use Rattle.sx_outline.specs.declared.outline_error.OutlineError.TheVariants.{Notation}
 use Rattle.sx_outline.specs.Declarations.{Declared, nothing, declare, declared_parts}
-use Rattle.sx_outline.specs.Fitting.{IsMainOf, form_names}
+use Rattle.sx_outline.specs.Fitting.{IsMainOf, declared_form_names}
 use Rattle.sx_outline.specs.Known.{Declares, RowGoesOn, kept_lines}
 use Rattle.sx_outline.specs.Stages.{RuleData, Stage, at_start, at_declarations, at_body, at_plains}
 use Rattle.sx_outline.specs.Stages.{at_rules, at_premises, at_conclusion, at_end, State, start}
-use Rattle.sx_outline.specs.Stages.{begun_plain, IsDue, MayStand, Steps, StepsAt, StepsByRow, IsBad}
+use Rattle.sx_outline.specs.Stages.{begun_plain, IsDue, MayComeNext, Steps, StepsAt, StepsByRow, IsBad}
 use Rattle.sx_outline.specs.Stages.{IsInside, IsWhole, after, at as to}
-use Rattle.sx_outline.specs.Outcomes.{IsOutcome}
+use Rattle.sx_outline.specs.Outcomes.{IsReadingOutcome}
 use Rattle.sx_outline.specs.Outlined.{OutlineData, declared_by, IsEnd, IsMissing, IsOutlineOf}
 use Rattle.sx_outline.specs.Outlined.{IsReadAs, IsOutlineAnswer}
 use Rattle.sx_outline.proofs.SameRows.{SameRow, same_row}
@@ -131,7 +131,7 @@ unread_word : (kind : FileKind) (text : List ℕ) (row : Row) → (HasWord kind 
 unread_word kind text row n is = n (has_word kind text row is)
 
 -- the main line may stand there, so another row of it may too
-may_stand : (kind : FileKind) (s : State) (text : List ℕ) (row : Row) (m : MainLine) → IsRow kind text row → (MayStand s row → ⊥) → IsRow kind text (Main m) → MayStand s (Main m) → ⊥
+may_stand : (kind : FileKind) (s : State) (text : List ℕ) (row : Row) (m : MainLine) → IsRow kind text row → (MayComeNext s row → ⊥) → IsRow kind text (Main m) → MayComeNext s (Main m) → ⊥
 may_stand kind s text row m is n main stands = n (same_stands s.stage s.declared.mains (Main m) row (same_row kind text (Main m) row main is) stands)
 
 -- a line is bad in one way
@@ -170,7 +170,7 @@ one_kind kind known name s text _ Variable h m = absurd m
 
 one_form : (d : Declared) (m n : MainLine) (a b : MainForm) → m ≡ n → IsMainOf d m a → IsMainOf d n b → a ≡ b
 one_form d m n a b e h k =
-    let forms : a.form ≡ b.form = h.form_first ∙ ap (λ (x : MainLine). number_of (form_names d) x.form) e ∙ sym k.form_first in
+    let forms : a.form ≡ b.form = h.form_first ∙ ap (λ (x : MainLine). number_of (declared_form_names d) x.form) e ∙ sym k.form_first in
     let empties : a.empty ≡ b.empty = h.empty.first ∙ ap (λ (x : MainLine). number_of (labels (declared_parts d)) x.empty) e ∙ sym k.empty.first in
     let adds : a.add ≡ b.add = h.add.first ∙ ap (λ (x : MainLine). number_of (labels (declared_parts d)) x.add) e ∙ sym k.add.first in
     ap (λ (x : ℕ). let main : MainForm = record { form = x; empty = a.empty; add = a.add } in main) forms
@@ -272,11 +272,11 @@ one_end s end (Err (NotUtf8 place)) b h k = absurd h
 -- two outcomes of the same lines are of the same end, or of the same bad line
 pub both_outcomes : (R : Type 0) (AfterA AfterB : State → ℕ → Type 0) (BadA BadB : ℕ → Kind → Type 0) → ((t : State) (end : ℕ) → AfterA t end → AfterB t end → R)
     → ((n : ℕ) (bad : Kind) → BadA n bad → BadB n bad → R) → (kind : FileKind) (known : Declared) (name : List ℕ) (s : State) (left : Lines)
-    → IsOutcome kind known name s left AfterA BadA → IsOutcome kind known name s left AfterB BadB → R
+    → IsReadingOutcome kind known name s left AfterA BadA → IsReadingOutcome kind known name s left AfterB BadB → R
 both_outcomes R AfterA AfterB BadA BadB f g kind known name s (over n) h k = f s n h k
 both_outcomes R AfterA AfterB BadA BadB f g kind known name s (line n text after more) (inl h) (inl k) =
     both_outcomes R AfterA AfterB BadA BadB f g kind known name k.0 more
-    (subst (λ t. IsOutcome kind known name t more AfterA BadA) (one_step s.stage kind known known name s n text h.0 k.0 h.1 k.1) h.2) k.2
+    (subst (λ t. IsReadingOutcome kind known name t more AfterA BadA) (one_step s.stage kind known known name s n text h.0 k.0 h.1 k.1) h.2) k.2
 both_outcomes R AfterA AfterB BadA BadB f g kind known name s (line n text after more) (inl h) (inr k) = absurd (good_or_bad kind known name s n text h.0 k.0 h.1 k.1)
 both_outcomes R AfterA AfterB BadA BadB f g kind known name s (line n text after more) (inr h) (inl k) = absurd (good_or_bad kind known name s n text k.0 h.0 k.1 h.1)
 both_outcomes R AfterA AfterB BadA BadB f g kind known name s (line n text after more) (inr h) (inr k) =
@@ -288,7 +288,7 @@ one_reading name bytes a b h k =
     let e : h.known ≡ k.known = one_known files.Language false nothing lines h.known k.known h.declares k.declares in
     both_outcomes (a ≡ b) (λ s end. IsEnd s end a) (λ s end. IsEnd s end b) (λ n bad. a ≡ Err (Notation n bad)) (λ n bad. b ≡ Err (Notation n bad))
     (λ s end x y. one_end s end a b x y) (λ n bad x y. x ∙ sym y) files.Language k.known name start lines
-    (subst (λ d. IsOutcome files.Language d name start lines (λ s end. IsEnd s end a) (λ n bad. a ≡ Err (Notation n bad))) e h.outcome) k.outcome
+    (subst (λ d. IsReadingOutcome files.Language d name start lines (λ s end. IsEnd s end a) (λ n bad. a ≡ Err (Notation n bad))) e h.outcome) k.outcome
 
 pub one_answer : (name bytes : List ℕ) (a b : Result OutlineData OutlineError) → IsOutlineAnswer name bytes a → IsOutlineAnswer name bytes b → (a ≢ Err Memory) → (b ≢ Err Memory) → a ≡ b
 one_answer name bytes (Err Memory) b h k n m = absurd (n refl)

@@ -16,17 +16,17 @@ use Rattle.sx_directives.specs.declared.rows.MainLine.{MainLine}
 use Rattle.sx_directives.specs.declared.row.Row.{Row}
 use Rattle.sx_directives.specs.declared.row.Row.TheVariants.{Var, Form, Main, Use, Plain}
 use Rattle.sx_outline.specs.declared.main_form.MainForm.{MainForm}
-use Rattle.sx_outline.specs.Declarations.{Declared, FormData}
+use Rattle.sx_outline.specs.Declarations.{Declared, DeclaredForm}
 use Rattle.sx_outline.specs.Fitting.{Kid, IsKnownSort, SymbolFits, RowFits, IsConstructor, IsMainOf}
 use Rattle.sx_outline.specs.Stages.{StepsAt, State, Steps, IsBad, at_start, after}
-use Rattle.sx_outline.specs.BadLines.{Agrees}
+use Rattle.sx_outline.specs.BadLines.{HasInCommon}
 use Rattle.sx_outline.proofs.OneOutline.{due_row}
 use Rattle.sx_outline.proofs.SameRows.{same_row}
 use Rattle.sx_outline.proofs.SameLaws.{has_word, same_stands, same_main}
 use Rattle.sx_outline.proofs.WeightLaws.{all_weaker}
 
 -- these sorts, productions and forms alone
-abbrev core : List SortLine → List Line → List FormData → Declared
+abbrev core : List SortLine → List Line → List DeclaredForm → Declared
 core sorts productions forms = record { sorts = sorts; productions = productions; vars = []; forms = forms; mains = []; uses = [] }
 
 -- ---- sorts
@@ -77,7 +77,7 @@ with_productions d e m main sorts forms productions h =
       add = core_constructor d (core d.sorts e.productions d.forms) _ _ _ _ productions h.add;
     } in
     let sorted : IsMainOf (core e.sorts e.productions d.forms) m main = subst (λ (x : List SortLine). IsMainOf (core x e.productions d.forms) m main) sorts given in
-    let formed : IsMainOf (core e.sorts e.productions e.forms) m main = subst (λ (x : List FormData). IsMainOf (core e.sorts e.productions x) m main) forms sorted in
+    let formed : IsMainOf (core e.sorts e.productions e.forms) m main = subst (λ (x : List DeclaredForm). IsMainOf (core e.sorts e.productions x) m main) forms sorted in
     record {
       form = formed.form;
       form_is = formed.form_is;
@@ -122,15 +122,15 @@ bad_with kind known other name s n text t NoMain fits is_main bad steps =
 bad_with kind known other name s n text t Unfinished fits is_main bad steps = absurd bad
 bad_with kind known other name s n text t Variable fits is_main bad steps = absurd bad
 
-agreed_sorts : (known other : Declared) (wrong : Kind) → Agrees wrong known other → wrong ≡ Shape → other.sorts ≡ known.sorts
-agreed_sorts known other wrong same e = subst (λ (x : Kind). Agrees x known other) e same
+agreed_sorts : (known other : Declared) (wrong : Kind) → HasInCommon wrong known other → wrong ≡ Shape → other.sorts ≡ known.sorts
+agreed_sorts known other wrong same e = subst (λ (x : Kind). HasInCommon x known other) e same
 
-agreed_main : (known other : Declared) (wrong : Kind) → Agrees wrong known other → wrong ≡ NoMain
+agreed_main : (known other : Declared) (wrong : Kind) → HasInCommon wrong known other → wrong ≡ NoMain
     → (other.sorts ≡ known.sorts) × (other.productions ≡ known.productions) × (other.forms ≡ known.forms)
-agreed_main known other wrong same e = subst (λ (x : Kind). Agrees x known other) e same
+agreed_main known other wrong same e = subst (λ (x : Kind). HasInCommon x known other) e same
 
 -- a line of a language file that is bad is bad in each file that agrees
-pub bad_elsewhere : (known other : Declared) (name : List ℕ) (s : State) (n : ℕ) (text : List ℕ) (t : State) (wrong : Kind) → Agrees wrong known other
+pub bad_elsewhere : (known other : Declared) (name : List ℕ) (s : State) (n : ℕ) (text : List ℕ) (t : State) (wrong : Kind) → HasInCommon wrong known other
     → IsBad files.Language known name s text wrong → Steps files.Language other name s n text t → ⊥
 bad_elsewhere known other name s n text t wrong same bad steps =
     bad_with files.Language known other name s n text t wrong

@@ -4,7 +4,7 @@ use Rattle.std.specs.Prelude.{if◌then◌else◌, ◌==◌, ◌&&◌}
 use Rattle.sx_lines.specs.Bytes.{is_blank, line_feed, carriage_return}
 use Rattle.sx_lines.specs.Lines.{Lines, over, line, next_number, lines_from, ends_here}
 use Rattle.sx_lines.specs.Lines as lines
-use Rattle.sx_directives.specs.Parts.{parts_of, begun_part, with_byte}
+use Rattle.sx_directives.specs.Parts.{parts_of, begun_part, part_with_byte}
 use Rattle.sx_directives.specs.declared.row.Row.{Row}
 use Rattle.sx_directives.specs.declared.row.Row.TheVariants.{Sort, Prod, Var, Form, Main, Plain}
 use Rattle.sx_directives.specs.declared.row.Row.TheVariants.{Rule, End, To}
@@ -62,11 +62,11 @@ abbrev pub AreFull : Lines → Type 0
 AreFull (over n) = Unit {0}
 AreFull (line n text after more) = (1 ≤ length text) × AreFull more
 
-with_byte_few : (b : ℕ) (parts : List (List ℕ)) → length (with_byte b parts) ≤ length parts + 1
+with_byte_few : (b : ℕ) (parts : List (List ℕ)) → length (part_with_byte b parts) ≤ length parts + 1
 with_byte_few b [] = omega arith
 with_byte_few b (part ∷ parts) = omega arith
 
-begun_test : (b : ℕ) (parts : List (List ℕ)) (test : Bool) → length (if test then (b ∷ []) ∷ parts else with_byte b parts) ≤ length parts + 1
+begun_test : (b : ℕ) (parts : List (List ℕ)) (test : Bool) → length (if test then (b ∷ []) ∷ parts else part_with_byte b parts) ≤ length parts + 1
 begun_test b parts true = omega arith
 begun_test b parts false = with_byte_few b parts
 

@@ -5,12 +5,12 @@ use Rattle.sx_lines.specs.declared.kind.Kind.{Kind}
 use Rattle.sx_directives.specs.declared.file_kind.FileKind.{FileKind}
 use Rattle.sx_outline.specs.Declarations.{Declared}
 use Rattle.sx_outline.specs.Stages.{State, Steps}
-use Rattle.sx_outline.specs.Outcomes.{IsOutcome}
+use Rattle.sx_outline.specs.Outcomes.{IsReadingOutcome}
 
 -- what comes of the end and of a bad line may say less
 pub outcome_to : (kind : FileKind) (known : Declared) (name : List ℕ) (After Later : State → ℕ → Type 0) (Bad Worse : ℕ → Kind → Type 0)
     → ((t : State) (end : ℕ) → After t end → Later t end) → ((number : ℕ) (bad : Kind) → Bad number bad → Worse number bad)
-    → (s : State) (lines : Lines) → IsOutcome kind known name s lines After Bad → IsOutcome kind known name s lines Later Worse
+    → (s : State) (lines : Lines) → IsReadingOutcome kind known name s lines After Bad → IsReadingOutcome kind known name s lines Later Worse
 outcome_to kind known name After Later Bad Worse f g s (over end) h = f s end h
 outcome_to kind known name After Later Bad Worse f g s (line n text after more) (inl h) =
     inl (h.0, h.1, outcome_to kind known name After Later Bad Worse f g h.0 more h.2)
@@ -18,7 +18,7 @@ outcome_to kind known name After Later Bad Worse f g s (line n text after more) 
 
 -- the lines lead from one state to the other, before a line of this number
 abbrev pub Reaches : FileKind → Declared → List ℕ → State → Lines → State → ℕ → Type 0
-Reaches kind known name s lines t number = IsOutcome kind known name s lines (λ u end. (u ≡ t) × (end ≡ number)) (λ l bad. ⊥)
+Reaches kind known name s lines t number = IsReadingOutcome kind known name s lines (λ u end. (u ≡ t) × (end ≡ number)) (λ l bad. ⊥)
 
 -- lines of which none is bad lead to a state of which this holds
 pub record IsReached (kind : FileKind) (known : Declared) (name : List ℕ) (s : State) (lines : Lines) (After : State → ℕ → Type 0) : Type 0 where
@@ -28,7 +28,7 @@ pub record IsReached (kind : FileKind) (known : Declared) (name : List ℕ) (s :
   pub reaches : Reaches kind known name s lines state number
 
 pub reached : (kind : FileKind) (known : Declared) (name : List ℕ) (After : State → ℕ → Type 0) (Bad : ℕ → Kind → Type 0) → ((number : ℕ) (bad : Kind) → Bad number bad → ⊥)
-    → (s : State) (lines : Lines) → IsOutcome kind known name s lines After Bad → IsReached kind known name s lines After
+    → (s : State) (lines : Lines) → IsReadingOutcome kind known name s lines After Bad → IsReached kind known name s lines After
 reached kind known name After Bad n s (over end) h = record { state = s; number = end; holds = h; reaches = (refl, refl) }
 reached kind known name After Bad n s (line number text after more) (inl h) =
     let next = reached kind known name After Bad n h.0 more h.2 in
@@ -36,7 +36,7 @@ reached kind known name After Bad n s (line number text after more) (inl h) =
 reached kind known name After Bad n s (line number text after more) (inr h) = absurd (n number h.0 h.2)
 
 pub reaches_outcome : (kind : FileKind) (known : Declared) (name : List ℕ) (After : State → ℕ → Type 0) (Bad : ℕ → Kind → Type 0) (s : State) (lines : Lines) (t : State) (number : ℕ)
-    → Reaches kind known name s lines t number → After t number → IsOutcome kind known name s lines After Bad
+    → Reaches kind known name s lines t number → After t number → IsReadingOutcome kind known name s lines After Bad
 reaches_outcome kind known name After Bad s lines t number h a =
     outcome_to kind known name (λ u end. (u ≡ t) × (end ≡ number)) After (λ l bad. ⊥) Bad
     (λ u end e. subst (λ x. After x end) (sym e.0) (subst (After t) (sym e.1) a)) (λ l bad n. absurd n) s lines h

@@ -16,9 +16,9 @@ use Rattle.sx_directives.specs.declared.row.Row.TheVariants.{Rule}
 use Rattle.sx_outline.specs.Declarations.{Declared, nothing, declare}
 use Rattle.sx_outline.specs.Known.{Declares, RowGoesOn, kept_lines}
 use Rattle.sx_outline.specs.Stages.{State, start, rule_data, plain_data, IsWhole}
-use Rattle.sx_outline.specs.Outcomes.{IsOutcome}
+use Rattle.sx_outline.specs.Outcomes.{IsReadingOutcome}
 use Rattle.sx_outline.specs.Outlined.{OutlineData, outline, IsEnd, IsOutlined}
-use Rattle.sx_outline.specs.Reading.{IsOutlineReader, IsMainRead, IsNewReader, IsAhead, CanCountOne}
+use Rattle.sx_outline.specs.Reading.{IsOutlineReader, IsMainRead, IsNewReader, IsDeclaredAhead, CanCountOne}
 use Rattle.sx_outline.specs.Reading.{HasCountRoom, GrowsByOne, IsLineRead, IsLineRefused}
 use Rattle.sx_outline.specs.Reading.{ReadingEndsAt, IsBadLine, AreLinesRead, IsEndRead}
 use Rattle.sx_outline.specs.Reading.{IsOutlineRead}
@@ -27,18 +27,18 @@ use Rattle.sx_outline.proofs.OutcomeSteps.{outcome_to, reached}
 
 -- what comes of reading lines from a state on
 abbrev pub IsReadFrom : FileKind → Declared → List ℕ → State → Lines → Result (Reader × ℕ) OutlineError → Type 0
-IsReadFrom kind known name s lines result = IsOutcome kind known name s lines (ReadingEndsAt known result) (IsBadLine result)
+IsReadFrom kind known name s lines result = IsReadingOutcome kind known name s lines (ReadingEndsAt known result) (IsBadLine result)
 
 -- a state has been reached from the first, and what comes of it comes of the first
 pub record HasCome (kind : FileKind) (known : Declared) (name : List ℕ) (s : State) (whole : Lines) (reader : Reader) (lines : Lines) : Type 0 where
   pub state : State
   pub stands : IsOutlineReader known reader state
-  pub ahead : IsAhead kind state.stage state.declared lines known
+  pub ahead : IsDeclaredAhead kind state.stage state.declared lines known
   pub leads : (result : Result (Reader × ℕ) OutlineError) → IsReadFrom kind known name state lines result → IsReadFrom kind known name s whole result
 
 -- The reader stands for a state that has been reached from that of the first reader, and these bytes are left.
 pub record IsReading (kind : FileKind) (known : Declared) (name : List ℕ) (from : Reader) (whole : Lines) (reader : Reader) (lines : Lines) (rest : List ℕ) : Type 0 where
-  pub come : (s : State) → IsOutlineReader known from s → IsAhead kind s.stage s.declared whole known → HasCome kind known name s whole reader lines
+  pub come : (s : State) → IsOutlineReader known from s → IsDeclaredAhead kind s.stage s.declared whole known → HasCome kind known name s whole reader lines
   pub room : HasCountRoom reader (length rest)
   pub utf8 : IsUtf8 rest
 
@@ -72,7 +72,7 @@ reading_on kind known name from whole reader next lines rest n text after more e
   where
     come_on : (s : State) → HasCome kind known name s whole reader lines → HasCome kind known name s whole next more
     come_on s c =
-        let ahead : IsAhead kind c.state.stage c.state.declared (line n text after more) known = subst (λ x. IsAhead kind c.state.stage c.state.declared x known) e c.ahead in
+        let ahead : IsDeclaredAhead kind c.state.stage c.state.declared (line n text after more) known = subst (λ x. IsDeclaredAhead kind c.state.stage c.state.declared x known) e c.ahead in
         let step = read c.state c.stands (ahead_front kind c.state.stage c.state.declared (line n text after more) known ahead) in
         record {
           state = step.0;
@@ -91,21 +91,21 @@ refused_line kind known name s t n text after more whole (Notation l bad) leads 
 
 pub reading_refused : (kind : FileKind) (known : Declared) (name : List ℕ) (from : Reader) (whole : Lines) (reader : Reader) (lines : Lines) (rest : List ℕ) (n : ℕ) (text after : List ℕ) (more : Lines)
     (e : OutlineError) → lines ≡ line n text after more → IsLineRead kind known name reader n text (Err e) → IsReading kind known name from whole reader lines rest
-    → (s : State) → IsOutlineReader known from s → IsAhead kind s.stage s.declared whole known → AreLinesRead kind known name s whole (Err e)
+    → (s : State) → IsOutlineReader known from s → IsDeclaredAhead kind s.stage s.declared whole known → AreLinesRead kind known name s whole (Err e)
 reading_refused kind known name from whole reader lines rest n text after more e is read h = λ s stands at_first.
     let c = h.come s stands at_first in
-    let ahead : IsAhead kind c.state.stage c.state.declared (line n text after more) known = subst (λ x. IsAhead kind c.state.stage c.state.declared x known) is c.ahead in
+    let ahead : IsDeclaredAhead kind c.state.stage c.state.declared (line n text after more) known = subst (λ x. IsDeclaredAhead kind c.state.stage c.state.declared x known) is c.ahead in
     refused_line kind known name s c.state n text after more whole e
     (λ result k. c.leads result (subst (λ x. IsReadFrom kind known name c.state x result) (sym is) k))
     (read c.state c.stands (ahead_front kind c.state.stage c.state.declared (line n text after more) known ahead))
 
 pub reading_ended : (kind : FileKind) (known : Declared) (name : List ℕ) (from : Reader) (whole : Lines) (reader : Reader) (lines : Lines) (rest : List ℕ) (n : ℕ) → lines ≡ over n
     → IsReading kind known name from whole reader lines rest
-    → (s : State) → IsOutlineReader known from s → IsAhead kind s.stage s.declared whole known → AreLinesRead kind known name s whole (Ok (reader, n))
+    → (s : State) → IsOutlineReader known from s → IsDeclaredAhead kind s.stage s.declared whole known → AreLinesRead kind known name s whole (Ok (reader, n))
 reading_ended kind known name from whole reader lines rest n is h = λ s stands at_first.
     let c = h.come s stands at_first in
     let whole_is : IsWhole c.state.stage → c.state.declared ≡ known =
-    whole_known kind c.state.stage c.state.declared known n (subst (λ x. IsAhead kind c.state.stage c.state.declared x known) is c.ahead) in
+    whole_known kind c.state.stage c.state.declared known n (subst (λ x. IsDeclaredAhead kind c.state.stage c.state.declared x known) is c.ahead) in
     c.leads (Ok (reader, n)) (subst (λ x. IsReadFrom kind known name c.state x (Ok (reader, n))) (sym is) (record { stands = c.stands; whole = whole_is; ends = refl }))
 
 -- ---- language files
@@ -216,7 +216,7 @@ declares_from kind base lines all known e f h = subst (λ (x : Lines). Declares 
 -- reading the lines of a language file from the first on
 pub language_read : (known : Declared) (name : List ℕ) (lines all : Lines) (reader : Reader) (result : Result (Reader × ℕ) OutlineError) → lines ≡ all
     → Declares files.Language false nothing (kept_lines all) known → IsNewReader reader
-    → ((s : State) → IsOutlineReader known reader s → IsAhead files.Language s.stage s.declared (kept_lines lines) known → AreLinesRead files.Language known name s (kept_lines lines) result)
+    → ((s : State) → IsOutlineReader known reader s → IsDeclaredAhead files.Language s.stage s.declared (kept_lines lines) known → AreLinesRead files.Language known name s (kept_lines lines) result)
     → AreLinesRead files.Language known name start (kept_lines all) result
 language_read known name lines all reader result e declares new read =
     subst (λ (x : Lines). AreLinesRead files.Language known name start (kept_lines x) result) e

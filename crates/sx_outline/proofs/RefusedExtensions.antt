@@ -15,7 +15,7 @@ use Rattle.sx_outline.specs.declared.outline_error.OutlineError.TheVariants.{Not
 use Rattle.sx_outline.specs.Declarations.{Declared, declared_before}
 use Rattle.sx_outline.specs.Known.{Declares, kept_lines}
 use Rattle.sx_outline.specs.Fitting.{ArePartNames}
-use Rattle.sx_outline.specs.Reading.{IsAhead}
+use Rattle.sx_outline.specs.Reading.{IsDeclaredAhead}
 use Rattle.sx_outline.specs.Stages.{Numbered, Stage, at_start, at_declarations, at_body, at_plains, at_rules, at_premises, at_conclusion, at_end, State, start_after, Steps, IsBad, IsInside, after}
 use Rattle.sx_outline.specs.Headers.{HeaderData}
 use Rattle.sx_outline.specs.ExtensionOutlined.{ExtensionOutlineData, extension_declares, AreReadAfter, IsExtensionEnd, IsExtensionReadAs}
@@ -39,7 +39,7 @@ use Rattle.sx_outline.proofs.HeadRows.{some_name, some_is_module}
 
 -- ---- what is known at a bad line
 
-ahead_grows : (at : Stage) (d : Declared) (lines : Lines) (known : Declared) → IsAhead files.Extension at d lines known → Grows d known
+ahead_grows : (at : Stage) (d : Declared) (lines : Lines) (known : Declared) → IsDeclaredAhead files.Extension at d lines known → Grows d known
 ahead_grows at_start d lines known h = grows_known false d lines known h
 ahead_grows at_declarations d lines known h = grows_known false d lines known h
 ahead_grows (at_body b) d lines known h = grows_known true d lines known h
@@ -51,7 +51,7 @@ ahead_grows (at_end r) d lines known h = grows_same d known (sym h)
 
 -- what is known goes on from what the lines before declare
 known_grows : (known : Declared) (name : List ℕ) (s : State) (lines : Lines) (front rest : List Numbered) (t : State) → numbered_lines lines ≡ front ++ rest
-    → Leads files.Extension known name s front t → IsAhead files.Extension s.stage s.declared lines known → Grows t.declared known
+    → Leads files.Extension known name s front t → IsDeclaredAhead files.Extension s.stage s.declared lines known → Grows t.declared known
 known_grows known name s lines [] rest t e h ahead = subst (λ (x : State). Grows x.declared known) h (ahead_grows s.stage s.declared lines known ahead)
 known_grows known name s (over n) (l ∷ front) rest t e h ahead = absurd (none_first l (front ++ rest) e)
 known_grows known name s (line n text after more) (l ∷ front) rest t e h ahead =

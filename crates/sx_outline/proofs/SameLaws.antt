@@ -6,7 +6,7 @@ use Rattle.sx_grammar.specs.Parts.{Line}
 use Rattle.sx_grammar.specs.declared.production.Production.{Production}
 use Rattle.sx_grammar.specs.declared.sort_line.SortLine.{SortLine}
 use Rattle.sx_directives.specs.declared.file_kind.FileKind.{FileKind}
-use Rattle.sx_directives.specs.Rows.{Follows, HasBody, IsRow, HasWord, word_of}
+use Rattle.sx_directives.specs.Rows.{Follows, HasBody, IsRow, HasWord, row_word}
 use Rattle.sx_directives.specs.declared.rows.VarLine.{VarLine}
 use Rattle.sx_directives.specs.declared.rows.FormLine.{FormLine}
 use Rattle.sx_directives.specs.declared.rows.MainLine.{MainLine}
@@ -15,20 +15,20 @@ use Rattle.sx_directives.specs.declared.row.Row.{Row}
 use Rattle.sx_directives.specs.declared.row.Row.TheVariants.{Language, Sort, Prod, Var, Form, Main}
 use Rattle.sx_directives.specs.declared.row.Row.TheVariants.{Rule, Bar, End, Extension, Use, Plain}
 use Rattle.sx_directives.specs.declared.row.Row.TheVariants.{To}
-use Rattle.sx_outline.specs.Declarations.{Declared, FormData, declare}
+use Rattle.sx_outline.specs.Declarations.{Declared, DeclaredForm, declare}
 use Rattle.sx_outline.specs.Fitting.{ArePartNames, RowFits, SymbolFits, HasOneSubjectSymbol}
-use Rattle.sx_outline.specs.Fitting.{IsKnownSort, stems, form_names}
+use Rattle.sx_outline.specs.Fitting.{IsKnownSort, stems, declared_form_names}
 use Rattle.sx_outline.specs.Known.{RowGoesOn}
 use Rattle.sx_outline.specs.Stages.{Stage, at_declarations, at_plains, MayStandAt, HasMain}
 use Rattle.sx_outline.proofs.SameRows.{SameRow}
 
 -- a row of `to` has a body
-body_there : (text : List ℕ) (parts : List (List ℕ)) (r : Row) → Follows text parts r → HasBody (word_of r) text
+body_there : (text : List ℕ) (parts : List (List ℕ)) (r : Row) → Follows text parts r → HasBody (row_word r) text
 body_there text parts (To body) h = (body, h.0)
 body_there text parts _ h = tt
 
 pub has_word : (kind : FileKind) (text : List ℕ) (r : Row) → IsRow kind text r → HasWord kind text
-has_word kind text r h = (word_of r, h.rest, h.parts_are, (h.word, body_there text h.rest r h.follows))
+has_word kind text r h = (row_word r, h.rest, h.parts_are, (h.word, body_there text h.rest r h.follows))
 
 prod_stands : (at : Stage) (mains : List MainLine) (p q : Production) → MayStandAt at mains (Prod p) → MayStandAt at mains (Prod q)
 prod_stands at_declarations mains p q h = tt
@@ -66,7 +66,7 @@ same_declare d (Prod p) (Prod q) e =
     ap (λ (x : Line). let all : Declared = record { sorts = d.sorts; productions = d.productions ++ x ∷ []; vars = d.vars; forms = d.forms; mains = d.mains; uses = d.uses } in all) e
 same_declare d (Var v) (Var w) e = ap (λ (x : VarLine). declare d (Var x)) e
 same_declare d (Form f) (Form g) e =
-    ap (λ (x : FormData). let all : Declared = record { sorts = d.sorts; productions = d.productions; vars = d.vars; forms = d.forms ++ x ∷ []; mains = d.mains; uses = d.uses } in all) e
+    ap (λ (x : DeclaredForm). let all : Declared = record { sorts = d.sorts; productions = d.productions; vars = d.vars; forms = d.forms ++ x ∷ []; mains = d.mains; uses = d.uses } in all) e
 same_declare d (Main m) (Main n) e = ap (λ (x : MainLine). declare d (Main x)) e
 same_declare d (Rule n) (Rule m) e = refl
 same_declare d Bar Bar e = refl
@@ -83,7 +83,7 @@ same_fits known before (Sort s) (Sort t) e h = h
 same_fits known before (Prod p) (Prod q) e h = h
 same_fits known before (Var v) (Var w) e h = subst (λ (x : VarLine). (Contains (stems before) x.stem → ⊥) × IsKnownSort known x.sort) e h
 same_fits known before (Form f) (Form g) e h =
-    subst (λ (x : FormData). (Contains (form_names before) x.name → ⊥) × AllByRecursion (SymbolFits known) x.symbols × HasOneSubjectSymbol x.symbols) e h
+    subst (λ (x : DeclaredForm). (Contains (declared_form_names before) x.name → ⊥) × AllByRecursion (SymbolFits known) x.symbols × HasOneSubjectSymbol x.symbols) e h
 same_fits known before (Main m) (Main n) e h = h
 same_fits known before (Rule n) (Rule m) e h = h
 same_fits known before Bar Bar e h = h

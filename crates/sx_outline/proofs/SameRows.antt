@@ -7,7 +7,7 @@ use Rattle.sx_grammar.specs.declared.sort_line.SortLine.{SortLine}
 use Rattle.sx_directives.specs.Spelling.{IsVariable, SpellsSymbol, SpellsForm, EachSpelled}
 use Rattle.sx_directives.specs.Rows.{IsRow, IsNameRow, IsSortRow, IsProdRow, IsVarRow, IsFormRow}
 use Rattle.sx_directives.specs.Rows.{IsMainRow, IsModuleRow, IsPlainRow, AreBrackets, Follows}
-use Rattle.sx_directives.specs.Rows.{keyword_text, kind_text, word_of}
+use Rattle.sx_directives.specs.Rows.{keyword_text, kind_text, row_word}
 use Rattle.sx_directives.specs.declared.rows.VarLine.{VarLine}
 use Rattle.sx_directives.specs.declared.rows.FormLine.{FormLine}
 use Rattle.sx_directives.specs.declared.rows.MainLine.{MainLine}
@@ -17,7 +17,7 @@ use Rattle.sx_directives.specs.declared.row.Row.{Row}
 use Rattle.sx_directives.specs.declared.row.Row.TheVariants.{Language, Sort, Prod, Var, Form, Main}
 use Rattle.sx_directives.specs.declared.row.Row.TheVariants.{Rule, Bar, End, Extension, Use, Plain}
 use Rattle.sx_directives.specs.declared.row.Row.TheVariants.{To}
-use Rattle.sx_outline.specs.Declarations.{FormData, declared_form}
+use Rattle.sx_outline.specs.Declarations.{DeclaredForm, declared_form}
 use Rattle.sx_directives.proofs.BodyLaws.{one_body}
 use Rattle.sx_outline.proofs.SpelledOnce.{one_quoted, one_symbol, one_form_symbol, each_same}
 
@@ -113,7 +113,7 @@ same_var rest v w h k =
     let three : v.sort ∷ [] ≡ w.sort ∷ [] = tail_same colon colon (v.sort ∷ []) (w.sort ∷ []) two in
     var_is v w (head_same v.stem w.stem (colon ∷ v.sort ∷ []) (colon ∷ w.sort ∷ []) one) (head_same v.sort w.sort [] [] three)
 
-form_is : (f g : FormData) → f.name ≡ g.name → f.symbols ≡ g.symbols → f ≡ g
+form_is : (f g : DeclaredForm) → f.name ≡ g.name → f.symbols ≡ g.symbols → f ≡ g
 form_is f g d e = λ i. record { name = d i; symbols = e i }
 
 same_form : (rest : List (List ℕ)) (f g : FormLine) → IsFormRow rest f → IsFormRow rest g → declared_form f ≡ declared_form g
@@ -154,7 +154,7 @@ same_plain rest p q h k =
 
 -- the first two bytes of a row's word, which tell the word
 abbrev told : Row → ℕ
-told r = get_or (keyword_text (word_of r)) 0 0 * 256 + get_or (keyword_text (word_of r)) 1 0
+told r = get_or (keyword_text (row_word r)) 0 0 * 256 + get_or (keyword_text (row_word r)) 1 0
 
 -- rows of one line with one word state the same
 same_follows : (text : List ℕ) (rest : List (List ℕ)) (r s : Row) → told r ≡ told s → Follows text rest r → Follows text rest s → SameRow r s
@@ -176,7 +176,7 @@ same_follows text rest r s e h k = absurd (omega (arith, e))
 -- two rows of the same line state the same
 pub same_row : (kind : FileKind) (text : List ℕ) (r s : Row) → IsRow kind text r → IsRow kind text s → SameRow r s
 same_row kind text r s h k =
-    let all : keyword_text (word_of r) ∷ h.rest ≡ keyword_text (word_of s) ∷ k.rest = sym h.parts_are ∙ k.parts_are in
-    let same : keyword_text (word_of r) ≡ keyword_text (word_of s) = head_same (keyword_text (word_of r)) (keyword_text (word_of s)) h.rest k.rest all in
-    let rest : h.rest ≡ k.rest = tail_same (keyword_text (word_of r)) (keyword_text (word_of s)) h.rest k.rest all in
+    let all : keyword_text (row_word r) ∷ h.rest ≡ keyword_text (row_word s) ∷ k.rest = sym h.parts_are ∙ k.parts_are in
+    let same : keyword_text (row_word r) ≡ keyword_text (row_word s) = head_same (keyword_text (row_word r)) (keyword_text (row_word s)) h.rest k.rest all in
+    let rest : h.rest ≡ k.rest = tail_same (keyword_text (row_word r)) (keyword_text (row_word s)) h.rest k.rest all in
     same_follows text h.rest r s (ap (λ (t : List ℕ). get_or t 0 0 * 256 + get_or t 1 0) same) h.follows (subst (λ (z : List (List ℕ)). Follows text z s) (sym rest) k.follows)

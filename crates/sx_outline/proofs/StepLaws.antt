@@ -31,10 +31,10 @@ use Rattle.sx_outline.specs.Stages.{Numbered, PlainData, RuleData, plain_data, r
 use Rattle.sx_outline.specs.Stages.{bodied, begun_plain, paired, with_plain, MayStandAt, Stage}
 use Rattle.sx_outline.specs.Stages.{at_start, at_declarations, at_body, at_plains, at_rules}
 use Rattle.sx_outline.specs.Stages.{at_premises, at_conclusion, at_end, concluded, head_row, State}
-use Rattle.sx_outline.specs.Stages.{MayStand, IsDue, StepsAt, StepsByRow, with_premise, after}
+use Rattle.sx_outline.specs.Stages.{MayComeNext, IsDue, StepsAt, StepsByRow, with_premise, after}
 use Rattle.sx_outline.specs.Stages.{at as to}
 use Rattle.sx_outline.specs.Reading.{stage, begun, plain_begun, AddsPlain, IsPlainBegun}
-use Rattle.sx_outline.specs.Reading.{IsOutlineReader, IsMainRead, IsFront, IsRowRefused, IsRowTaken}
+use Rattle.sx_outline.specs.Reading.{IsOutlineReader, IsMainRead, IsFirstDeclared, IsRowRefused, IsRowTaken}
 use Rattle.sx_outline.specs.Reading.{IsLineRefused, IsLineRead, IsHeadRefused, AddsPremise}
 use Rattle.sx_outline.proofs.SameRows.{same_row}
 use Rattle.sx_outline.proofs.SameLaws.{has_word, same_fits}
@@ -79,7 +79,7 @@ shape_in kind text e is h = subst (λ x. IsRowRead kind text (Err x)) is h
 
 pub fits_from : (known before : Declared) (forms vars : ℕ) (b : Bool) (row : Row)
     → ((d : Declared) → d.forms ≡ take forms known.forms → d.vars ≡ take vars known.vars → IsTrue b ↔ RowFits known d row)
-    → IsFront before known → forms ≡ length before.forms → vars ≡ length before.vars → IsTrue b ↔ RowFits known before row
+    → IsFirstDeclared before known → forms ≡ length before.forms → vars ≡ length before.vars → IsTrue b ↔ RowFits known before row
 fits_from known before forms vars b row h front ef ev =
     h before
     (sym (ap (λ n. take n known.forms) ef ∙ ap (take (length before.forms)) front.forms ∙ take-append_seam before.forms front.more.forms))
@@ -121,7 +121,7 @@ row_refused : (kind : FileKind) (known : Declared) (name : List ℕ) (s : State)
 row_refused kind known name s number text row Memory due spelled fits h = tt
 row_refused kind known name s number text row (NotUtf8 place) due spelled fits h = absurd h
 row_refused kind known name s number text row (Notation l Order) due spelled fits h = (h.0, (due, row, spelled, fits, h.1))
-row_refused kind known name s number text row (Notation l NoMain) due spelled fits h = (h.0, (due, h.1, subst (IsRow kind text) h.2 spelled, subst (λ x. MayStand s x) h.2 h.3, h.4))
+row_refused kind known name s number text row (Notation l NoMain) due spelled fits h = (h.0, (due, h.1, subst (IsRow kind text) h.2 spelled, subst (λ x. MayComeNext s x) h.2 h.3, h.4))
 row_refused kind known name s number text row (Notation l Head) due spelled fits h = absurd h
 row_refused kind known name s number text row (Notation l Directive) due spelled fits h = absurd h
 row_refused kind known name s number text row (Notation l Shape) due spelled fits h = absurd h
@@ -129,7 +129,7 @@ row_refused kind known name s number text row (Notation l Unfinished) due spelle
 row_refused kind known name s number text row (Notation l Variable) due spelled fits h = absurd h
 
 pub row_taken : (kind : FileKind) (known : Declared) (name : List ℕ) (r : Reader) (number : ℕ) (text : List ℕ) (row : Row) (result : Result Reader OutlineError) → IsDue (stage r.stage) → IsRow kind text row
-    → ((s : State) → IsOutlineReader known r s → IsFront s.declared known → RowFits known s.declared row) → IsRowTaken known r number row result → IsLineRead kind known name r number text result
+    → ((s : State) → IsOutlineReader known r s → IsFirstDeclared s.declared known → RowFits known s.declared row) → IsRowTaken known r number row result → IsLineRead kind known name r number text result
 row_taken kind known name r number text row (Ok next) due spelled fits taken = λ s reader front.
     let h = taken s reader in (
       after s number row,

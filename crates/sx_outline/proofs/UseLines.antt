@@ -5,7 +5,7 @@ use Rattle.std.proofs.lemmas.List.Elements.{Contains-append_right}
 use Rattle.sx_lines.specs.Lines.{Lines, over, line}
 use Rattle.sx_lines.specs.declared.kind.Kind.{Kind}
 use Rattle.sx_lines.specs.declared.kind.Kind.TheVariants.{Head, Shape}
-use Rattle.sx_directives.specs.Rows.{IsRow, keyword_text, word_of}
+use Rattle.sx_directives.specs.Rows.{IsRow, keyword_text, row_word}
 use Rattle.sx_directives.specs.declared.file_kind.FileKind.TheVariants as files
 use Rattle.sx_directives.specs.declared.row.Row.{Row}
 use Rattle.sx_directives.specs.declared.row.Row.TheVariants.{Language, Sort, Prod, Var, Form, Main}
@@ -125,7 +125,7 @@ told_part [] = 0
 told_part (part ∷ parts) = get_or part 0 0 * 256 + get_or part 1 0
 
 -- a line of another row is no `use` line
-other_row : (text : List ℕ) (row : Row) → IsRow files.Extension text row → (get_or (keyword_text (word_of row)) 0 0 * 256 + get_or (keyword_text (word_of row)) 1 0 ≡ 117 * 256 + 115 → ⊥) → IsUseLine text → ⊥
+other_row : (text : List ℕ) (row : Row) → IsRow files.Extension text row → (get_or (keyword_text (row_word row)) 0 0 * 256 + get_or (keyword_text (row_word row)) 1 0 ≡ 117 * 256 + 115 → ⊥) → IsUseLine text → ⊥
 other_row text row h n line_is = n (ap told_part (sym h.parts_are ∙ line_is.1))
 
 -- a row that stands after the header

@@ -19,7 +19,7 @@ use Rattle.sx_directives.specs.declared.spelled.FormSymbol.TheVariants.{Lit as F
 use Rattle.sx_directives.specs.declared.file_kind.FileKind.{FileKind}
 use Rattle.sx_directives.specs.declared.row.Row.{Row}
 use Rattle.sx_directives.specs.declared.row.Row.TheVariants.{Sort, Prod, Var, Form, Main}
-use Rattle.sx_outline.specs.Declarations.{Declared, FormData, declared_form, declare}
+use Rattle.sx_outline.specs.Declarations.{Declared, DeclaredForm, declared_form, declare}
 use Rattle.sx_outline.specs.Declarations.{declared_parts}
 use Rattle.sx_outline.specs.Sized.{HaveGoodLevels, HasName}
 
@@ -117,12 +117,12 @@ prod_weighs d parts p h =
     let e : length parts ≡ suc (suc (suc (suc (length h.symbols)))) = ap length h.parts_are in
     omega arith
 
-form_weighs : (d : Declared) (parts : List (List ℕ)) (f : FormData) (symbols : List (List ℕ)) → parts ≡ f.name ∷ (58 ∷ []) ∷ symbols → EachSpelled SpellsForm symbols f.symbols
+form_weighs : (d : Declared) (parts : List (List ℕ)) (f : DeclaredForm) (symbols : List (List ℕ)) → parts ≡ f.name ∷ (58 ∷ []) ∷ symbols → EachSpelled SpellsForm symbols f.symbols
     → weight (record { sorts = d.sorts; productions = d.productions; vars = d.vars; forms = d.forms ++ f ∷ []; mains = d.mains; uses = d.uses }) ≤ weight d + length parts
 unfolding weight
 form_weighs d parts f symbols are h =
     let a = pushed d.forms f in
-    let b = flat_pushed (λ (f : FormData). f.symbols) d.forms f in
+    let b = flat_pushed (λ (f : DeclaredForm). f.symbols) d.forms f in
     let few = spelled_few SpellsForm symbols f.symbols h in
     let e : length parts ≡ suc (suc (length symbols)) = ap length are in
     omega arith
@@ -168,7 +168,7 @@ IsGoodPlace (FormLit text) = Unit {0}
 IsGoodPlace (Place role (Lexical kind)) = Unit {0}
 IsGoodPlace (Place role (Named sort least)) = (least ≤ 99) × IsName sort
 
-abbrev pub IsGoodForm : FormData → Type 0
+abbrev pub IsGoodForm : DeclaredForm → Type 0
 IsGoodForm f = AllByRecursion IsGoodPlace f.symbols
 
 -- levels are at most 99, and the sorts of places are names
@@ -220,7 +220,7 @@ good_levels d g = record {
   asked = λ r name least inside here. all_in IsGoodSymbol r.symbols (Part name least) (all_in IsGoodLine d.productions r g.lines inside).1 here;
 }
 
-pub good_places : (forms : List FormData) → AllByRecursion IsGoodForm forms → HaveGoodLevels forms
+pub good_places : (forms : List DeclaredForm) → AllByRecursion IsGoodForm forms → HaveGoodLevels forms
 good_places forms g = λ f role name least inside here. (all_in IsGoodPlace f.symbols (Place role (Named name least)) (all_in IsGoodForm forms f g inside) here).0
 
 has_name : (s : FormSymbol) → IsGoodPlace s → HasName s
@@ -228,5 +228,5 @@ has_name (FormLit text) h = tt
 has_name (Place role (Lexical kind)) h = tt
 has_name (Place role (Named sort least)) h = h.1
 
-pub good_names : (forms : List FormData) → AllByRecursion IsGoodForm forms → AllByRecursion (λ f. AllByRecursion HasName f.symbols) forms
+pub good_names : (forms : List DeclaredForm) → AllByRecursion IsGoodForm forms → AllByRecursion (λ f. AllByRecursion HasName f.symbols) forms
 good_names forms g = all_weaker IsGoodForm (λ f. AllByRecursion HasName f.symbols) (λ f h. all_weaker IsGoodPlace HasName has_name f.symbols h) forms g

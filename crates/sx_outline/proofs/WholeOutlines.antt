@@ -9,7 +9,7 @@ use Rattle.sx_outline.specs.Declarations.{Declared, declare, declared_before}
 use Rattle.sx_outline.specs.Headers.{HeaderData}
 use Rattle.sx_outline.specs.Stages.{Numbered}
 use Rattle.sx_outline.specs.ExtensionOutlined.{ExtensionOutlineData, extension_declares}
-use Rattle.sx_outline.specs.Structure.{AreDeclarations, ArePairs, AreHeaderLines, AreExtensionLines}
+use Rattle.sx_outline.specs.Structure.{AreDeclarations, ArePlainPairs, AreHeaderLines, AreExtensionLines}
 use Rattle.sx_outline.specs.BadExtensions.{AreWhole}
 
 -- the same but for productions and stems
@@ -57,7 +57,7 @@ whole_outlined sorts vars header front lines is h =
         lines_are = ap (λ (x : List Numbered). front ++ x) good.lines_are;
         header_is = is;
         declared = subst (λ (x : Declared). AreDeclarations files.Extension x base good.declarations x) same declared;
-        pairs_are = subst (λ (x : Declared). ArePairs files.Extension x good.pairs good.plains) same good.pairs_are;
+        pairs_are = subst (λ (x : Declared). ArePlainPairs files.Extension x good.pairs good.plains) same good.pairs_are;
         rules_are = good.rules_are;
       },
     )

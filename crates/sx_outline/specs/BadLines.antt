@@ -14,7 +14,7 @@ use Rattle.sx_outline.specs.Declarations.{Declared, nothing}
 use Rattle.sx_outline.specs.Fitting.{IsMainOf}
 use Rattle.sx_outline.specs.Known.{kept_lines}
 use Rattle.sx_outline.specs.Stages.{Numbered, PlainData, RuleData}
-use Rattle.sx_outline.specs.Structure.{numbered_lines, AreDeclarations, ArePairs, AreRules}
+use Rattle.sx_outline.specs.Structure.{numbered_lines, AreDeclarations, ArePlainPairs, AreRuleRows}
 
 -- where this is known there is at most one main line, and it is of a main form
 abbrev pub AreMains : Declared → List MainLine → Type 0
@@ -34,9 +34,9 @@ pub record AreLinesAmong (kind : FileKind) (known before : Declared)
   pub declared : AreDeclarations kind known before declarations all
   pub mains : AreMains known all.mains
   pub plains : List PlainData
-  pub pairs_are : ArePairs kind known pairs plains
+  pub pairs_are : ArePlainPairs kind known pairs plains
   pub stated : List RuleData
-  pub rules_are : AreRules kind rules stated
+  pub rules_are : AreRuleRows kind rules stated
 
 -- `language NAME`, then lines that are as they should be where this is known
 pub record AreLanguageLines (name : List ℕ) (known : Declared)
@@ -110,16 +110,17 @@ pub record HasNoMain (name : List ℕ) (known : Declared) (lines : Lines) (numbe
 -- What two files have in common, so that a line which is bad in this way in one of them is so in
 -- the other: their sorts where the shape is bad, their sorts, productions and forms where a main
 -- line has no main form, and else nothing.
-abbrev pub Agrees : Kind → (known other : Declared) → Type 0
-Agrees Shape known other = other.sorts ≡ known.sorts
-Agrees NoMain known other = (other.sorts ≡ known.sorts) × (other.productions ≡ known.productions)
+abbrev pub HasInCommon : Kind → (known other : Declared) → Type 0
+HasInCommon Shape known other = other.sorts ≡ known.sorts
+HasInCommon NoMain known other = (other.sorts ≡ known.sorts)
+    × (other.productions ≡ known.productions)
     × (other.forms ≡ known.forms)
-Agrees kind known other = Unit {0}
+HasInCommon kind known other = Unit {0}
 
 -- the lines are good where something is known that agrees with this
 abbrev pub AreAgreeing : (name : List ℕ) (known : Declared) → Kind → List Numbered → Type 0
 AreAgreeing name known kind lines =
-    (other : Declared) × Agrees kind known other × AreLanguageLines name other lines
+    (other : Declared) × HasInCommon kind known other × AreLanguageLines name other lines
 
 -- a line is the first bad one of a language file
 abbrev pub IsBadLine : (name : List ℕ) (known : Declared) → Lines → ℕ → Kind → Type 0

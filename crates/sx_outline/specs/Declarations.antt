@@ -10,12 +10,12 @@ use Rattle.sx_directives.specs.declared.row.Row.{Row}
 use Rattle.sx_directives.specs.declared.row.Row.TheVariants.{Sort, Prod, Var, Form, Main}
 
 -- a form as plain data
-pub record FormData : Type 0 where
+pub record DeclaredForm : Type 0 where
   pub name : List ℕ
   pub symbols : List FormSymbol
 
 -- the name and the symbols of a form line
-abbrev pub declared_form : FormLine → FormData
+abbrev pub declared_form : FormLine → DeclaredForm
 declared_form f = record { name = f.name; symbols = f.symbols.items }
 
 -- sorts, productions, stems, forms and main forms, each in the order of their lines, and the names
@@ -24,7 +24,7 @@ pub record Declared : Type 0 where
   pub sorts : List SortLine
   pub productions : List Line
   pub vars : List VarLine
-  pub forms : List FormData
+  pub forms : List DeclaredForm
   pub mains : List MainLine
   pub uses : List (List ℕ)
 

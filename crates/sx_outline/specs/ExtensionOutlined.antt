@@ -17,7 +17,7 @@ use Rattle.sx_outline.specs.Headers.{HeaderData, header, IsHeader}
 use Rattle.sx_outline.specs.Known.{Declares, kept_lines}
 use Rattle.sx_outline.specs.Stages.{PlainData, plain_data, RuleData, rule_data, State, start_after}
 use Rattle.sx_outline.specs.Stages.{IsWhole, IsInside}
-use Rattle.sx_outline.specs.Outcomes.{IsOutcome}
+use Rattle.sx_outline.specs.Outcomes.{IsReadingOutcome}
 
 -- an outline of an extension as plain data
 pub record ExtensionOutlineData : Type 0 where
@@ -69,7 +69,7 @@ pub record AreReadAfter (sorts : List SortLine) (vars : List VarLine) (h : Heade
     (lines : Lines) (result : Result ExtensionOutlineData OutlineError) : Type 0 where
   pub known : Declared
   pub declares : Declares files.Extension false (declared_before sorts vars h.uses) lines known
-  pub outcome : IsOutcome files.Extension known h.name
+  pub outcome : IsReadingOutcome files.Extension known h.name
       (start_after (declared_before sorts vars h.uses)) lines
       (λ s end. IsExtensionEnd sorts h s result) (λ number bad. result ≡ Err (Notation number bad))
 

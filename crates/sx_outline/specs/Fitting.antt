@@ -22,21 +22,21 @@ use Rattle.sx_directives.specs.declared.row.Row.{Row}
 use Rattle.sx_directives.specs.declared.rows.VarLine.{VarLine}
 use Rattle.sx_directives.specs.declared.row.Row.TheVariants.{Var, Form, Use, Plain}
 use Rattle.sx_outline.specs.declared.main_form.MainForm.{MainForm}
-use Rattle.sx_outline.specs.Declarations.{Declared, FormData, declared_parts}
+use Rattle.sx_outline.specs.Declarations.{Declared, DeclaredForm, declared_parts}
 use Rattle.sx_outline.specs.Variables.{stem_of}
 use Rattle.sx_lines.specs.Distinct.{AreTextsDistinct}
 
 -- the names of the sorts
-abbrev pub sort_names : Declared → List (List ℕ)
-sort_names d = map (λ s. s.name) d.sorts
+abbrev pub declared_sort_names : Declared → List (List ℕ)
+declared_sort_names d = map (λ s. s.name) d.sorts
 
 -- the stems of metavariables
 abbrev pub stems : Declared → List (List ℕ)
 stems d = map (λ v. v.stem) d.vars
 
 -- the names of the forms
-abbrev pub form_names : Declared → List (List ℕ)
-form_names d = map (λ f. f.name) d.forms
+abbrev pub declared_form_names : Declared → List (List ℕ)
+declared_form_names d = map (λ f. f.name) d.forms
 
 -- the first sort with this name
 abbrev pub sort_named : Declared → List ℕ → Option SortLine
@@ -44,18 +44,19 @@ sort_named d name = find (λ s. bytes_eq s.name name) d.sorts
 
 -- the name is that of a lexical sort, or of one that is declared
 abbrev pub IsKnownSort : Declared → List ℕ → Type 0
-IsKnownSort d name = ((kind : LexKind) × (name ≡ lex_text kind)) ⊎ Contains (sort_names d) name
+IsKnownSort d name = ((kind : LexKind) × (name ≡ lex_text kind))
+    ⊎ Contains (declared_sort_names d) name
 
 -- A subject's sort is typed, and that of another place is not. A sort that is not declared is left
 -- to the grammar.
-abbrev pub PlaceFits : Declared → Role → SpelledSort → Type 0
-PlaceFits d role (Lexical kind) = is_sub role ≡ false
-PlaceFits d role (Named sort least) = IfSome (sort_named d sort) (λ s. s.typed ≡ is_sub role)
+abbrev pub RolePlaceFits : Declared → Role → SpelledSort → Type 0
+RolePlaceFits d role (Lexical kind) = is_sub role ≡ false
+RolePlaceFits d role (Named sort least) = IfSome (sort_named d sort) (λ s. s.typed ≡ is_sub role)
 
 -- a literal stands anywhere, and a place has a sort that fits it
 abbrev pub SymbolFits : Declared → FormSymbol → Type 0
 SymbolFits d (FormLit text) = Unit {0}
-SymbolFits d (Place role sort) = PlaceFits d role sort
+SymbolFits d (Place role sort) = RolePlaceFits d role sort
 
 -- the sort of the symbol where it is a place with this role, and else none
 abbrev pub sort_at : Role → FormSymbol → List SpelledSort
@@ -85,8 +86,8 @@ kid_of (Lex kind) = of_kind kind ∷ []
 kid_of (Part sort least) = of_sort sort ∷ []
 
 -- the parts among symbols
-abbrev pub kids_of : List Symbol → List Kid
-kids_of symbols = flat_map kid_of symbols
+abbrev pub parts_of_symbols : List Symbol → List Kid
+parts_of_symbols symbols = flat_map kid_of symbols
 
 -- the sort of a part, by its name
 abbrev pub kid_sort : Kid → List ℕ
@@ -123,14 +124,15 @@ pub record ArePartNames (d : Declared) (label : List ℕ) (names : List (List �
   pub line_is : production_named d label ≡ Some line
   pub plain : IsPlain d line.sort
   pub once : AreTextsDistinct names
-  pub fit : NamesFit d names (kids_of line.symbols)
+  pub fit : NamesFit d names (parts_of_symbols line.symbols)
 
 -- Among what the whole file declares, and after the lines before it, the row is as it should be.
 -- Names that stand twice are left to the grammar and to the rule set where these refuse them.
 abbrev pub RowFits : (known before : Declared) → Row → Type 0
 RowFits known before (Var v) = (Contains (stems before) v.stem → ⊥) × IsKnownSort known v.sort
 RowFits known before (Form f) =
-    (Contains (form_names before) f.name → ⊥) × AllByRecursion (SymbolFits known) f.symbols.items ×
+    (Contains (declared_form_names before) f.name → ⊥)
+    × AllByRecursion (SymbolFits known) f.symbols.items ×
     HasOneSubjectSymbol f.symbols.items
 RowFits known before (Use name) = Contains known.uses name → ⊥
 RowFits known before (Plain p) = ArePartNames known p.label p.names.items
@@ -143,10 +145,10 @@ pub record IsConstructor (d : Declared) (label : List ℕ) (number : ℕ) (sort 
   pub is : slice_get d.productions number ≡ Some line
   pub first : number ≡ number_of (labels (declared_parts d)) label
   pub sort_is : line.sort ≡ sort
-  pub kids_are : kids_of line.symbols ≡ kids
+  pub kids_are : parts_of_symbols line.symbols ≡ kids
 
 -- the one place with this role has this sort, at any level
-pub record HasOneAt (f : FormData) (role : Role) (sort : List ℕ) : Type 0 where
+pub record HasOneAt (f : DeclaredForm) (role : Role) (sort : List ℕ) : Type 0 where
   pub least : ℕ
   pub is : sorts_at role f.symbols ≡ Named sort least ∷ []
 
@@ -154,9 +156,9 @@ pub record HasOneAt (f : FormData) (role : Role) (sort : List ℕ) : Type 0 wher
 -- sort is plain. The empty constructor has no parts. The other one has an environment, a name and a
 -- signature as parts. Both make environments.
 pub record IsMainOf (d : Declared) (m : MainLine) (main : MainForm) : Type 0 where
-  pub form : FormData
+  pub form : DeclaredForm
   pub form_is : slice_get d.forms main.form ≡ Some form
-  pub form_first : main.form ≡ number_of (form_names d) m.form
+  pub form_first : main.form ≡ number_of (declared_form_names d) m.form
   pub environment : List ℕ
   pub input : HasOneAt form In environment
   pub subject_sort : SpelledSort

@@ -63,8 +63,8 @@ HasUses h (Ok x) = Ok (using h x.0.items, kept_lines (left x.1))
 HasUses h (Err e) = Err e
 
 -- the lines are read up to the end of a header
-abbrev pub EndsWith : Result (HeaderData × Lines) OutlineError → HeaderData → Lines → Type 0
-EndsWith result h lines = result ≡ Ok (h, lines)
+abbrev pub EndsTheHeader : Result (HeaderData × Lines) OutlineError → HeaderData → Lines → Type 0
+EndsTheHeader result h lines = result ≡ Ok (h, lines)
 
 -- the refusal is that of this line
 abbrev pub IsBadIn : Result (HeaderData × Lines) OutlineError → ℕ → Kind → Type 0
@@ -78,13 +78,13 @@ OrLacking Is (Err (NotUtf8 place)) = ⊥
 OrLacking Is result = Is result
 
 -- what comes of lines after the second, whatever the first two are
-abbrev pub AreUsesOf : Lines → HeaderData → Result (HeaderData × Lines) OutlineError → Type 0
-AreUsesOf lines h result = AreUses h lines (EndsWith result) (IsBadIn result)
+abbrev pub AreUseRows : Lines → HeaderData → Result (HeaderData × Lines) OutlineError → Type 0
+AreUseRows lines h result = AreUses h lines (EndsTheHeader result) (IsBadIn result)
 
 -- what reading lines after the second answers, whatever the first two are
 abbrev pub AreUsesRead : Lines → Result (Vec (List ℕ) × Rest) OutlineError → Type 0
 AreUsesRead lines result = (h : HeaderData) → h.uses ≡ [] →
-    OrLacking (AreUsesOf lines h) (HasUses h result)
+    OrLacking (AreUseRows lines h) (HasUses h result)
 
 -- a header and what is left after it, as plain data
 abbrev pub read_header : Result (ExtensionHeader × Rest) OutlineError →
@@ -95,17 +95,17 @@ read_header (Err e) = Err e
 -- what reading lines after the first answers
 abbrev pub IsLanguageRead : List ℕ → Lines → Result (ExtensionHeader × Rest) OutlineError → Type 0
 IsLanguageRead name lines result = OrLacking (λ r.
-    IsLanguageNext name lines (EndsWith r) (IsBadIn r)) (read_header result)
+    IsLanguageNext name lines (EndsTheHeader r) (IsBadIn r)) (read_header result)
 
 -- what reading all lines answers, where the name is given
 abbrev pub IsNamedHeaderRead : List ℕ → Lines → Result (ExtensionHeader × Rest) OutlineError →
     Type 0
 IsNamedHeaderRead name lines result = OrLacking
-    (λ r. IsHeaderOf name lines (EndsWith r) (IsBadIn r)) (read_header result)
+    (λ r. IsHeaderOf name lines (EndsTheHeader r) (IsBadIn r)) (read_header result)
 
 -- what reading all lines answers, whatever the name is
 abbrev pub IsAnyHeaderRead : Lines → Result (ExtensionHeader × Rest) OutlineError → Type 0
-IsAnyHeaderRead lines result = OrLacking (λ r. IsHeader lines (EndsWith r) (IsBadIn r))
+IsAnyHeaderRead lines result = OrLacking (λ r. IsHeader lines (EndsTheHeader r) (IsBadIn r))
     (read_header result)
 
 -- why a first line is refused

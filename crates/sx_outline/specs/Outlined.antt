@@ -15,17 +15,17 @@ use Rattle.sx_outline.specs.declared.outline.Outline.{Outline}
 use Rattle.sx_outline.specs.declared.outline_error.OutlineError.{OutlineError}
 use Rattle.sx_outline.specs.declared.outline_error.OutlineError.TheVariants.{Memory, NotUtf8}
 use Rattle.sx_outline.specs.declared.outline_error.OutlineError.TheVariants.{Notation}
-use Rattle.sx_outline.specs.Declarations.{Declared, FormData, declared_form, nothing}
+use Rattle.sx_outline.specs.Declarations.{Declared, DeclaredForm, declared_form, nothing}
 use Rattle.sx_outline.specs.Fitting.{IsMainOf}
 use Rattle.sx_outline.specs.Known.{Declares, kept_lines}
 use Rattle.sx_outline.specs.Stages.{RuleData, rule_data, at_start, State, start, IsWhole, IsInside}
-use Rattle.sx_outline.specs.Outcomes.{IsOutcome}
+use Rattle.sx_outline.specs.Outcomes.{IsReadingOutcome}
 
 -- an outline as plain data
 pub record OutlineData : Type 0 where
   pub parts : Parts
   pub vars : List VarLine
-  pub forms : List FormData
+  pub forms : List DeclaredForm
   pub main : MainForm
   pub rules : List RuleData
 
@@ -79,7 +79,7 @@ pub record IsReadAs (name bytes : List ℕ) (result : Result OutlineData Outline
   pub utf8 : IsUtf8 bytes
   pub known : Declared
   pub declares : Declares files.Language false nothing (kept_lines (lines_from 1 bytes)) known
-  pub outcome : IsOutcome files.Language known name start (kept_lines (lines_from 1 bytes))
+  pub outcome : IsReadingOutcome files.Language known name start (kept_lines (lines_from 1 bytes))
       (λ s end. IsEnd s end result)
       (λ number kind. result ≡ Err (Notation number kind))
 

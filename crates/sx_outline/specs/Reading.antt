@@ -31,9 +31,9 @@ use Rattle.sx_outline.specs.Stages.{Numbered, RuleData, numbered_rule_line, rule
 use Rattle.sx_outline.specs.Stages.{with_body}
 use Rattle.sx_outline.specs.Stages.{MayStandAt, Begun, BegunPlain, begun_plain, Stage, at_start}
 use Rattle.sx_outline.specs.Stages.{at_declarations, at_body, at_plains, at_rules, at_premises}
-use Rattle.sx_outline.specs.Stages.{at_conclusion, at_end, head_row, State, start, MayStand}
+use Rattle.sx_outline.specs.Stages.{at_conclusion, at_end, head_row, State, start, MayComeNext}
 use Rattle.sx_outline.specs.Stages.{HasMain, Steps, IsBad, IsBar, IsWhole, with_premise, after}
-use Rattle.sx_outline.specs.Outcomes.{IsOutcome}
+use Rattle.sx_outline.specs.Outcomes.{IsReadingOutcome}
 use Rattle.sx_outline.specs.Outlined.{outline, IsEnd}
 
 -- a rule that has begun, as plain data
@@ -75,7 +75,7 @@ pub record IsOutlineReader (known : Declared) (r : Reader) (s : State) : Type 0 
   pub rules_are : map rule_data r.read.rules.items ≡ s.rules
 
 -- the first of what is known has been declared
-pub record IsFront (before known : Declared) : Type 0 where
+pub record IsFirstDeclared (before known : Declared) : Type 0 where
   pub more : Declared
   pub forms : known.forms ≡ before.forms ++ more.forms
   pub vars : known.vars ≡ before.vars ++ more.vars
@@ -148,16 +148,16 @@ IsPlainBegun old number p (Some next) = ((mains : List MainLine) → MayStandAt 
 abbrev pub IsRowRefused : Declared → State → ℕ → Row → OutlineError → Type 0
 IsRowRefused known s number row Memory = Unit {0}
 IsRowRefused known s number row (NotUtf8 place) = ⊥
-IsRowRefused known s number row (Notation l Order) = (l ≡ number) × (MayStand s row → ⊥)
+IsRowRefused known s number row (Notation l Order) = (l ≡ number) × (MayComeNext s row → ⊥)
 IsRowRefused known s number row (Notation l NoMain) =
-    (l ≡ number) × (m : MainLine) × (row ≡ Main m) × MayStand s row ×
+    (l ≡ number) × (m : MainLine) × (row ≡ Main m) × MayComeNext s row ×
     ((main : MainForm) → IsMainOf known m main → ⊥)
 IsRowRefused known s number row (Notation l _) = ⊥
 
 -- what taking a row that fits answers
 abbrev pub IsRowTaken : Declared → Reader → ℕ → Row → Result Reader OutlineError → Type 0
 IsRowTaken known r number row result = (s : State) → IsOutlineReader known r s →
-    MatchResult result (λ next. MayStand s row × HasMain known row ×
+    MatchResult result (λ next. MayComeNext s row × HasMain known row ×
     IsOutlineReader known next (after s number row)) (λ e. IsRowRefused known s number row e)
 
 -- why a line is refused
@@ -171,7 +171,7 @@ IsLineRefused kind known name s number text (Notation l bad) =
 abbrev pub IsLineRead : FileKind → Declared → List ℕ → Reader → ℕ → List ℕ →
     Result Reader OutlineError → Type 0
 IsLineRead kind known name r number text result = (s : State) → IsOutlineReader known r s →
-    IsFront s.declared known →
+    IsFirstDeclared s.declared known →
     MatchResult result (λ next. (t : State) × Steps kind known name s number text t ×
     IsOutlineReader known next t) (λ e. IsLineRefused kind known name s number text e)
 
@@ -204,16 +204,16 @@ AddsPremise b number text next =
     (with_premise b (record { number = number; text = text }))))
 
 -- what the reader stands for has been declared before these lines, or is all that the file declares
-abbrev pub IsAhead : FileKind → Stage → Declared → Lines → Declared → Type 0
-IsAhead kind at_start before lines known = Declares kind false before lines known
-IsAhead kind at_declarations before lines known = Declares kind false before lines known
-IsAhead kind (at_body b) before lines known = Declares kind true before lines known
-IsAhead kind at_plains before lines known = Declares kind false before lines known
-IsAhead kind _ before lines known = before ≡ known
+abbrev pub IsDeclaredAhead : FileKind → Stage → Declared → Lines → Declared → Type 0
+IsDeclaredAhead kind at_start before lines known = Declares kind false before lines known
+IsDeclaredAhead kind at_declarations before lines known = Declares kind false before lines known
+IsDeclaredAhead kind (at_body b) before lines known = Declares kind true before lines known
+IsDeclaredAhead kind at_plains before lines known = Declares kind false before lines known
+IsDeclaredAhead kind _ before lines known = before ≡ known
 
 -- the reader stands for the last state, in which all that the file declares was declared if nothing
 -- is left open, before a line of this number
-pub record IsReadTo (known : Declared) (r : Reader) (number : ℕ) (s : State) (end : ℕ) : Type 0
+pub record IsReaderOf (known : Declared) (r : Reader) (number : ℕ) (s : State) (end : ℕ) : Type 0
   where
     pub stands : IsOutlineReader known r s
     pub whole : IsWhole s.stage → s.declared ≡ known
@@ -221,7 +221,7 @@ pub record IsReadTo (known : Declared) (r : Reader) (number : ℕ) (s : State) (
 
 -- where the reading ends
 abbrev pub ReadingEndsAt : Declared → Result (Reader × ℕ) OutlineError → State → ℕ → Type 0
-ReadingEndsAt known (Ok x) s end = IsReadTo known x.0 x.1 s end
+ReadingEndsAt known (Ok x) s end = IsReaderOf known x.0 x.1 s end
 ReadingEndsAt known (Err e) s end = ⊥
 
 -- the refusal is that of this line
@@ -234,17 +234,17 @@ abbrev pub AreLinesRead : FileKind → Declared → List ℕ → State → Lines
 AreLinesRead kind known name s lines (Err Memory) = Unit {0}
 AreLinesRead kind known name s lines (Err (NotUtf8 place)) = ⊥
 AreLinesRead kind known name s lines result =
-    IsOutcome kind known name s lines (ReadingEndsAt known result) (IsBadLine result)
+    IsReadingOutcome kind known name s lines (ReadingEndsAt known result) (IsBadLine result)
 
 -- what reading the lines of a language file answers, where memory may be lacking at each
 abbrev pub IsOutlineRead : Declared → List ℕ → Lines → Result Outline OutlineError → Type 0
 IsOutlineRead known name lines (Ok o) =
-    IsOutcome files.Language known name start lines (λ s end. IsEnd s end (Ok (outline o)))
+    IsReadingOutcome files.Language known name start lines (λ s end. IsEnd s end (Ok (outline o)))
     (λ number bad. ⊥)
 IsOutlineRead known name lines (Err Memory) = Unit {0}
 IsOutlineRead known name lines (Err (NotUtf8 place)) = ⊥
 IsOutlineRead known name lines (Err (Notation number bad)) =
-    IsOutcome files.Language known name start lines
+    IsReadingOutcome files.Language known name start lines
     (λ s end. IsEnd s end (Err (Notation number bad))) (λ l other. (l ≡ number) × (other ≡ bad))
 
 -- what the end of the lines of a language file answers where a further line would have this number

@@ -9,18 +9,18 @@ use Rattle.sx_directives.specs.declared.spelled.SpelledSort.TheVariants.{Lex, Na
 use Rattle.sx_directives.specs.declared.spelled.FormSymbol.{FormSymbol}
 use Rattle.sx_directives.specs.declared.spelled.FormSymbol.TheVariants.{Lit, Place}
 use Rattle.sx_directives.specs.declared.rows.MainLine.{MainLine}
-use Rattle.sx_outline.specs.Declarations.{FormData}
+use Rattle.sx_outline.specs.Declarations.{DeclaredForm}
 use Rattle.sx_outline.specs.Fitting.{IsKnownSort, SymbolFits, HasOneSubjectSymbol}
 use Rattle.sx_lines.specs.Distinct.{AreTextsDistinct}
 use Rattle.sx_outline.specs.Fitting.{IsMainOf}
-use Rattle.sx_outline.specs.Fitting.{stems, form_names}
+use Rattle.sx_outline.specs.Fitting.{stems, declared_form_names}
 use Rattle.sx_outline.specs.Stages.{RuleData}
 use Rattle.sx_outline.specs.Outlined.{OutlineData, declared_by}
 
 -- least levels of the places of the forms are at most 99
-abbrev pub HaveGoodLevels : List FormData → Type 0
+abbrev pub HaveGoodLevels : List DeclaredForm → Type 0
 HaveGoodLevels forms =
-    (f : FormData) (role : Role) (name : List ℕ) (least : ℕ) → Contains forms f →
+    (f : DeclaredForm) (role : Role) (name : List ℕ) (least : ℕ) → Contains forms f →
     Contains f.symbols (Place role (Named name least)) → least ≤ 99
 
 -- the rule has at most so many premises, and its lines have at most so many bytes each
@@ -51,7 +51,7 @@ pub record IsFitOutline (o : OutlineData) : Type 0 where
   pub sorts : AllByRecursion (λ s. NotLexical s.name) o.parts.sorts
   pub stems_once : AreTextsDistinct (stems (declared_by o line))
   pub vars : AllByRecursion (λ v. IsKnownSort (declared_by o line) v.sort) o.vars
-  pub forms_once : AreTextsDistinct (form_names (declared_by o line))
+  pub forms_once : AreTextsDistinct (declared_form_names (declared_by o line))
   pub places : AllByRecursion (λ f. AllByRecursion
       (SymbolFits (declared_by o line)) f.symbols) o.forms
   pub named : AllByRecursion (λ f. AllByRecursion HasName f.symbols) o.forms

@@ -136,8 +136,8 @@ MayStandAt (at_end r) mains (To body) = r.body ≡ None
 MayStandAt _ mains row = ⊥
 
 -- the row may stand next
-abbrev pub MayStand : State → Row → Type 0
-MayStand s row = MayStandAt s.stage s.declared.mains row
+abbrev pub MayComeNext : State → Row → Type 0
+MayComeNext s row = MayStandAt s.stage s.declared.mains row
 
 -- a main line is of some main form
 abbrev pub HasMain : Declared → Row → Type 0
@@ -150,7 +150,7 @@ pub record IsGoodRow (kind : FileKind) (known : Declared) (s : State) (text : Li
     (row : Row) : Type 0 where
   pub spelled : IsRow kind text row
   pub fits : RowFits known s.declared row
-  pub stands : MayStand s row
+  pub stands : MayComeNext s row
   pub main : HasMain known row
 
 -- at another stage, all else as before
@@ -274,9 +274,9 @@ IsBad kind known name s text Shape =
     IsDue s.stage × HasWord kind text × ((row : Row) → IsRow kind text row →
     RowFits known s.declared row → ⊥)
 IsBad kind known name s text Order = IsDue s.stage × (row : Row) × IsRow kind text row ×
-    RowFits known s.declared row × (MayStand s row → ⊥)
+    RowFits known s.declared row × (MayComeNext s row → ⊥)
 IsBad kind known name s text NoMain =
-    IsDue s.stage × (m : MainLine) × IsRow kind text (Main m) × MayStand s (Main m) ×
+    IsDue s.stage × (m : MainLine) × IsRow kind text (Main m) × MayComeNext s (Main m) ×
     ((main : MainForm) → IsMainOf known m main → ⊥)
 IsBad kind known name s text Unfinished = ⊥
 IsBad kind known name s text Variable = ⊥

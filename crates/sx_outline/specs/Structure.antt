@@ -50,7 +50,7 @@ AreUseLines (l ∷ lines) (used ∷ uses) = IsRow files.Extension l.text (Use us
 AreUseLines _ _ = ⊥
 
 -- `plain LABEL VAR..`, which fits, and one line after it
-pub record IsPair (kind : FileKind) (known : Declared) (first body : Numbered)
+pub record IsPlainPair (kind : FileKind) (known : Declared) (first body : Numbered)
     (p : PlainData) : Type 0 where
   pub row : PlainLine
   pub spelled : IsRow kind first.text (Plain row)
@@ -58,11 +58,11 @@ pub record IsPair (kind : FileKind) (known : Declared) (first body : Numbered)
   pub is : p ≡ paired (begun_plain first.number row) body
 
 -- the lines of one plain pair after the other
-abbrev pub ArePairs : FileKind → Declared → List Numbered → List PlainData → Type 0
-ArePairs kind known [] [] = Unit {0}
-ArePairs kind known (first ∷ body ∷ lines) (p ∷ plains) =
-    IsPair kind known first body p × ArePairs kind known lines plains
-ArePairs kind known _ _ = ⊥
+abbrev pub ArePlainPairs : FileKind → Declared → List Numbered → List PlainData → Type 0
+ArePlainPairs kind known [] [] = Unit {0}
+ArePlainPairs kind known (first ∷ body ∷ lines) (p ∷ plains) =
+    IsPlainPair kind known first body p × ArePlainPairs kind known lines plains
+ArePlainPairs kind known _ _ = ⊥
 
 -- the lines of a body: none, or one `to` line
 abbrev pub AreBodies : FileKind → List Numbered → Option Numbered → Type 0
@@ -86,11 +86,11 @@ pub record AreRuleLines (kind : FileKind) (lines : List Numbered) (r : RuleData)
   pub ends : IsRow kind last.text End
 
 -- the lines of one rule after the other
-abbrev pub AreRules : FileKind → List Numbered → List RuleData → Type 0
-AreRules kind lines [] = lines ≡ []
-AreRules kind lines (r ∷ rules) =
+abbrev pub AreRuleRows : FileKind → List Numbered → List RuleData → Type 0
+AreRuleRows kind lines [] = lines ≡ []
+AreRuleRows kind lines (r ∷ rules) =
     (front back : List Numbered) × (lines ≡ front ++ back) × AreRuleLines kind front r ×
-    AreRules kind back rules
+    AreRuleRows kind back rules
 
 -- `language NAME`, the lines of the declarations, among them one main line, and the lines of the
 -- rules, which have no bodies
@@ -104,7 +104,7 @@ pub record AreOutlineLines (name : List ℕ) (lines : List Numbered) (o : Outlin
   pub declared : AreDeclarations files.Language (declared_by o main_line) nothing declarations
       (declared_by o main_line)
   pub main : IsMainOf (declared_by o main_line) main_line o.main
-  pub rules_are : AreRules files.Language rules o.rules
+  pub rules_are : AreRuleRows files.Language rules o.rules
 
 -- `extension NAME`, `language NAME` and the `use` lines, of which each names what none before it
 -- names
@@ -130,5 +130,5 @@ pub record AreExtensionLines (sorts : List SortLine) (vars : List VarLine) (line
   pub header_is : AreHeaderLines header o.header
   pub declared : AreDeclarations files.Extension (extension_declares sorts o)
       (declared_before sorts vars o.header.uses) declarations (extension_declares sorts o)
-  pub pairs_are : ArePairs files.Extension (extension_declares sorts o) pairs o.plains
-  pub rules_are : AreRules files.Extension rules o.rules
+  pub pairs_are : ArePlainPairs files.Extension (extension_declares sorts o) pairs o.plains
+  pub rules_are : AreRuleRows files.Extension rules o.rules

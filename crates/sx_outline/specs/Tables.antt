@@ -17,7 +17,7 @@ use Rattle.sx_directives.specs.declared.row.Row.{Row}
 use Rattle.sx_directives.specs.declared.row.Row.TheVariants.{Rule, Plain}
 use Rattle.sx_outline.specs.Declarations.{Declared, declare, declared_form, declared_parts}
 use Rattle.sx_outline.specs.Known.{Declares}
-use Rattle.sx_outline.specs.Fitting.{sort_names, stems, form_names}
+use Rattle.sx_outline.specs.Fitting.{declared_sort_names, stems, declared_form_names}
 
 -- what rows declare
 abbrev pub declared_in : DeclaredRows → Declared
@@ -37,10 +37,10 @@ ArePlaces names places = (name : List ℕ) → get_by_text places.entries name
 
 -- the names of sorts, labels, stems, names of forms and names that are used are found
 pub record AreTables (d : Declared) (t : Tables) : Type 0 where
-  pub sorts_found : ArePlaces (sort_names d) t.sorts
+  pub sorts_found : ArePlaces (declared_sort_names d) t.sorts
   pub labels_found : ArePlaces (labels (declared_parts d)) t.labels
   pub stems_found : ArePlaces (stems d) t.stems
-  pub forms_found : ArePlaces (form_names d) t.forms
+  pub forms_found : ArePlaces (declared_form_names d) t.forms
   pub uses_found : ArePlaces d.uses t.uses
 
 -- the numbers of forms and productions are so small

@@ -5,8 +5,8 @@ ghost use Rattle.std.specs.List.{AllByRecursion};
 ghost use Rattle.sx_term.specs.Roles as roles;
 ghost use Rattle.sx_outline.specs.Declarations.{Declared};
 ghost use Rattle.sx_outline.specs.Fitting.{RowFits, HasOneSubjectSymbol, IsKnownSort, IsPlain};
-ghost use Rattle.sx_outline.specs.Fitting.{PlaceFits};
-ghost use Rattle.sx_outline.specs.Fitting.{SymbolFits, form_names, sort_named, stems};
+ghost use Rattle.sx_outline.specs.Fitting.{RolePlaceFits};
+ghost use Rattle.sx_outline.specs.Fitting.{SymbolFits, declared_form_names, sort_named, stems};
 ghost use Rattle.sx_outline.specs.View.{known};
 
 use crate::known::Known;
@@ -59,7 +59,7 @@ impl Known {
 
     /// Whether a place with this role may have this sort.
     fn place_fits(&self, role: Role, sort: &SpelledSort) -> bool
-        ensures { IsTrue result ↔ PlaceFits (known self.now) role sort.now }
+        ensures { IsTrue result ↔ RolePlaceFits (known self.now) role sort.now }
     {
         match sort {
             SpelledSort::Lex(_) => !is_sub(role),
@@ -108,7 +108,7 @@ impl Known {
     /// is at most one subject.
     fn form_fits(&self, forms: usize, form: &FormLine) -> bool
         ensures { IsTrue result
-            ↔ ((Contains (take forms (form_names (known self.now))) form.now.name → ⊥)
+            ↔ ((Contains (take forms (declared_form_names (known self.now))) form.now.name → ⊥)
             × AllByRecursion (SymbolFits (known self.now)) form.now.symbols.items ×
             HasOneSubjectSymbol form.now.symbols.items) }
     {

@@ -2,7 +2,8 @@
 
 ghost use Rattle.std.specs.Prelude.{◌≡◌, ◌↔◌, IsTrue, List, [], ◌∷◌, MatchOption};
 ghost use Rattle.sx_term.specs.declared.lex_kind.LexKind.TheVariants as kinds;
-ghost use Rattle.sx_outline.specs.Fitting.{Kid, kid_of, kid_sort, kids_of, of_kind, of_sort};
+ghost use Rattle.sx_outline.specs.Fitting.{Kid, kid_of, kid_sort, parts_of_symbols, of_kind};
+ghost use Rattle.sx_outline.specs.Fitting.{of_sort};
 ghost use Rattle.sx_outline.specs.MainSorts.{IsKid};
 
 use sx_directives::lexical_kind;
@@ -21,8 +22,9 @@ fn is_literal(symbol: &Symbol) -> bool
 
 /// The first part, and the symbols after it.
 pub(crate) fn next_kid(symbols: &[Symbol]) -> Option<(&Symbol, &[Symbol])>
-    ensures { MatchOption result (kids_of symbols.now ≡ [])
-        (λ x. (kid : Kid) × IsKid x.0.now kid × (kids_of symbols.now ≡ kid ∷ kids_of x.1.now)) }
+    ensures { MatchOption result (parts_of_symbols symbols.now ≡ [])
+        (λ x. (kid : Kid) × IsKid x.0.now kid × (parts_of_symbols symbols.now ≡ kid
+        ∷ parts_of_symbols x.1.now)) }
 {
     for i in 0..symbols.len() {
         if !is_literal(&symbols[i]) {
@@ -35,7 +37,7 @@ pub(crate) fn next_kid(symbols: &[Symbol]) -> Option<(&Symbol, &[Symbol])>
 
 /// Whether there are no parts.
 pub(crate) fn has_no_kid(symbols: &[Symbol]) -> bool
-    ensures { IsTrue result ↔ (kids_of symbols.now ≡ []) }
+    ensures { IsTrue result ↔ (parts_of_symbols symbols.now ≡ []) }
 {
     next_kid(symbols).is_none()
 }
@@ -77,8 +79,9 @@ fn is_id(symbol: &Symbol) -> bool
 /// The symbols after the first part, where that is of this sort.
 fn after_sort<'a>(symbols: &'a [Symbol], sort: &Text) -> Option<&'a [Symbol]>
     ensures { MatchOption result ((kids : List Kid) →
-        kids_of symbols.entry.now ≡ of_sort sort.now ∷ kids → ⊥)
-        (λ rest. kids_of symbols.entry.now ≡ of_sort sort.now ∷ kids_of rest.now) }
+        parts_of_symbols symbols.entry.now ≡ of_sort sort.now ∷ kids → ⊥)
+        (λ rest. parts_of_symbols symbols.entry.now ≡ of_sort sort.now
+        ∷ parts_of_symbols rest.now) }
 {
     match next_kid(symbols) {
         Some((kid, rest)) => {
@@ -94,8 +97,8 @@ fn after_sort<'a>(symbols: &'a [Symbol], sort: &Text) -> Option<&'a [Symbol]>
 /// The symbols after the first part, where that is an identifier.
 fn after_id(symbols: &[Symbol]) -> Option<&[Symbol]>
     ensures { MatchOption result ((kids : List Kid) →
-        kids_of symbols.now ≡ of_kind kinds.Id ∷ kids → ⊥)
-        (λ rest. kids_of symbols.now ≡ of_kind kinds.Id ∷ kids_of rest.now) }
+        parts_of_symbols symbols.now ≡ of_kind kinds.Id ∷ kids → ⊥)
+        (λ rest. parts_of_symbols symbols.now ≡ of_kind kinds.Id ∷ parts_of_symbols rest.now) }
 {
     match next_kid(symbols) {
         Some((kid, rest)) => {
@@ -110,7 +113,7 @@ fn after_id(symbols: &[Symbol]) -> Option<&[Symbol]>
 
 /// Whether the parts are an environment, a name and a signature.
 pub(crate) fn are_add_kids(symbols: &[Symbol], environment: &Text, signature: &Text) -> bool
-    ensures { IsTrue result ↔ (kids_of symbols.now
+    ensures { IsTrue result ↔ (parts_of_symbols symbols.now
         ≡ of_sort environment.now ∷ of_kind kinds.Id ∷ of_sort signature.now ∷ []) }
 {
     match after_sort(symbols, environment) {

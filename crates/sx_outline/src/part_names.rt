@@ -4,7 +4,7 @@ ghost use Rattle.std.specs.Prelude.{◌↔◌, IsTrue, IfOk};
 ghost use Rattle.sx_outline.specs.Fitting.{ArePartNames, IsPlain, IsVariableOf};
 ghost use Rattle.sx_lines.specs.Distinct.{AreTextsDistinct};
 ghost use Rattle.sx_outline.specs.Fitting.{Kid};
-ghost use Rattle.sx_outline.specs.Fitting.{NamesFit, kids_of, kid_sort};
+ghost use Rattle.sx_outline.specs.Fitting.{NamesFit, parts_of_symbols, kid_sort};
 ghost use Rattle.sx_outline.specs.MainSorts.{IsKid};
 ghost use Rattle.sx_outline.specs.View.{known};
 
@@ -46,7 +46,8 @@ impl Known {
 
     /// Whether there are as many names as parts, each that of a variable of its part's sort.
     fn names_fit(&self, names: &[Text], symbols: &[Symbol]) -> bool
-        ensures { IsTrue result ↔ NamesFit (known self.now) names.now (kids_of symbols.now) }
+        ensures { IsTrue result ↔ NamesFit (known self.now) names.now
+            (parts_of_symbols symbols.now) }
     {
         let mut rest = symbols;
         for i in 0..names.len() {
@@ -74,7 +75,7 @@ impl Known {
         ensures { IfOk result (λ b. IsTrue b ↔
             (IsPlain (known self.now) production.now.sort × AreTextsDistinct plain.now.names.items
             × NamesFit (known self.now) plain.now.names.items
-            (kids_of production.now.symbols.items))) }
+            (parts_of_symbols production.now.symbols.items))) }
     {
         if !self.is_plain(&production.sort) {
             return Ok(false);

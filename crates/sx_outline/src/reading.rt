@@ -5,7 +5,8 @@ ghost use Rattle.std.specs.Str.{IsUtf8};
 ghost use Rattle.sx_lines.specs.Left.{left as left_of};
 ghost use Rattle.sx_outline.specs.Known.{kept_lines};
 ghost use Rattle.sx_outline.specs.Stages.{State};
-ghost use Rattle.sx_outline.specs.Reading.{AreLinesRead, HasCountRoom, IsAhead, IsOutlineReader};
+ghost use Rattle.sx_outline.specs.Reading.{AreLinesRead, HasCountRoom, IsDeclaredAhead};
+ghost use Rattle.sx_outline.specs.Reading.{IsOutlineReader};
 ghost use Rattle.sx_outline.specs.View as view;
 
 use crate::kept::next_kept_line;
@@ -31,7 +32,8 @@ pub(crate) fn read_lines(
     requires room { HasCountRoom reader (length lines.bytes.now) }
     requires utf8 { IsUtf8 lines.bytes.now }
     ensures { (s : State) → IsOutlineReader (view.known known.now) reader s →
-        IsAhead kind s.stage s.declared (kept_lines (left_of lines.entry)) (view.known known.now)
+        IsDeclaredAhead kind s.stage s.declared (kept_lines (left_of lines.entry))
+        (view.known known.now)
         → AreLinesRead kind (view.known known.now) name.now s
         (kept_lines (left_of lines.entry)) result }
 {

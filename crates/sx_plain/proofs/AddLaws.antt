@@ -15,7 +15,7 @@ use Rattle.sx_plain.specs.declared.entry.Entry.{Entry}
 use Rattle.sx_plain.specs.Plain.{Body, Table, image}
 use Rattle.sx_plain.specs.Tables.{IsFlat, IsPlainTable, FitsTable, IsCovered, AreCovered}
 use Rattle.sx_plain.specs.Entries.{body, bodies, entries_from}
-use Rattle.sx_plain.specs.Adds.{with_entry, uncovered, or_else, first_uncovered, first_uncovered_of}
+use Rattle.sx_plain.specs.Adds.{with_entry, uncovered, label_or, first_uncovered, first_uncovered_of}
 use Rattle.sx_plain.specs.Adds.{UsesAll}
 use Rattle.sx_plain.proofs.Tables.{image-base, stands-image, image-stands}
 
@@ -25,9 +25,9 @@ pub later-found : (base : ℕ) (table : Table) (t : Term) (label : ℕ) (kids : 
     i < length ts → k ≡ get_or ts i k → Some found ≡ first_uncovered base table (tree k) → Some found ≡ first_uncovered base table (tree t)
 later-found base table t label kids ts i k found e s own same l g f =
     let here : Some found ≡ first_uncovered_of base table (trees (drop i ts)) =
-    ap (λ (o : Option ℕ). or_else o (first_uncovered_of base table (trees (drop (i + 1) ts)))) f ∙ ap (first_uncovered_of base table) (sym (trees-drop ts i k l g)) in
+    ap (λ (o : Option ℕ). label_or o (first_uncovered_of base table (trees (drop (i + 1) ts)))) f ∙ ap (first_uncovered_of base table) (sym (trees-drop ts i k l g)) in
     here ∙ same ∙ ap (λ (x : List Term). first_uncovered_of base table (trees x)) s
-    ∙ ap (λ (o : Option ℕ). or_else o (first_uncovered_of base table (trees kids.items))) (sym own)
+    ∙ ap (λ (o : Option ℕ). label_or o (first_uncovered_of base table (trees kids.items))) (sym own)
     ∙ ap (first_uncovered base table) (sym (tree-at_node t label kids e))
 
 pub none-later : (base : ℕ) (table : Table) (t : Term) (label : ℕ) (kids : Vec Term Global) (ts : List Term) (i : ℕ) → t ≡ Node label kids → ts ≡ kids.items →
@@ -35,15 +35,15 @@ pub none-later : (base : ℕ) (table : Table) (t : Term) (label : ℕ) (kids : V
     None ≡ first_uncovered base table (tree t)
 none-later base table t label kids ts i e s own same l =
     ap (first_uncovered_of base table) (sym (trees-drop_all ts i l)) ∙ same ∙ ap (λ (x : List Term). first_uncovered_of base table (trees x)) s
-    ∙ ap (λ (o : Option ℕ). or_else o (first_uncovered_of base table (trees kids.items))) (sym own)
+    ∙ ap (λ (o : Option ℕ). label_or o (first_uncovered_of base table (trees kids.items))) (sym own)
     ∙ ap (first_uncovered base table) (sym (tree-at_node t label kids e))
 
 -- where there is none, each label is base or has an entry
-or-first : (a b : Option ℕ) → or_else a b ≡ None → a ≡ None
+or-first : (a b : Option ℕ) → label_or a b ≡ None → a ≡ None
 or-first None b e = refl
 or-first (Some n) b e = cc
 
-or-second : (a b : Option ℕ) → or_else a b ≡ None → b ≡ None
+or-second : (a b : Option ℕ) → label_or a b ≡ None → b ≡ None
 or-second None b e = e
 or-second (Some n) b e = cc
 

@@ -10,7 +10,7 @@ use Rattle.sx_term.specs.Term.{tree}
 use Rattle.sx_term.proofs.Kids.{trees, tree-at_node, greatest_depth-at, listed-forest, trees-drop, trees-drop_all}
 use Rattle.sx_term.specs.Instances.{instance, bound_by}
 use Rattle.sx_plain.specs.Plain.{Body, Table, image_node, image, images}
-use Rattle.sx_plain.specs.Bare.{part_alone, bare_kid, bare_under, has_bare, have_bare}
+use Rattle.sx_plain.specs.Bare.{part_alone, bare_kid, bare_under, gives_way, have_bare}
 use Rattle.sx_plain.proofs.Measured.{image-at_node}
 
 -- the kid that a flat body is has its image
@@ -86,19 +86,19 @@ pub no_kid : (table : Table) (t : Term) (label : ℕ) (kids : Vec Term Global) (
 no_kid table t label kids ts e s f = kids-listed table t label kids ts e s ∙ sym f
 
 -- whether a node has a node that gives way
-has-at : (table : Table) (t : Term) (label : ℕ) (kids : Vec Term Global) (ts : List Term) → t ≡ Node label kids → ts ≡ kids.items → has_bare table (tree t) ≡ (is_some (bare_kid (table label) (map tree ts)) || have_bare table (trees ts))
+has-at : (table : Table) (t : Term) (label : ℕ) (kids : Vec Term Global) (ts : List Term) → t ≡ Node label kids → ts ≡ kids.items → gives_way table (tree t) ≡ (is_some (bare_kid (table label) (map tree ts)) || have_bare table (trees ts))
 has-at table t label kids ts e s =
-    ap (has_bare table) (tree-at_node t label kids e)
+    ap (gives_way table) (tree-at_node t label kids e)
     ∙ ap (λ (o : Option Tree). is_some o || have_bare table (trees kids.items)) (ap (bare_kid (table label)) (listed-forest (map tree kids.items)))
     ∙ ap (λ (us : List Term). is_some (bare_kid (table label) (map tree us)) || have_bare table (trees us)) (sym s)
 
 pub bare_here : (table : Table) (t : Term) (label : ℕ) (kids : Vec Term Global) (ts : List Term) (o : Option Tree) → t ≡ Node label kids → ts ≡ kids.items → o ≡ bare_kid (table label) (map tree ts) → is_some o ≡ true →
-    true ≡ has_bare table (tree t)
+    true ≡ gives_way table (tree t)
 bare_here table t label kids ts o e s f h =
     sym (has-at table t label kids ts e s ∙ ap (λ (b : Bool). b || have_bare table (trees ts)) (ap is_some (sym f) ∙ h))
 
 pub bare_below : (table : Table) (t : Term) (label : ℕ) (kids : Vec Term Global) (ts us : List Term) (o : Option Tree) (b : Bool) → t ≡ Node label kids → ts ≡ kids.items → us ≡ kids.items → o ≡ bare_kid (table label) (map tree ts) → is_some o ≡ false →
-    b ≡ have_bare table (trees us) → b ≡ has_bare table (tree t)
+    b ≡ have_bare table (trees us) → b ≡ gives_way table (tree t)
 bare_below table t label kids ts us o b e s r f h g =
     g ∙ ap (λ (x : List Term). have_bare table (trees x)) (r ∙ sym s)
     ∙ sym (has-at table t label kids ts e s ∙ ap (λ (x : Bool). x || have_bare table (trees ts)) (ap is_some (sym f) ∙ h))
@@ -108,11 +108,11 @@ is_there f None b e = e
 is_there f (Some x) b e = e
 
 -- a kid that has such a node, and kids of which none has one
-pub bare_in : (table : Table) (ts : List Term) (i : ℕ) (k : Term) → have_bare table (trees (drop i ts)) ≡ have_bare table (trees ts) → i < length ts → k ≡ get_or ts i k → has_bare table (tree k) ≡ true → true ≡ have_bare table (trees ts)
+pub bare_in : (table : Table) (ts : List Term) (i : ℕ) (k : Term) → have_bare table (trees (drop i ts)) ≡ have_bare table (trees ts) → i < length ts → k ≡ get_or ts i k → gives_way table (tree k) ≡ true → true ≡ have_bare table (trees ts)
 bare_in table ts i k same l g h =
     sym (sym same ∙ ap (have_bare table) (trees-drop ts i k l g) ∙ ap (λ (b : Bool). b || have_bare table (trees (drop (i + 1) ts))) h)
 
-pub bare_after : (table : Table) (ts : List Term) (i : ℕ) (k : Term) → have_bare table (trees (drop i ts)) ≡ have_bare table (trees ts) → i < length ts → k ≡ get_or ts i k → has_bare table (tree k) ≡ false →
+pub bare_after : (table : Table) (ts : List Term) (i : ℕ) (k : Term) → have_bare table (trees (drop i ts)) ≡ have_bare table (trees ts) → i < length ts → k ≡ get_or ts i k → gives_way table (tree k) ≡ false →
     have_bare table (trees (drop (i + 1) ts)) ≡ have_bare table (trees ts)
 bare_after table ts i k same l g h =
     sym (ap (have_bare table) (trees-drop ts i k l g) ∙ ap (λ (b : Bool). b || have_bare table (trees (drop (i + 1) ts))) h) ∙ same
@@ -145,7 +145,7 @@ none-second false b e = e
 none-either : (a b : Bool) → a ≡ false → b ≡ false → (a || b) ≡ false
 none-either a b e f = ap (λ (x : Bool). x || b) e ∙ f
 
-have-push : (table : Table) (ts : List Term) (t : Term) → have_bare table (trees ts) ≡ false → has_bare table (tree t) ≡ false → have_bare table (trees (ts ++ t ∷ [])) ≡ false
+have-push : (table : Table) (ts : List Term) (t : Term) → have_bare table (trees ts) ≡ false → gives_way table (tree t) ≡ false → have_bare table (trees (ts ++ t ∷ [])) ≡ false
 have-push table [] t e h = ap (λ (b : Bool). b || false) h
 have-push table (x ∷ ts) t e h = none-either _ _ (none-first _ _ e) (have-push table ts t (none-second _ _ e) h)
 
@@ -159,7 +159,7 @@ pub record Without (table : Table) (made ts : List Term) (i : ℕ) : Type 0 wher
   pub same : map (λ k. image table (tree k)) made ≡ map (λ k. image table (tree k)) (take i ts)
   pub depth : greatest_depth (trees made) ≤ greatest_depth (trees ts)
 
-pub without_more : (table : Table) (made more ts : List Term) (i : ℕ) (k t : Term) → Without table made ts i → i < length ts → k ≡ get_or ts i k → has_bare table (tree t) ≡ false → image table (tree t) ≡ image table (tree k) → depth_of (tree t) ≤ depth_of (tree k) →
+pub without_more : (table : Table) (made more ts : List Term) (i : ℕ) (k t : Term) → Without table made ts i → i < length ts → k ≡ get_or ts i k → gives_way table (tree t) ≡ false → image table (tree t) ≡ image table (tree k) → depth_of (tree t) ≤ depth_of (tree k) →
     more ≡ made ++ t ∷ [] → Without table more ts (i + 1)
 without_more table made more ts i k t w l g h e d m =
     let f : Term → Tree = λ (x : Term). image table (tree x) in
@@ -198,7 +198,7 @@ length-same table us vs e =
     length-map us tree ∙ sym (length-map us (λ k. image table (tree k))) ∙ ap length e ∙ length-map vs (λ k. image table (tree k)) ∙ sym (length-map vs tree)
 
 pub without_clear : (table : Table) (label : ℕ) (made : Vec Term Global) (t : Term) (kids : Vec Term Global) (ts : List Term) (i : ℕ) → Without table made.items ts i → length ts ≤ i → t ≡ Node label kids → ts ≡ kids.items →
-    bare_under table (tree t) ≡ None → has_bare table (tree (Node label made)) ≡ false
+    bare_under table (tree t) ≡ None → gives_way table (tree (Node label made)) ≡ false
 without_clear table label made t kids ts i w l e s n =
     let same = length-same table made.items ts (w.same ∙ ap (map (λ (k : Term). image table (tree k))) (take_all i ts l)) in
     let here : bare_kid (table label) (map tree made.items) ≡ None = none-bare (table label) (map tree ts) (map tree made.items) (sym same) (sym (kids-listed table t label kids ts e s) ∙ n) in

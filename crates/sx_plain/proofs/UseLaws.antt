@@ -10,12 +10,12 @@ use Rattle.sx_term.specs.Tree.{size_of, total_size}
 use Rattle.sx_term.specs.Instances.{Stands, StandsInKids}
 use Rattle.sx_plain.specs.declared.part_use.PartUse.{PartUse}
 use Rattle.sx_plain.specs.Measures.{depth_with, greatest_with, size_with, total_with, greatest}
-use Rattle.sx_plain.specs.Uses.{unused_parts, once_more, noted_at, noted, noted_all, own_size}
+use Rattle.sx_plain.specs.Uses.{unused_parts, once_more, use_noted_at, noted, noted_all, own_size}
 use Rattle.sx_plain.specs.Uses.{own_sizes, most_times, used_depth, used_size, AreNear, ArePositive}
 use Rattle.sx_plain.specs.Uses.{IsMeasured}
 
 -- as many parts as before
-length-noted_at : (above v : ℕ) (us : List PartUse) → length (noted_at above v us) ≡ length us
+length-noted_at : (above v : ℕ) (us : List PartUse) → length (use_noted_at above v us) ≡ length us
 length-noted_at above v [] = refl
 length-noted_at above zero (u ∷ us) = refl
 length-noted_at above (suc v) (u ∷ us) = let e = length-noted_at above v us in omega arith
@@ -35,7 +35,7 @@ one_more : (a n : ℕ) → (a + 1) * n ≡ a * n + n
 one_more a n = grind arith
 
 size-noted_at : (above v : ℕ) (us : List PartUse) (ns : List ℕ) → v < length us → length ns ≡ length us →
-    used_size (noted_at above v us) ns ≡ slice_index_or ns v 1 + used_size us ns
+    used_size (use_noted_at above v us) ns ≡ slice_index_or ns v 1 + used_size us ns
 size-noted_at above v [] ns l e = absurd (omega arith)
 size-noted_at above v (u ∷ us) [] l e = absurd (omega arith)
 size-noted_at above zero (u ∷ us) (n ∷ ns) l e = let h = one_more u.times n in omega arith
@@ -58,7 +58,7 @@ mutual
 
 -- depths
 depth-noted_at : (above v : ℕ) (us : List PartUse) (ds : List ℕ) → v < length us → length ds ≡ length us →
-    used_depth (noted_at above v us) ds ≡ max (used_depth us ds) (above + slice_index_or ds v 1)
+    used_depth (use_noted_at above v us) ds ≡ max (used_depth us ds) (above + slice_index_or ds v 1)
 depth-noted_at above v [] ds l e = absurd (omega arith)
 depth-noted_at above v (u ∷ us) [] l e = absurd (omega arith)
 depth-noted_at above zero (u ∷ us) (d ∷ ds) l e = omega arith
@@ -135,7 +135,7 @@ unused_parts-push (suc n) u e =
     rw m (ap (λ (us : List PartUse). record { times = 0; above = 0 } ∷ us) (unused_parts-push n u e))
 
 -- how near and how often
-near-noted_at : (above v : ℕ) (us : List PartUse) → above ≤ 1000 → AreNear us → AreNear (noted_at above v us)
+near-noted_at : (above v : ℕ) (us : List PartUse) → above ≤ 1000 → AreNear us → AreNear (use_noted_at above v us)
 near-noted_at above v [] l h = tt
 near-noted_at above zero (u ∷ us) l h = ((let k = h.0 in omega arith), h.1)
 near-noted_at above (suc v) (u ∷ us) l h = (h.0, near-noted_at above v us l h.1)
@@ -150,7 +150,7 @@ mutual
   near-noted_all above none us l h = h
   near-noted_all above (t ▹ ts) us l h = near-noted_all above ts (noted above t us) (omega arith) (near-noted above t us (omega arith) h)
 
-times-noted_at : (above v : ℕ) (us : List PartUse) → most_times (noted_at above v us) ≤ most_times us + 1
+times-noted_at : (above v : ℕ) (us : List PartUse) → most_times (use_noted_at above v us) ≤ most_times us + 1
 times-noted_at above v [] = omega arith
 times-noted_at above zero (u ∷ us) = omega arith
 times-noted_at above (suc v) (u ∷ us) = let h = times-noted_at above v us in omega arith
@@ -196,12 +196,12 @@ pub many_noted : (arity : ℕ) (t : Tree) (us new : List PartUse) → us ≡ unu
 many_noted arity t us new e n = ap (λ (x : List PartUse). length x) n ∙ length-noted 0 t us ∙ ap (λ (x : List PartUse). length x) e ∙ length-unused arity
 
 -- noting at a place
-pub noted-set : (above v : ℕ) (us : List PartUse) (u : PartUse) → v < length us → u ≡ get_or us v u → set us v (once_more above u) ≡ noted_at above v us
+pub noted-set : (above v : ℕ) (us : List PartUse) (u : PartUse) → v < length us → u ≡ get_or us v u → set us v (once_more above u) ≡ use_noted_at above v us
 noted-set above v [] u l e = absurd (omega arith)
 noted-set above zero (x ∷ us) u l e = ap (λ (y : PartUse). once_more above y ∷ us) e
 noted-set above (suc v) (x ∷ us) u l e = ap (λ (ys : List PartUse). x ∷ ys) (noted-set above v us u (omega arith) e)
 
-pub noted-past : (above v : ℕ) (us : List PartUse) → length us ≤ v → noted_at above v us ≡ us
+pub noted-past : (above v : ℕ) (us : List PartUse) → length us ≤ v → use_noted_at above v us ≡ us
 noted-past above v [] l = refl
 noted-past above zero (x ∷ us) l = absurd (omega arith)
 noted-past above (suc v) (x ∷ us) l = ap (λ (ys : List PartUse). x ∷ ys) (noted-past above v us (omega arith))

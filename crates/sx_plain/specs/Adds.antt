@@ -19,22 +19,22 @@ uncovered base None label = if nat_lt label base then None else Some label
 uncovered base (Some body) label = None
 
 -- the first that is there
-abbrev pub or_else : Option ℕ → Option ℕ → Option ℕ
-or_else None next = next
-or_else (Some n) next = Some n
+abbrev pub label_or : Option ℕ → Option ℕ → Option ℕ
+label_or None next = next
+label_or (Some n) next = Some n
 
 abbrev mutual
   -- the first label in preorder that is not base and has no entry
   pub first_uncovered : ℕ → Table → Tree → Option ℕ
   first_uncovered base table (node label kids) =
-      or_else (uncovered base (table label) label) (first_uncovered_of base table kids)
+      label_or (uncovered base (table label) label) (first_uncovered_of base table kids)
   first_uncovered base table (lexeme kind text) = None
   first_uncovered base table (hole v) = None
 
   -- the same among terms
   pub first_uncovered_of : ℕ → Table → Trees → Option ℕ
   first_uncovered_of base table none = None
-  first_uncovered_of base table (t ▹ ts) = or_else (first_uncovered base table t)
+  first_uncovered_of base table (t ▹ ts) = label_or (first_uncovered base table t)
       (first_uncovered_of base table ts)
 
 -- the first variable below the arity that the term has not

@@ -22,13 +22,13 @@ bare_under table (hole v) = None
 
 abbrev mutual
   -- whether a node of the term gives way to a kid
-  pub has_bare : Table → Tree → Bool
-  has_bare table (node label kids) =
+  pub gives_way : Table → Tree → Bool
+  gives_way table (node label kids) =
       is_some (bare_kid (table label) (listed kids)) || have_bare table kids
-  has_bare table (lexeme kind text) = false
-  has_bare table (hole v) = false
+  gives_way table (lexeme kind text) = false
+  gives_way table (hole v) = false
 
   -- whether one of the terms has such a node
   pub have_bare : Table → Trees → Bool
   have_bare table none = false
-  have_bare table (t ▹ ts) = has_bare table t || have_bare table ts
+  have_bare table (t ▹ ts) = gives_way table t || have_bare table ts

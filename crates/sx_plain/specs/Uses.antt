@@ -15,17 +15,17 @@ abbrev pub once_more : ℕ → PartUse → PartUse
 once_more above u = record { times = u.times + 1; above = max u.above above }
 
 -- the part with this number stands once more, under so many nodes
-abbrev pub noted_at : ℕ → ℕ → List PartUse → List PartUse
-noted_at above v [] = []
-noted_at above zero (u ∷ us) = once_more above u ∷ us
-noted_at above (suc v) (u ∷ us) = u ∷ noted_at above v us
+abbrev pub use_noted_at : ℕ → ℕ → List PartUse → List PartUse
+use_noted_at above v [] = []
+use_noted_at above zero (u ∷ us) = once_more above u ∷ us
+use_noted_at above (suc v) (u ∷ us) = u ∷ use_noted_at above v us
 
 abbrev mutual
   -- the uses with those in the term, which stands under so many nodes
   pub noted : ℕ → Tree → List PartUse → List PartUse
   noted above (node label kids) us = noted_all (above + 1) kids us
   noted above (lexeme kind text) us = us
-  noted above (hole v) us = noted_at above v us
+  noted above (hole v) us = use_noted_at above v us
 
   -- with those in each of the terms
   pub noted_all : ℕ → Trees → List PartUse → List PartUse

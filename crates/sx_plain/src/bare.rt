@@ -43,7 +43,7 @@ fn past_bare<'a>(table: &PlainTable, term: &'a Term) -> &'a Term
 /// Whether a node of the term gives way to a kid, so that it has no image of its own.
 pub(crate) fn has_bare(table: &PlainTable, term: &Term) -> bool
     requires { depth_of (tree term.now) ≤ most_depth }
-    ensures { result ≡ spec.has_bare (table_of table.now) (tree term.now) }
+    ensures { result ≡ spec.gives_way (table_of table.now) (tree term.now) }
 {
     match term {
         Term::Node { label, kids } => {
@@ -64,7 +64,7 @@ pub(crate) fn has_bare(table: &PlainTable, term: &Term) -> bool
 /// The term in which each such node gave way to its kid.
 pub(crate) fn without_bare(alloc: Global, table: &PlainTable, term: &Term) -> Result<Term, NoMemory>
     requires { depth_of (tree term.now) ≤ most_depth }
-    ensures none { IfOk result (λ t. spec.has_bare (table_of table.now) (tree t) ≡ false) }
+    ensures none { IfOk result (λ t. spec.gives_way (table_of table.now) (tree t) ≡ false) }
     ensures same { IfOk result (λ t. image (table_of table.now) (tree t)
         ≡ image (table_of table.now) (tree term.now)) }
     ensures depth { IfOk result (λ t. depth_of (tree t) ≤ depth_of (tree term.now)) }

@@ -9,7 +9,7 @@ use Rattle.sx_grammar.specs.Print.{print, Fits, node_fits, lexeme_fits, hole_fit
 use Rattle.sx_grammar.specs.Print.{past_literal_fit, lexical_fit, part_fit, HasBrackets}
 use Rattle.sx_grammar.specs.Print.{BracketsWhereAsked}
 use Rattle.sx_grammar.proofs.Printing.{prints_read}
-use Rattle.sx_print.specs.Printed.{IsAskedFor, IsPrintableTerm, parts_in, IsBuilt, AreBuilt}
+use Rattle.sx_print.specs.Printed.{IsAskedFor, IsPrintableTerm, parts_in, HasProductions, HaveProductions}
 use Rattle.sx_print.specs.Cut.{HasReading}
 
 module _ (g : Grammar) where
@@ -22,12 +22,12 @@ module _ (g : Grammar) where
   module _ (stems : List Stem) (variables : ℕ) (named : length stems ≤ variables) where
     mutual
       -- a term that fits is built by the grammar
-      pub built : {place : Stem} {t : Tree} → Fits g stems place t → IsBuilt g variables t
+      pub built : {place : Stem} {t : Tree} → Fits g stems place t → HasProductions g variables t
       built (node_fits {p = p} e all) = (p, e, counted all, all_built all)
       built lexeme_fits = tt
       built (hole_fits {stem = stem} {v = v} h) = omega (arith, named, slice_get_within stems v stem h)
 
-      all_built : {symbols : List Symbol} {kids : Trees} → AllFit g stems symbols kids → AreBuilt g variables kids
+      all_built : {symbols : List Symbol} {kids : Trees} → AllFit g stems symbols kids → HaveProductions g variables kids
       all_built none_fit = tt
       all_built (past_literal_fit fits) = all_built fits
       all_built (lexical_fit one fits) = (built one, all_built fits)

@@ -22,21 +22,21 @@ use Rattle.sx_grammar.specs.Tables.{literals_of, AreNumbered, HaveLiteralsBelow,
 use Rattle.sx_grammar.specs.Print.{literal_token, in_brackets, print, print_each, print_node}
 use Rattle.sx_grammar.specs.Print.{print_symbols}
 use Rattle.sx_grammar.proofs.TableLaws.{production_at, numbered_length}
-use Rattle.sx_print.specs.Printed.{AddsTokens, IsBuilt, AreBuilt, brackets_below, parts_in}
+use Rattle.sx_print.specs.Printed.{AddsTokens, HasProductions, HaveProductions, brackets_below, parts_in}
 use Rattle.sx_print.specs.Rows.{HasLiteralsBelow}
 use Rattle.sx_print.proofs.Adding.{AddsTokens-append}
 
 -- the production of a label of a term that is built by the grammar
-pub production_here : (p : Parts) (ps : List NumberedProduction) (label variables : ℕ) (q : NumberedProduction) (t : Tree) (kids : Trees) → AreNumbered p ps → t ≡ node label kids → IsBuilt (numbered p) variables t → q ≡ get_or ps label q
+pub production_here : (p : Parts) (ps : List NumberedProduction) (label variables : ℕ) (q : NumberedProduction) (t : Tree) (kids : Trees) → AreNumbered p ps → t ≡ node label kids → HasProductions (numbered p) variables t → q ≡ get_or ps label q
     → slice_get (numbered p).productions label ≡ Some (production (literals_of p) q)
 production_here p ps label variables q t kids same is built at =
-    let h = subst (IsBuilt (numbered p) variables) is built in
+    let h = subst (HasProductions (numbered p) variables) is built in
     let lt : label < length p.productions = omega (arith, slice_get_within (numbered p).productions label h.0 h.1, length-map p.productions (numbered_line (names p))) in
     production_at p ps label q same lt at
 
-pub label_within : (p : Parts) (ps : List NumberedProduction) (label variables : ℕ) (t : Tree) (kids : Trees) → AreNumbered p ps → t ≡ node label kids → IsBuilt (numbered p) variables t → label < length ps
+pub label_within : (p : Parts) (ps : List NumberedProduction) (label variables : ℕ) (t : Tree) (kids : Trees) → AreNumbered p ps → t ≡ node label kids → HasProductions (numbered p) variables t → label < length ps
 label_within p ps label variables t kids same is built =
-    let h = subst (IsBuilt (numbered p) variables) is built in
+    let h = subst (HasProductions (numbered p) variables) is built in
     omega (arith, slice_get_within (numbered p).productions label h.0 h.1, length-map p.productions (numbered_line (names p)), numbered_length p ps same)
 
 listed_length : (ts : List Term) → length (listed (trees ts)) ≡ length ts
@@ -45,19 +45,19 @@ listed_length (t ∷ ts) = ap suc (listed_length ts)
 
 -- what a node's kids and its production's symbols have in common
 pub kids_are_built : (p : Parts) (label variables : ℕ) (q : NumberedProduction) (term : Term) (kids : Vec Term Global) (ss : List NumberedSymbol) (ts : List Term) → term ≡ Node label kids
-    → slice_get (numbered p).productions label ≡ Some (production (literals_of p) q) → ss ≡ q.symbols.items → ts ≡ kids.items → IsBuilt (numbered p) variables (tree term)
-    → (parts_in (map (symbol (literals_of p)) ss) ≡ length ts) × AreBuilt (numbered p) variables (trees ts)
+    → slice_get (numbered p).productions label ≡ Some (production (literals_of p) q) → ss ≡ q.symbols.items → ts ≡ kids.items → HasProductions (numbered p) variables (tree term)
+    → (parts_in (map (symbol (literals_of p)) ss) ≡ length ts) × HaveProductions (numbered p) variables (trees ts)
 kids_are_built p label variables q term kids ss ts is here symbols same built =
-    let h = subst (IsBuilt (numbered p) variables) (tree-at_node term label kids is) built in
+    let h = subst (HasProductions (numbered p) variables) (tree-at_node term label kids is) built in
     let one : Some h.0 ≡ Some (production (literals_of p) q) = sym h.1 ∙ here in
     let r : h.0 ≡ production (literals_of p) q = cc in (
       ap (λ x. parts_in (map (symbol (literals_of p)) x)) symbols ∙ sym (ap (λ x. parts_in x.symbols) r) ∙ h.2 ∙ listed_length kids.items ∙ sym (ap length same),
-      subst (λ x. AreBuilt (numbered p) variables (trees x)) (sym same) h.3,
+      subst (λ x. HaveProductions (numbered p) variables (trees x)) (sym same) h.3,
     )
 
-pub kid_is_built : (g : Grammar) (variables : ℕ) (ts : List Term) (i : ℕ) (k : Term) → AreBuilt g variables (trees ts) → i < length ts → k ≡ get_or ts i k → IsBuilt g variables (tree k)
+pub kid_is_built : (g : Grammar) (variables : ℕ) (ts : List Term) (i : ℕ) (k : Term) → HaveProductions g variables (trees ts) → i < length ts → k ≡ get_or ts i k → HasProductions g variables (tree k)
 kid_is_built g variables [] i k are lt at = absurd (omega (arith, lt))
-kid_is_built g variables (t ∷ ts) zero k are lt at = subst (λ x. IsBuilt g variables (tree x)) (sym at) are.0
+kid_is_built g variables (t ∷ ts) zero k are lt at = subst (λ x. HasProductions g variables (tree x)) (sym at) are.0
 kid_is_built g variables (t ∷ ts) (suc i) k are lt at = kid_is_built g variables ts i k are.1 (omega (arith, lt)) at
 
 -- a row of the table has numbers of literals below the bound

@@ -50,17 +50,18 @@ parts_in (part sort least ∷ rest) = parts_in rest + 1
 abbrev mutual
   -- each label has a production with as many parts as the node has kids, and each variable is below
   -- the number
-  pub IsBuilt : Grammar → ℕ → Tree → Type 0
-  IsBuilt g variables (node label kids) = (p : Production) ×
+  pub HasProductions : Grammar → ℕ → Tree → Type 0
+  HasProductions g variables (node label kids) = (p : Production) ×
       (slice_get g.productions label ≡ Some p) × (parts_in p.symbols ≡ length (listed kids)) ×
-      AreBuilt g variables kids
-  IsBuilt g variables (lexeme kind text) = Unit {0}
-  IsBuilt g variables (hole v) = v < variables
+      HaveProductions g variables kids
+  HasProductions g variables (lexeme kind text) = Unit {0}
+  HasProductions g variables (hole v) = v < variables
 
   -- so it is of each term
-  pub AreBuilt : Grammar → ℕ → Trees → Type 0
-  AreBuilt g variables none = Unit {0}
-  AreBuilt g variables (t ▹ ts) = IsBuilt g variables t × AreBuilt g variables ts
+  pub HaveProductions : Grammar → ℕ → Trees → Type 0
+  HaveProductions g variables none = Unit {0}
+  HaveProductions g variables (t ▹ ts) = HasProductions g variables t
+      × HaveProductions g variables ts
 
 -- the brackets of the sort, where its production is below the least level
 abbrev pub brackets_below : Grammar → ℕ → ℕ → ℕ → Option Brackets

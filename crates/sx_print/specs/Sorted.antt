@@ -11,15 +11,16 @@ use Rattle.sx_grammar.specs.Print.{Fits}
 use Rattle.sx_print.specs.Printed.{IsPrintableTerm}
 
 -- the place where a term of the sort stands
-abbrev pub place_of : Sort → Stem
-place_of (Lex kind) = of_kind kind
-place_of (Plain number) = of_sort number
-place_of (Typed number) = of_sort number
+abbrev pub place_of_sort : Sort → Stem
+place_of_sort (Lex kind) = of_kind kind
+place_of_sort (Plain number) = of_sort number
+place_of_sort (Typed number) = of_sort number
 
 -- a term that is well sorted by the shapes of a grammar fits it
 abbrev pub SortedTermsFit : Type 0
 SortedTermsFit = (p : Parts) (vars : List Sort) (t : Tree) (sort : Sort) →
-    HasSort (shapes_of p) vars t sort → Fits (numbered p) (map place_of vars) (place_of sort) t
+    HasSort (shapes_of p) vars t sort → Fits (numbered p) (map place_of_sort vars)
+    (place_of_sort sort) t
 
 -- where its variables have names, it can be printed at level 0
 abbrev pub SortedTermsArePrintable : Type 0

@@ -8,7 +8,8 @@ ghost use Rattle.sx_grammar.specs.Parts.{numbered};
 ghost use Rattle.sx_grammar.specs.Numbered.{symbol};
 ghost use Rattle.sx_grammar.specs.Tables.{literals_of, IsNumberedPair};
 ghost use Rattle.sx_grammar.specs.Print.{print_symbols, print, print_each};
-ghost use Rattle.sx_print.specs.Printed.{AddsTokens, IsBuilt, AreBuilt, brackets_below, parts_in};
+ghost use Rattle.sx_print.specs.Printed.{AddsTokens, HasProductions, HaveProductions};
+ghost use Rattle.sx_print.specs.Printed.{brackets_below, parts_in};
 ghost use Rattle.sx_print.specs.Rows.{HasLiteralsBelow};
 ghost use Rattle.sx_term.specs.Limits.{most_depth};
 
@@ -41,7 +42,7 @@ pub fn put_term(
     into: &mut Vec<u8>,
 ) -> Result<(), NoMemory>
     requires depth { depth_of (tree term.now) ≤ most_depth }
-    requires built { IsBuilt (numbered grammar.now.parts) (length vars.now) (tree term.now) }
+    requires built { HasProductions (numbered grammar.now.parts) (length vars.now) (tree term.now) }
     ensures ok { OnOk result ((place : Stem) →
         AddsTokens (print (numbered grammar.now.parts) vars.now
         (tree term.now) place least) into.old.items into.new.items) }
@@ -78,7 +79,7 @@ fn put_symbols(
     requires below { HasLiteralsBelow (length (literals_of grammar.now.parts)) symbols.now }
     requires many { parts_in (map (symbol (literals_of grammar.now.parts)) symbols.now)
         ≡ length kids.now }
-    requires built { AreBuilt (numbered grammar.now.parts) (length vars.now)
+    requires built { HaveProductions (numbered grammar.now.parts) (length vars.now)
         (forest (map tree kids.now)) }
     ensures ok { OnOk result (AddsTokens
         (print_symbols (map (symbol (literals_of grammar.now.parts)) symbols.now)

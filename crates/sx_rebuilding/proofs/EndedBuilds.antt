@@ -12,7 +12,7 @@ use Rattle.sx_accepting.specs.ReadLanguage.{Stated, ReadsLanguage}
 use Rattle.sx_headers.specs.ReadModule.{Module}
 use Rattle.sx_closure.specs.ReadModules.{ReadsModules}
 use Rattle.sx_closure.proofs.Agreeing.{modules_alike}
-use Rattle.sx_build.specs.BuildModules.{Progress, none_made, MakesAfter, whole_plan, language_in}
+use Rattle.sx_build.specs.BuildModules.{BuildProgress, none_made, MakesAfter, whole_plan, language_in}
 use Rattle.sx_build.specs.BuildModules.{BuildsOver, BuildsRead, BuildsModule}
 use Rattle.sx_build.specs.MadeModules.{with_made}
 use Rattle.sx_rebuilding.proofs.Turns.{Turn, turn_of}
@@ -25,7 +25,7 @@ pub record EndedBuild (name : List ℕ) (budgets : Budgets) (auditors : List Mea
   pub among : Contains modules m
   pub language : Stated
   pub states : ReadsLanguage (language_in modules) old (Ok language)
-  pub end : Progress
+  pub end : BuildProgress
   pub is : new ≡ with_made end.made old
   pub turn : Turn budgets old language auditors modules end m
 

@@ -6,7 +6,7 @@ use Rattle.std.specs.List.{AllByRecursion}
 use Rattle.std.proofs.lemmas.List.{append-nil}
 use Rattle.std.proofs.lemmas.Simd.{map-map}
 use Rattle.sha2.specs.Sha256.{sha256}
-use Rattle.sx_interface.specs.Interfaces.{InterfaceParts, Mark}
+use Rattle.sx_interface.specs.Interfaces.{InterfaceParts, MarkData}
 use Rattle.sx_interface.specs.Stated.{IsDigest}
 use Rattle.sx_outside.specs.Files.{Files}
 use Rattle.sx_steps.specs.Held.{Held}
@@ -16,7 +16,7 @@ use Rattle.sx_steps.proofs.Ones.{ok_same}
 use Rattle.sx_steps.proofs.StepsOn.{went}
 use Rattle.sx_headers.specs.ReadInterface.{HeldInterface, StatesParts, ReadsInterface}
 use Rattle.sx_importing.specs.Each.{GivesNext, GivesAfter}
-use Rattle.sx_importing.specs.ReadImports.{ImportData, mark_of, ReadsImport, ReadsImports}
+use Rattle.sx_importing.specs.ReadImports.{ImportData, import_mark, ReadsImport, ReadsImports}
 use Rattle.sx_compiling.proofs.Digests.{digest_is}
 use Rattle.sx_verify.specs.KeptImports.{ReadsKept, ReadsAllKept}
 
@@ -46,7 +46,7 @@ parts_of imports = map (λ i. i.parts) imports
 module _ (file : List ℕ) (files : Files) where
   -- it is read again, and has the digest that is kept of it
   kept_again : (i : ImportData) → ReadsImport files i.parts.name (Ok i) →
-      ReadsKept file files (mark_of i) (Ok i.parts)
+      ReadsKept file files (import_mark i) (Ok i.parts)
   kept_again i read = record {
     given = Ok i;
     begins = read;
@@ -58,7 +58,7 @@ module _ (file : List ℕ) (files : Files) where
     pub same : map (λ i. i.parts.name) imports ≡ names
     pub digests : AllByRecursion (λ i. IsDigest i.digest) imports
     pub keeps : (start : List InterfaceParts) →
-        GivesAfter (ReadsKept file files) start (map mark_of imports)
+        GivesAfter (ReadsKept file files) start (map import_mark imports)
         (Ok (start ++ parts_of imports))
 
   -- behind those that were given
@@ -101,7 +101,7 @@ module _ (file : List ℕ) (files : Files) where
             begins = record { given = Ok i.parts; begins = kept_again i read; goes = refl };
             goes = subst
                 (λ (l : List InterfaceParts). GivesAfter (ReadsKept file files)
-                (start ++ i.parts ∷ []) (map mark_of rest.more) (Ok l))
+                (start ++ i.parts ∷ []) (map import_mark rest.more) (Ok l))
                 (append_assoc start (i.parts ∷ []) (parts_of rest.more))
                 (rest.kept.keeps (start ++ i.parts ∷ []));
           };
@@ -115,10 +115,10 @@ module _ (file : List ℕ) (files : Files) where
       subst (AreKept names) (sym all.is) all.kept
 
   pub all_kept : (names : List (List ℕ)) (imports : List ImportData) → AreKept names imports →
-      ReadsAllKept file files (map mark_of imports) (Ok (parts_of imports))
+      ReadsAllKept file files (map import_mark imports) (Ok (parts_of imports))
   all_kept names imports kept = kept.keeps []
 
 -- the names of their marks are those of the imports
 pub marked_names : (imports : List ImportData) →
-    map (λ (m : Mark). m.name) (map mark_of imports) ≡ map (λ i. i.parts.name) imports
-marked_names imports = map-map (λ (m : Mark). m.name) mark_of imports
+    map (λ (m : MarkData). m.name) (map import_mark imports) ≡ map (λ i. i.parts.name) imports
+marked_names imports = map-map (λ (m : MarkData). m.name) import_mark imports

@@ -44,11 +44,11 @@ use Rattle.sx_accepting.specs.ReadLanguage.{base_in}
 use Rattle.sx_headers.specs.FreeImports.{HasFreeImports}
 use Rattle.sx_importing.specs.MakeEnvironment.{SeesImports}
 use Rattle.sx_compiling.specs.CompileModule.{GivesUnit}
-use Rattle.sx_compiling.specs.Given.{Given, interfaces_in, seen_in}
+use Rattle.sx_compiling.specs.Given.{GivenModule, interfaces_in, seen_in}
 use Rattle.sx_compiling.specs.Headline.{HasUnit}
 use Rattle.sx_compiling.specs.MakeUnit.{MakesUnit, MakesIn, MakesSeeing, MakesExtended}
 use Rattle.sx_compiling.specs.MakeUnit.{MakesReached}
-use Rattle.sx_compiling.specs.Reached.{HasNamedLanguage, IsReached, HasGround, module_over}
+use Rattle.sx_compiling.specs.Reached.{HasNamedLanguage, ReachesExtensions, HasGround, module_over}
 use Rattle.sx_compiling.proofs.MadeUnits.{dialect_by, dialect_is}
 use Rattle.sx_compiling.proofs.LoweredGoals.{lowered_goal}
 use Rattle.sx_rebuilding.proofs.LoweredWithin.{AllSmall, lowered_few, goal_small}
@@ -57,12 +57,12 @@ use Rattle.sx_rebuilding.proofs.LoweredWithin.{lowered_within}
 -- ---- what the steps make
 
 -- what the module is made in, and its unit, made by the walk and the lowering within the budgets
-pub record MadeUnit (budgets : Budgets) (files : Files) (g : Given) (unit : UnitData) : Type 0
+pub record MadeUnit (budgets : Budgets) (files : Files) (g : GivenModule) (unit : UnitData) : Type 0
   where
     pub ground : HasGround budgets files g
     pub gives : GivesUnit (module_over ground) budgets unit
 
-pub made_unit : (budgets : Budgets) (files : Files) (g : Given) (unit : UnitData) (tries : ℕ) →
+pub made_unit : (budgets : Budgets) (files : Files) (g : GivenModule) (unit : UnitData) (tries : ℕ) →
     HasNamedLanguage g → MakesUnit budgets files g (Ok unit) tries → MadeUnit budgets files g unit
 made_unit budgets files g unit tries l made =
     let free = went_on
@@ -78,7 +78,7 @@ made_unit budgets files g unit tries l made =
     let s = seen_in g xs extended.given in
     let seen = went_on (Untried (SeesImports g.file s (interfaces_in g))) (MakesIn budgets g s) unit
     extended.after extended.goes in
-    let from : IsReached files g = record {
+    let from : ReachesExtensions files g = record {
       free = free.begins.0;
       extensions = xs;
       reached = reached.begins.0;
@@ -113,7 +113,7 @@ environment_small (p ∷ places) environment subject input e h =
 
 -- ---- its derivation
 
-module _ (budgets : Budgets) (files : Files) (g : Given) (l : HasNamedLanguage g) (u : UnitData)
+module _ (budgets : Budgets) (files : Files) (g : GivenModule) (l : HasNamedLanguage g) (u : UnitData)
     (made : MadeUnit budgets files g u) where
   abbrev pub m : ModuleData
   m = module_over made.ground

@@ -8,16 +8,16 @@ use Rattle.sx_accepting.specs.ReadLanguage.{Stated, ReadsLanguage}
 use Rattle.sx_headers.specs.ModuleFiles.{module_file}
 use Rattle.sx_headers.specs.ReadModule.{Module, ReadsModule}
 use Rattle.sx_importing.specs.ReadImports.{ReadsImports}
-use Rattle.sx_compiling.specs.Given.{Given}
+use Rattle.sx_compiling.specs.Given.{GivenModule}
 use Rattle.sx_compiling.specs.MakeUnit.{MakesUnit}
 use Rattle.sx_closure.specs.Closures.{IsClosure}
 use Rattle.sx_closure.specs.ReadImport.{ReadsNamed}
 use Rattle.sx_closure.proofs.Closing.{are_closure}
 use Rattle.sx_compile.specs.AuditedPlans.{audited_plan, AuditsUnit}
-use Rattle.sx_compile.specs.CompileModule.{given_in, CompilesGiven, CompilesOver, CompilesFew}
+use Rattle.sx_compile.specs.CompileModule.{given_to_compile, CompilesGiven, CompilesOver, CompilesFew}
 use Rattle.sx_compile.specs.CompileModule.{CompilesOthers, CompilesRead, CompilesModule}
 use Rattle.sx_compile.specs.Imports.{ImportsOthers, ImportsFew}
-use Rattle.sx_compile.specs.Laws.{SameButShown, CompilesAgree}
+use Rattle.sx_compile.specs.Laws.{CompilesAlikeButShown, CompilesAgree}
 use Rattle.sx_build.specs.MadeModules.{made_of}
 use Rattle.sx_rebuilding.specs.Again.{CompilesAsBefore, CompilingRepeatsBuilding}
 use Rattle.sx_rebuilding.proofs.EndedBuilds.{EndedBuild, build_ended}
@@ -43,8 +43,8 @@ module _ (name : List ℕ) (budgets : Budgets) (old new : Files) (m : Module)
   abbrev t : Turn budgets old l [] b.modules b.end m
   t = b.turn
 
-  abbrev g : Given
-  g = given_in m.header.name m l t.one.imports
+  abbrev g : GivenModule
+  g = given_to_compile m.header.name m l t.one.imports
 
   closure : IsClosure name b.modules
   closure = (are_closure name old b.modules b.reads).0
@@ -97,7 +97,7 @@ module _ (name : List ℕ) (budgets : Budgets) (old new : Files) (m : Module)
       (states_new name budgets [] old new m b)
       (after_step (ReadsImports new m.header.imports)
       (λ imports. CompilesGiven m.header.name budgets [] new
-      (given_in m.header.name m l imports)) t.one.imports (Ok again) t.one.tries
+      (given_to_compile m.header.name m l imports)) t.one.imports (Ok again) t.one.tries
       (imported name budgets [] old new m b)
       (before_step (MakesUnit budgets new g) (AuditsUnit m.header.name l.language.rules [])
       t.one.unit again t.one.tries makes_new audits)))))
@@ -105,7 +105,7 @@ module _ (name : List ℕ) (budgets : Budgets) (old new : Files) (m : Module)
   as_built : CompilesAgree → CompilesAsBefore m.header.name budgets new
   as_built agree result tries h sure = (
     again,
-    sure_value (SameButShown m.header.name budgets new) result again sure
+    sure_value (CompilesAlikeButShown m.header.name budgets new) result again sure
         (agree m.header.name budgets [] new result (Ok again) tries t.one.tries h compiled sure
         tt).0,
     changes_nothing,

@@ -8,7 +8,7 @@ use Rattle.sx_term.specs.Limits.{most_bytes}
 use Rattle.sx_steps.specs.Steps.{Then}
 use Rattle.sx_steps.specs.Unit.{interface_file}
 use Rattle.sx_walking.proofs.Reaching.{reaches_as}
-use Rattle.sx_uses.specs.ExtensionFile.{extension_file, uses_of}
+use Rattle.sx_uses.specs.ExtensionFile.{extension_file, used_names}
 use Rattle.sx_uses.specs.ReadExtension.{StatesExtension, ReadsFile, IsFor, ReadsExtension}
 use Rattle.sx_uses.specs.ReadUses.{ReadsUses}
 use Rattle.sx_accepting.specs.LanguageFiles.{language_file}
@@ -81,5 +81,5 @@ module _ (files others : Files) where
     pub uses_as : (file language : List ℕ) (roots : List (List ℕ)) →
         IsAlso (ReadsUses file language roots files) (ReadsUses file language roots others)
     uses_as file language roots =
-        reaches_as uses_of (ReadsExtension language files) (ReadsExtension language others)
+        reaches_as used_names (ReadsExtension language files) (ReadsExtension language others)
         (extension_as language) file roots

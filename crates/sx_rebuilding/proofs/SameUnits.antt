@@ -9,13 +9,13 @@ use Rattle.sx_steps.specs.declared.stop.Stop.{Stop}
 use Rattle.sx_uses.specs.ExtensionFile.{Extension}
 use Rattle.sx_uses.specs.ReadUses.{ReadsUses}
 use Rattle.sx_headers.specs.FreeImports.{HasFreeImports}
-use Rattle.sx_compiling.specs.Given.{Given}
+use Rattle.sx_compiling.specs.Given.{GivenModule}
 use Rattle.sx_compiling.specs.MakeUnit.{MakesExtended, MakesReached, MakesUnit}
 use Rattle.sx_compiling.proofs.SameSteps.{IsAlsoTrying, untried_as, and_then_as}
 use Rattle.sx_rebuilding.proofs.SameFiles.{HoldSameExtensions, uses_as}
 
 module _ (budgets : Budgets) (files others : Files) (same : HoldSameExtensions files others)
-    (g : Given) where
+    (g : GivenModule) where
   -- the extensions that the header uses
   abbrev Uses : Files → Result (List Extension) Stop → Type 0
   Uses fs = ReadsUses g.file g.read.header.language g.read.header.uses fs

@@ -19,7 +19,7 @@ use Rattle.sx_headers.specs.ReadModule.{Module}
 use Rattle.sx_importing.specs.ReadImports.{ImportData, ReadsImports}
 use Rattle.sx_compiling.specs.MakeUnit.{MakesUnit}
 use Rattle.sx_closure.specs.ReadModules.{module_name}
-use Rattle.sx_build.specs.BuildModules.{Progress, grown, given_in, ShowsUnit, MakesWith, MakesNext}
+use Rattle.sx_build.specs.BuildModules.{BuildProgress, grown, given_in, ShowsUnit, MakesWith, MakesNext}
 use Rattle.sx_build.specs.BuildModules.{MakesAfter}
 use Rattle.sx_build.specs.MadeModules.{Made, made_of, with_made}
 
@@ -32,7 +32,7 @@ none_left file rules list old new none shown =
 
 module _ (budgets : Budgets) (old : Files) (l : Stated) where
   -- one module more is made, and its list is shown to the auditors
-  pub record OneMore (start : Progress) (m : Module) (next : Progress) : Type 0 where
+  pub record OneMore (start : BuildProgress) (m : Module) (next : BuildProgress) : Type 0 where
     pub imports : List ImportData
     pub reads : ReadsImports (with_made start.made old) m.header.imports (Ok imports)
     pub unit : UnitData
@@ -42,7 +42,7 @@ module _ (budgets : Budgets) (old : Files) (l : Stated) where
         (Ok next.auditors)
     pub is : next.made ≡ start.made ++ made_of m.header.name unit ∷ []
 
-  one_more : (start : Progress) (m : Module) (next : Progress) (tries : ℕ) →
+  one_more : (start : BuildProgress) (m : Module) (next : BuildProgress) (tries : ℕ) →
       MakesNext budgets old l start m (Ok next) tries → OneMore start m next
   one_more start m next tries makes =
       let read = went_on (Untried (ReadsImports (with_made start.made old) m.header.imports))
@@ -63,33 +63,33 @@ module _ (budgets : Budgets) (old : Files) (l : Stated) where
         tries = made.before;
         makes = made.begins;
         shown = subst
-            (λ (p : Progress). Shows (module_file m.header.name) l.language.rules
+            (λ (p : BuildProgress). Shows (module_file m.header.name) l.language.rules
             start.auditors unit.list (Ok p.auditors)) (sym is) shown.begins;
-        is = ap (λ (p : Progress). p.made) is;
+        is = ap (λ (p : BuildProgress). p.made) is;
       }
 
   -- the modules that are left are made, with their names
-  pub record AllMore (start : Progress) (ms : List Module) (end : Progress) : Type 0 where
+  pub record AllMore (start : BuildProgress) (ms : List Module) (end : BuildProgress) : Type 0 where
     pub made : List Made
     pub named : map (λ x. x.name) made ≡ map module_name ms
     pub is : end.made ≡ start.made ++ made
 
   -- so one was made, and then the others
-  pub one_then : (start next end : Progress) (m : Module) (ms : List Module)
+  pub one_then : (start next end : BuildProgress) (m : Module) (ms : List Module)
       (one : OneMore start m next) (rest : AllMore next ms end) →
       end.made ≡ start.made ++ made_of m.header.name one.unit ∷ rest.made
   one_then start next end m ms one rest =
       rest.is ∙ ap (λ (b : List Made). b ++ rest.made) one.is
       ∙ append_assoc start.made (made_of m.header.name one.unit ∷ []) rest.made
 
-  all_more : (start : Progress) (ms : List Module) (end : Progress) (tries : ℕ) →
+  all_more : (start : BuildProgress) (ms : List Module) (end : BuildProgress) (tries : ℕ) →
       MakesAfter budgets old l start ms (Ok end) tries → AllMore start ms end
   all_more start [] end tries makes =
       let is : end ≡ start = ok_same end start makes.0 in
       record {
         made = [];
         named = refl;
-        is = ap (λ (p : Progress). p.made) is ∙ sym (append-nil start.made);
+        is = ap (λ (p : BuildProgress). p.made) is ∙ sym (append-nil start.made);
       }
   all_more start (m ∷ ms) end tries makes =
       let first = went_on (MakesNext budgets old l start m)
@@ -103,19 +103,19 @@ module _ (budgets : Budgets) (old : Files) (l : Stated) where
       }
 
   -- the turn of this one of the modules, without auditors where there were none at first
-  pub record Turn (auditors : List Meaning) (whole : List Module) (end : Progress) (m : Module) :
+  pub record Turn (auditors : List Meaning) (whole : List Module) (end : BuildProgress) (m : Module) :
       Type 0 where
     pub before : List Module
     pub behind : List Module
     pub stands : whole ≡ before ++ m ∷ behind
-    pub start : Progress
+    pub start : BuildProgress
     pub none : auditors ≡ [] → start.auditors ≡ []
-    pub next : Progress
+    pub next : BuildProgress
     pub one : OneMore start m next
     pub rest : AllMore next behind end
 
   -- without auditors its list is shown to none
-  pub shown_none : (whole : List Module) (end : Progress) (m : Module) (t : Turn [] whole end m) →
+  pub shown_none : (whole : List Module) (end : BuildProgress) (m : Module) (t : Turn [] whole end m) →
       Shows (module_file m.header.name) l.language.rules [] t.one.unit.list (Ok [])
   shown_none whole end m t =
       let file = module_file m.header.name in
@@ -126,8 +126,8 @@ module _ (budgets : Budgets) (old : Files) (l : Stated) where
       subst (λ (to : List Meaning). Shows file l.language.rules [] list (Ok to))
       (none_left file l.language.rules list [] t.next.auditors refl shown) shown
 
-  module _ (auditors : List Meaning) (whole : List Module) (end : Progress) where
-    pub turn_of : (done ms : List Module) (start : Progress) (tries : ℕ) → whole ≡ done ++ ms →
+  module _ (auditors : List Meaning) (whole : List Module) (end : BuildProgress) where
+    pub turn_of : (done ms : List Module) (start : BuildProgress) (tries : ℕ) → whole ≡ done ++ ms →
         (auditors ≡ [] → start.auditors ≡ []) → MakesAfter budgets old l start ms (Ok end) tries →
         (m : Module) → Contains ms m → Turn auditors whole end m
     turn_of done [] start tries is none makes m (k, below, same) = absurd (omega (arith, below))

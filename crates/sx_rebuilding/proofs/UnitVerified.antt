@@ -41,7 +41,7 @@ use Rattle.sx_accepting.specs.LanguageFiles.{language_file}
 use Rattle.sx_accepting.specs.ReadLanguage.{StatesLanguage}
 use Rattle.sx_dialects.proofs.LanguagesBegun.{extended_is_dialect}
 use Rattle.sx_headers.specs.ReadModule.{Module}
-use Rattle.sx_compiling.specs.Given.{Given, interfaces_in}
+use Rattle.sx_compiling.specs.Given.{GivenModule, interfaces_in}
 use Rattle.sx_compiling.specs.Headline.{IsInterfaceText}
 use Rattle.sx_compiling.specs.Reached.{HasNamedLanguage, HasModule, seen_over}
 use Rattle.sx_compiling.proofs.InterfaceTexts.{parts_from}
@@ -72,7 +72,7 @@ same_rows names (of_given n ∷ list) =
 
 -- ---- the unit of a module
 
-module _ (name : List ℕ) (budgets : Budgets) (old new : Files) (g : Given) (u : UnitData)
+module _ (name : List ℕ) (budgets : Budgets) (old new : Files) (g : GivenModule) (u : UnitData)
     (is_a_name : is_name false name ≡ true)
     (states : StatesHeader name (kept (lines_from 1 g.read.bytes)) g.read.header)
     (few_nodes : budgets.nodes ≤ 1000000)

@@ -17,9 +17,9 @@ use Rattle.sx_steps.proofs.StepsOn.{went, Went}
 use Rattle.sx_accepting.specs.LanguageFiles.{language_file}
 use Rattle.sx_accepting.specs.ReadLanguage.{StatesLanguage}
 use Rattle.sx_headers.specs.ReadModule.{Module}
-use Rattle.sx_compiling.specs.Given.{Given}
+use Rattle.sx_compiling.specs.Given.{GivenModule}
 use Rattle.sx_build.specs.BuildModules.{given_in}
-use Rattle.sx_verify.specs.Laws.{SameButShown, VerifiesAgree}
+use Rattle.sx_verify.specs.Laws.{VerifiesAlikeButShown, VerifiesAgree}
 use Rattle.sx_verify.specs.VerifyModule.{VerifiesModule}
 use Rattle.sx_rebuilding.specs.VerifyAgain.{VerifiesWell, VerifyingFollowsBuilding}
 use Rattle.sx_rebuilding.proofs.EndedBuilds.{EndedBuild, build_ended}
@@ -35,7 +35,7 @@ ends_well : (name : List ℕ) (files : Files) (plan : Plan) → VerifiesModule n
     VerifiesAgree → VerifiesWell name files
 ends_well name files plan ends agree result tries h sure = (
   plan,
-  sure_value (SameButShown name files) result plan sure
+  sure_value (VerifiesAlikeButShown name files) result plan sure
       (agree name files result (Ok plan) tries 0 h (ends, refl) sure tt).0,
 )
 
@@ -44,7 +44,7 @@ ends_well name files plan ends agree result tries h sure = (
 module _ (name : List ℕ) (budgets : Budgets) (auditors : List Meaning) (old new : Files)
     (m : Module) (b : EndedBuild name budgets auditors old new m)
     (is_a_name : is_name false name ≡ true) (few_nodes : budgets.nodes ≤ 1000000) where
-  abbrev g : Given
+  abbrev g : GivenModule
   g = given_in b.language m b.turn.one.imports
 
   stated : StatesHeader m.header.name (kept (lines_from 1 m.bytes)) m.header

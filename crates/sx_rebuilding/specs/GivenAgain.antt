@@ -20,8 +20,8 @@ pub record HasBuilt (c : Call) (name : List ℕ) (tries nodes : ℕ) (audits : L
   pub leaves : new ≡ after plan.files old
 
 -- one of the modules that are reached from this one by imports
-abbrev pub IsReached : (name : List ℕ) → Files → Module → Type 0
-IsReached name files m =
+abbrev pub IsReachedByImports : (name : List ℕ) → Files → Module → Type 0
+IsReachedByImports name files m =
     (modules : List Module) × ReadsModules name files (Ok modules) × Contains modules m
 
 -- Over the files that a build without auditors left, `compile` of one of the modules that were
@@ -29,7 +29,7 @@ IsReached name files m =
 abbrev pub CompileRepeatsBuild : Type 0
 CompileRepeatsBuild =
     (b c : Call) (name : List ℕ) (tries nodes : ℕ) (old new : Files) →
-    HasBuilt b name tries nodes [] old new → (m : Module) → IsReached name old m →
+    HasBuilt b name tries nodes [] old new → (m : Module) → IsReachedByImports name old m →
     SpellsCommand c.words (compiles m.header.name tries nodes []) →
     (result : Result Plan StepError) (made : ℕ) → RunOutcome c new result made → IsSure result →
     (plan : Plan) × (result ≡ Ok plan)
@@ -40,7 +40,7 @@ CompileRepeatsBuild =
 abbrev pub VerifyFollowsBuild : Type 0
 VerifyFollowsBuild =
     (b c : Call) (name : List ℕ) (tries nodes : ℕ) (audits : List AuditWord) (old new : Files) →
-    HasBuilt b name tries nodes audits old new → (m : Module) → IsReached name old m →
+    HasBuilt b name tries nodes audits old new → (m : Module) → IsReachedByImports name old m →
     SpellsCommand c.words (verifies false m.header.name) →
     (result : Result Plan StepError) (made : ℕ) → RunOutcome c new result made → IsSure result →
     (plan : Plan) × (result ≡ Ok plan)

@@ -2,13 +2,13 @@
 use Rattle.std.proofs.Common.{◌≡◌, ℕ, refl, sym, ap, ◌∙◌}
 use Rattle.sx_replay.specs.declared.noted.Noted.{Noted}
 use Rattle.sx_replay.specs.Limits.{note, nothing_noted}
-use Rattle.sx_replay.specs.Fronts.{Stage, open_one, whole}
+use Rattle.sx_replay.specs.Fronts.{DerivationStage, open_one, whole}
 use Rattle.sx_replay.specs.Laws.{FrontsAreAlone}
-use Rattle.sx_replay.specs.Machine.{Reading, wrong, open_at, ended}
+use Rattle.sx_replay.specs.Machine.{ReplayReading, wrong, open_at, ended}
 use Rattle.sx_replay.specs.Following.{reading}
 use Rattle.sx_replay.proofs.Answered.{IsReadingOf, front_reads}
 
-one_reading : (one other : Stage) (n m : Noted) (d e : ℕ) (r : Reading) → IsReadingOf one n d r → IsReadingOf other m e r → (one ≡ other) × (n ≡ m) × (d ≡ e)
+one_reading : (one other : DerivationStage) (n m : Noted) (d e : ℕ) (r : ReplayReading) → IsReadingOf one n d r → IsReadingOf other m e r → (one ≡ other) × (n ≡ m) × (d ≡ e)
 one_reading open_one other n m d e wrong h k = absurd h
 one_reading open_one other n m d e (ended outs x l rest) h k = absurd h
 one_reading open_one open_one n m d e (open_at g fs x l) h k = (refl, h.0 ∙ sym k.0, h.1 ∙ sym k.1)

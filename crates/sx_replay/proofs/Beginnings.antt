@@ -11,9 +11,9 @@ use Rattle.sx_arena.specs.Matching.{Assignment, nothing_bound, same_all, match_a
 use Rattle.sx_arena.specs.Limits.{are_apart}
 use Rattle.sx_replay.specs.declared.noted.Noted.{Noted}
 use Rattle.sx_replay.specs.Limits.{first_deep, first_big, earlier, note, nothing_noted}
-use Rattle.sx_replay.specs.Fronts.{Stage, open_one, whole}
+use Rattle.sx_replay.specs.Fronts.{DerivationStage, open_one, whole}
 use Rattle.sx_replay.specs.Laws.{BeginningsAreWithin}
-use Rattle.sx_replay.specs.Machine.{Frame, Move, clash, ends, asks, move_when, move_matched}
+use Rattle.sx_replay.specs.Machine.{ReplayFrame, Move, clash, ends, asks, move_when, move_matched}
 use Rattle.sx_replay.specs.Machine.{premises_move, hand_on, given_named, rule_named, entry_move}
 use Rattle.sx_replay.specs.Machine.{wrong, open_at, ended, read}
 use Rattle.sx_replay.proofs.Answered.{IsReadingOf, front_reads, open_within}
@@ -38,16 +38,16 @@ when_quiet : (b : Bool) (m : Move) → MoveQuiet (move_when b m) → MoveQuiet m
 when_quiet true m h = h
 when_quiet false m h = absurd h
 
-not_wrong : (stage : Stage) (n : Noted) (d : ℕ) → IsReadingOf stage n d wrong → ⊥
+not_wrong : (stage : DerivationStage) (n : Noted) (d : ℕ) → IsReadingOf stage n d wrong → ⊥
 not_wrong open_one n d h = h
 not_wrong (whole outs) n d h = h
 
-not_left : (stage : Stage) (n m : Noted) (d k : ℕ) (outs : List Tree) (e : Entry) (xs : List Entry) → IsReadingOf stage n d (ended outs m k (e ∷ xs)) → ⊥
+not_left : (stage : DerivationStage) (n m : Noted) (d k : ℕ) (outs : List Tree) (e : Entry) (xs : List Entry) → IsReadingOf stage n d (ended outs m k (e ∷ xs)) → ⊥
 not_left open_one n m d k outs e xs h = h
 not_left (whole os) n m d k outs e xs h = let q = h.3 in cc
 
 module _ (modes : Modes) (hyps : Hypotheses) where
-  premises_quiet : (fs : List Frame) → ((outs : List Tree) (n : Noted) → MoveQuiet (hand_on modes hyps fs outs n) → IsQuiet n) → (rule : Rule) (ps : List Premise) (env : Assignment) (n : Noted) →
+  premises_quiet : (fs : List ReplayFrame) → ((outs : List Tree) (n : Noted) → MoveQuiet (hand_on modes hyps fs outs n) → IsQuiet n) → (rule : Rule) (ps : List Premise) (env : Assignment) (n : Noted) →
       MoveQuiet (premises_move modes hyps (hand_on modes hyps fs) fs rule ps env n) → IsQuiet n
   premises_quiet fs hand rule [] env n h =
       let outs = outputs_of modes (judgement_instance (filled env) rule.conclusion) in
@@ -60,30 +60,30 @@ module _ (modes : Modes) (hyps : Hypotheses) where
   matched_quiet None f n k h = absurd h
   matched_quiet (Some env) f n k h = k env h
 
-  hand_quiet : (fs : List Frame) (outs : List Tree) (n : Noted) → MoveQuiet (hand_on modes hyps fs outs n) → IsQuiet n
+  hand_quiet : (fs : List ReplayFrame) (outs : List Tree) (n : Noted) → MoveQuiet (hand_on modes hyps fs outs n) → IsQuiet n
   hand_quiet [] outs n h = h
   hand_quiet (f ∷ fs) outs n h =
       matched_quiet (match_all f.patterns outs f.env) (λ env. premises_move modes hyps (hand_on modes hyps fs) fs f.rule f.rest env n) n
       (λ env. premises_quiet fs (hand_quiet fs) f.rule f.rest env n) h
 
-  given_quiet : (o : Option Judgement) (g : Goal) (fs : List Frame) (n : Noted) → MoveQuiet (given_named modes hyps o g fs n) → IsQuiet n
+  given_quiet : (o : Option Judgement) (g : Goal) (fs : List ReplayFrame) (n : Noted) → MoveQuiet (given_named modes hyps o g fs n) → IsQuiet n
   given_quiet None g fs n h = absurd h
   given_quiet (Some j) g fs n h =
       hand_quiet fs (outputs_of modes j) n (when_quiet (nat_eq j.form g.form && same_all (inputs_of modes j) g.terms) (hand_on modes hyps fs (outputs_of modes j) n) h)
 
-  rule_quiet : (o : Option Rule) (g : Goal) (fs : List Frame) (n : Noted) → MoveQuiet (rule_named modes hyps o g fs n) → IsQuiet n
+  rule_quiet : (o : Option Rule) (g : Goal) (fs : List ReplayFrame) (n : Noted) → MoveQuiet (rule_named modes hyps o g fs n) → IsQuiet n
   rule_quiet None g fs n h = absurd h
   rule_quiet (Some rule) g fs n h =
       matched_quiet (match_all (inputs_of modes rule.conclusion) g.terms nothing_bound) (λ env. premises_move modes hyps (hand_on modes hyps fs) fs rule rule.premises env n) n
       (λ env. premises_quiet fs (hand_quiet fs) rule rule.premises env n)
       (when_quiet (nat_eq rule.conclusion.form g.form) (move_matched (match_all (inputs_of modes rule.conclusion) g.terms nothing_bound) (λ env. premises_move modes hyps (hand_on modes hyps fs) fs rule rule.premises env n)) h)
 
-  entry_quiet : (rules : List Rule) (e : Entry) (g : Goal) (fs : List Frame) (n : Noted) → MoveQuiet (entry_move modes hyps rules e g fs n) → IsQuiet n
+  entry_quiet : (rules : List Rule) (e : Entry) (g : Goal) (fs : List ReplayFrame) (n : Noted) → MoveQuiet (entry_move modes hyps rules e g fs n) → IsQuiet n
   entry_quiet rules (of_given i) g fs n h = given_quiet (slice_get hyps.judgements i) g fs n h
   entry_quiet rules (of_rule r) g fs n h = rule_quiet (slice_get rules r) g fs n h
 
   -- where a reading is quiet at its end it was from the start, and no deeper
-  kept : (rules : List Rule) (stage : Stage) (n : Noted) (d : ℕ) → IsQuiet n → (xs : List Entry) (k : ℕ) (m : Move) → IsReadingOf stage n d (read modes rules hyps xs k m) → MoveQuiet m × (k ≤ d)
+  kept : (rules : List Rule) (stage : DerivationStage) (n : Noted) (d : ℕ) → IsQuiet n → (xs : List Entry) (k : ℕ) (m : Move) → IsReadingOf stage n d (read modes rules hyps xs k m) → MoveQuiet m × (k ≤ d)
   kept rules stage n d q [] k clash h = absurd (not_wrong stage n d h)
   kept rules stage n d q (e ∷ xs) k clash h = absurd (not_wrong stage n d h)
   kept rules open_one n d q [] k (ends outs m) h = absurd h
@@ -96,15 +96,15 @@ module _ (modes : Modes) (hyps : Hypotheses) where
       let l = r.1 in
       (entry_quiet rules e g fs m r.0, (omega arith))
 
-  record Begins (rules : List Rule) (stage : Stage) (n : Noted) (d : ℕ) (xs : List Entry) (e : Entry) (ys : List Entry) (k : ℕ) (m : Move) : Type 0 where
+  record Begins (rules : List Rule) (stage : DerivationStage) (n : Noted) (d : ℕ) (xs : List Entry) (e : Entry) (ys : List Entry) (k : ℕ) (m : Move) : Type 0 where
     goal : Goal
-    frames : List Frame
+    frames : List ReplayFrame
     noted : Noted
     depth : ℕ
     before : read modes rules hyps xs k m ≡ open_at goal frames noted depth
     after : IsReadingOf stage n d (read modes rules hyps (e ∷ ys) depth (asks goal frames noted))
 
-  begins : (rules : List Rule) (stage : Stage) (n : Noted) (d : ℕ) (xs : List Entry) (e : Entry) (ys : List Entry) (k : ℕ) (m : Move) → IsReadingOf stage n d (read modes rules hyps (xs ++ (e ∷ ys)) k m) → Begins rules stage n d xs e ys k m
+  begins : (rules : List Rule) (stage : DerivationStage) (n : Noted) (d : ℕ) (xs : List Entry) (e : Entry) (ys : List Entry) (k : ℕ) (m : Move) → IsReadingOf stage n d (read modes rules hyps (xs ++ (e ∷ ys)) k m) → Begins rules stage n d xs e ys k m
   begins rules stage n d [] e ys k clash h = absurd (not_wrong stage n d h)
   begins rules stage n d [] e ys k (ends outs m) h = absurd (not_left stage n m d k outs e ys h)
   begins rules stage n d [] e ys k (asks g fs m) h = record { goal = g; frames = fs; noted = m; depth = k; before = refl; after = h }

@@ -18,8 +18,8 @@ use Rattle.sx_arena.proofs.Filled.{true-apart}
 use Rattle.sx_replay.specs.declared.noted.Noted.{Noted}
 use Rattle.sx_replay.specs.Limits.{note}
 use Rattle.sx_replay.specs.Fronts.{Partial, unbegun, begun, partial_order, partial_height}
-use Rattle.sx_replay.specs.Fronts.{rule_match, made_in, ArePassed, IsBegun}
-use Rattle.sx_replay.specs.Machine.{Frame, Move, asks, move_when, move_matched, premises_move}
+use Rattle.sx_replay.specs.Fronts.{entry_match, made_in, ArePassed, IsBegun}
+use Rattle.sx_replay.specs.Machine.{ReplayFrame, Move, asks, move_when, move_matched, premises_move}
 use Rattle.sx_replay.specs.Machine.{hand_on, given_move, given_named, rule_named, open_at, read}
 use Rattle.sx_replay.proofs.Noting.{note-none, note-append}
 use Rattle.sx_replay.proofs.Passed.{derivation_passes}
@@ -28,7 +28,7 @@ module _ (modes : Modes) (rules : List Rule) (hyps : Hypotheses) where
   -- the list of a derivation, and then the rest, is read as its outputs handed on, and then the rest
   abbrev pub IsRead : Proof → Type 0
   IsRead p =
-      (goal : Goal) (outs : List Tree) → DerivesGoal modes rules hyps goal (p, outs) → (frames : List Frame) (n : Noted) (d : ℕ) (rest : List Entry) → length frames ≤ d →
+      (goal : Goal) (outs : List Tree) → DerivesGoal modes rules hyps goal (p, outs) → (frames : List ReplayFrame) (n : Noted) (d : ℕ) (rest : List Entry) → length frames ≤ d →
       read modes rules hyps (order_of p ++ rest) d (asks goal frames n) ≡ read modes rules hyps rest (max d (length frames + height_of p)) (hand_on modes hyps frames outs (note n (made_in modes rules p)))
 
   abbrev pub AreRead : Proofs → Type 0
@@ -36,17 +36,17 @@ module _ (modes : Modes) (rules : List Rule) (hyps : Hypotheses) where
   AreRead (p ⊳ ps) = IsRead p × AreRead ps
 
   -- the premises from here on
-  abbrev premises_from : List Frame → Rule → List Premise → Assignment → Noted → Move
+  abbrev premises_from : List ReplayFrame → Rule → List Premise → Assignment → Noted → Move
   premises_from frames rule ps env n = premises_move modes hyps (hand_on modes hyps frames) frames rule ps env n
 
-  nothing_passed : (frames : List Frame) (rule : Rule) (ps rest : List Premise) (env last : Assignment) (terms : List Tree) → terms ≡ [] → rest ≡ ps → last ≡ env → (n : Noted) (d : ℕ) (xs : List Entry) → length frames + 1 ≤ d →
+  nothing_passed : (frames : List ReplayFrame) (rule : Rule) (ps rest : List Premise) (env last : Assignment) (terms : List Tree) → terms ≡ [] → rest ≡ ps → last ≡ env → (n : Noted) (d : ℕ) (xs : List Entry) → length frames + 1 ≤ d →
       read modes rules hyps xs d (premises_from frames rule ps env n) ≡ read modes rules hyps xs (max d (length frames + 1 + 0)) (premises_from frames rule rest last (note n terms))
   nothing_passed frames rule ps rest env last terms et er el n d xs le =
       let q : max d (length frames + 1 + 0) ≡ d = omega arith in
       let m : note n terms ≡ n = ap (note n) et ∙ note-none n in
       λ i. read modes rules hyps xs (sym q i) (premises_from frames rule (sym er i) (sym el i) (sym m i))
 
-  passed_read : (frames : List Frame) (rule : Rule) (ps : List Premise) (env : Assignment) (kids : Proofs) (terms : List Tree) (rest : List Premise) (last : Assignment) →
+  passed_read : (frames : List ReplayFrame) (rule : Rule) (ps : List Premise) (env : Assignment) (kids : Proofs) (terms : List Tree) (rest : List Premise) (last : Assignment) →
       ArePassed modes rules hyps ps env kids terms rest last → AreRead kids → (n : Noted) (d : ℕ) (xs : List Entry) → length frames + 1 ≤ d →
       read modes rules hyps (order_of_all kids ++ xs) d (premises_from frames rule ps env n)
       ≡ read modes rules hyps xs (max d (length frames + 1 + most_height kids)) (premises_from frames rule rest last (note n terms))
@@ -60,7 +60,7 @@ module _ (modes : Modes) (rules : List Rule) (hyps : Hypotheses) where
   passed_read frames rule (holds j ∷ ps) env (p ⊳ kids) terms rest last (outs, derives, (more, found, (later, is, h))) r n d xs le =
       let ins = inputs_of modes (judgement_instance (filled env) j) in
       let goal = goal_of modes (judgement_instance (filled env) j) in
-      let frame : Frame = record { rule = rule; rest = ps; patterns = outputs_of modes j; env = env } in
+      let frame : ReplayFrame = record { rule = rule; rest = ps; patterns = outputs_of modes j; env = env } in
       let made = made_in modes rules p in
       let ys = order_of_all kids ++ xs in
       let l : length (frame ∷ frames) ≡ length frames + 1 = omega arith in
@@ -75,8 +75,8 @@ module _ (modes : Modes) (rules : List Rule) (hyps : Hypotheses) where
       λ i. read modes rules hyps xs (q i) (premises_from frames rule rest last (w i)))
 
   -- a rule's entry and those of the kids that are whole
-  rule_enters : (goal : Goal) (r : ℕ) (rule : Rule) (env : Assignment) (kids : Proofs) (before : List Tree) (rest : List Premise) (last : Assignment) → slice_get rules r ≡ Some rule → rule_match modes rule goal ≡ Some env →
-      ArePassed modes rules hyps rule.premises env kids before rest last → AreRead kids → (frames : List Frame) (n : Noted) (d : ℕ) (xs : List Entry) → length frames ≤ d →
+  rule_enters : (goal : Goal) (r : ℕ) (rule : Rule) (env : Assignment) (kids : Proofs) (before : List Tree) (rest : List Premise) (last : Assignment) → slice_get rules r ≡ Some rule → entry_match modes rule goal ≡ Some env →
+      ArePassed modes rules hyps rule.premises env kids before rest last → AreRead kids → (frames : List ReplayFrame) (n : Noted) (d : ℕ) (xs : List Entry) → length frames ≤ d →
       read modes rules hyps (of_rule r ∷ (order_of_all kids ++ xs)) d (asks goal frames n)
       ≡ read modes rules hyps xs (max d (length frames + (most_height kids + 1))) (premises_from frames rule rest last (note n before))
   rule_enters goal r rule env kids before rest last at_r matches passed reads frames n d xs le =
@@ -119,15 +119,15 @@ module _ (modes : Modes) (rules : List Rule) (hyps : Hypotheses) where
       all_read (p ⊳ ps) = (reads p, all_read ps)
 
     -- the list of a partial derivation is read to a goal that is left
-    pub begun_read : (f : Partial) (goal : Goal) (terms : List Tree) → IsBegun modes rules hyps f goal terms → (frames : List Frame) (n : Noted) (d : ℕ) → length frames ≤ d →
-        (g : Goal) × (fs : List Frame) × (read modes rules hyps (partial_order f) d (asks goal frames n) ≡ open_at g fs (note n terms) (max d (length frames + partial_height f)))
+    pub begun_read : (f : Partial) (goal : Goal) (terms : List Tree) → IsBegun modes rules hyps f goal terms → (frames : List ReplayFrame) (n : Noted) (d : ℕ) → length frames ≤ d →
+        (g : Goal) × (fs : List ReplayFrame) × (read modes rules hyps (partial_order f) d (asks goal frames n) ≡ open_at g fs (note n terms) (max d (length frames + partial_height f)))
     begun_read unbegun goal terms h frames n d le =
         let q : max d (length frames + 0) ≡ d = omega arith in
         let m : note n terms ≡ n = ap (note n) h ∙ note-none n in
         (goal, frames, λ i. open_at goal frames (sym m i) (sym q i))
     begun_read (begun r kids f) goal terms (rule, at_r, (env, matches, (j, ps, last, before, after, passed, below, is))) frames n d le =
         let ins = inputs_of modes (judgement_instance (filled last) j) in
-        let frame : Frame = record { rule = rule; rest = ps; patterns = outputs_of modes j; env = last } in
+        let frame : ReplayFrame = record { rule = rule; rest = ps; patterns = outputs_of modes j; env = last } in
         let l : length (frame ∷ frames) ≡ length frames + 1 = omega arith in
         let e : ℕ = max d (length frames + (most_height kids + 1)) in
         let x = begun_read f (goal_of modes (judgement_instance (filled last) j)) after below (frame ∷ frames) (note (note n before) ins) e (omega arith) in

@@ -26,22 +26,22 @@ use Rattle.sx_replay.specs.declared.reader.Reader.{Reader}
 use Rattle.sx_replay.specs.declared.noted.Noted.{Noted}
 use Rattle.sx_replay.specs.declared.step.Step.{Step}
 use Rattle.sx_replay.specs.declared.step.Step.TheVariants.{Clash, Done, Asks}
-use Rattle.sx_replay.specs.Machine.{Frame, Move, ends, move_matched, premises_move, hand_on}
-use Rattle.sx_replay.specs.Reader.{reader_trees, reader_envs, base_trees, frame_of, stack_on, stack}
-use Rattle.sx_replay.specs.Reader.{WaitsAt, AreWaiting, AreTo, AreKept, IsReplayReader, NamesStay}
-use Rattle.sx_replay.specs.Reader.{ReplayGoesOn, hyps_in, IsReplayStep, IsReplayPremises}
+use Rattle.sx_replay.specs.Machine.{ReplayFrame, Move, ends, move_matched, premises_move, hand_on}
+use Rattle.sx_replay.specs.Reader.{reader_trees, reader_envs, base_trees, replay_frame_of, stack_on, stack}
+use Rattle.sx_replay.specs.Reader.{WaitsInReader, AreWaiting, AreTo, AreKept, IsReplayReader, NamesStay}
+use Rattle.sx_replay.specs.Reader.{ReplayGoesOn, replay_hypotheses, IsReplayStep, IsReplayPremises}
 use Rattle.sx_replay.specs.Reader.{IsReplayResumed, IsMoved}
 use Rattle.sx_replay.proofs.Readers.{envs_length, stack_one, stack_stays, stack_later, frame_is, frame_stays, grows_then, grows_binds, goes_same, goes_then, goes_grown, waiting_front, take_take, kept_front, kept_cut, base_pairs, reader_pairs, pairs_same}
 use Rattle.std.proofs.lemmas.List.{length_push, length-take, take-append-le}
 
 -- the rule and the premise of a rule that waits
-pub waits_at : (rules : List Rule) (n : ℕ) (c : Waiting) → WaitsAt rules n c → (rule : Rule) → slice_get rules c.rule ≡ Some rule → (j : Judgement) × (slice_get rule.premises c.premise ≡ Some (holds j))
+pub waits_at : (rules : List Rule) (n : ℕ) (c : Waiting) → WaitsInReader rules n c → (rule : Rule) → slice_get rules c.rule ≡ Some rule → (j : Judgement) × (slice_get rule.premises c.premise ≡ Some (holds j))
 waits_at rules n c w rule found =
     let q : Some w.rule ≡ Some rule = sym w.found ∙ found in
     let same : w.rule ≡ rule = cc in
     (w.judgement, subst (λ (r : Rule). slice_get r.premises c.premise ≡ Some (holds w.judgement)) same w.premise)
 
-pub rule_within : (rules : List Rule) (n : ℕ) (c : Waiting) → WaitsAt rules n c → c.rule < length rules
+pub rule_within : (rules : List Rule) (n : ℕ) (c : Waiting) → WaitsInReader rules n c → c.rule < length rules
 rule_within rules n c w = within rules c.rule w.rule w.found
   where
     within : (rs : List Rule) (i : ℕ) (r : Rule) → slice_get rs i ≡ Some r → i < length rs
@@ -65,12 +65,12 @@ module _ (modes : Modes) (rules : List Rule) (pairs : List Pair) (s : Reader) (c
     (found : slice_get rules c.rule ≡ Some rule) (prem : slice_get rule.premises c.premise ≡ Some (holds j)) (b : Binds) (g : BindsGrow (trees s.arena) s.binds b) where
   -- what is made of the outputs
   abbrev made_of : List Judgement → Option Assignment → Move
-  made_of js m = move_matched m (λ env. premises_move modes (hyps_in pairs s js) (hand_on modes (hyps_in pairs s js) (stack modes rules s)) (stack modes rules s) rule (drop (c.premise + 1) rule.premises) env s.noted)
+  made_of js m = move_matched m (λ env. premises_move modes (replay_hypotheses pairs s js) (hand_on modes (replay_hypotheses pairs s js) (stack modes rules s)) (stack modes rules s) rule (drop (c.premise + 1) rule.premises) env s.noted)
 
-  handed_is : (js : List Judgement) → hand_on modes (hyps_in pairs s js) (frame_of modes rules (reader_envs s) c ∷ stack modes rules s) (map (tree_at (reader_trees s)) outs) s.noted
+  handed_is : (js : List Judgement) → hand_on modes (replay_hypotheses pairs s js) (replay_frame_of modes rules (reader_envs s) c ∷ stack modes rules s) (map (tree_at (reader_trees s)) outs) s.noted
       ≡ made_of js (match_all (outputs_of modes j) (map (tree_at (reader_trees s)) outs) (env_at (reader_envs s) c.env))
   handed_is js =
-      ap (λ (f : Frame). hand_on modes (hyps_in pairs s js) (f ∷ stack modes rules s) (map (tree_at (reader_trees s)) outs) s.noted)
+      ap (λ (f : ReplayFrame). hand_on modes (replay_hypotheses pairs s js) (f ∷ stack modes rules s) (map (tree_at (reader_trees s)) outs) s.noted)
       (frame_is modes rules (reader_envs s) j c rule (env_at (reader_envs s) c.env) found prem refl)
 
   abbrev pub bound_reader : Reader
@@ -88,10 +88,10 @@ module _ (modes : Modes) (rules : List Rule) (pairs : List Pair) (s : Reader) (c
       let st = stack_later modes rules s bound_reader h bound_grows.envs refl in
       record {
         grows = grows_then rules s bound_reader v bound_grows p.grows;
-        is = λ js. subst (λ (r : Move). IsReplayStep modes rules s.waiting.items v (hand_on modes (hyps_in pairs s js) (stack modes rules s)) step r)
-            ((λ i. premises_move modes (hyps_in pairs s js) (hand_on modes (hyps_in pairs s js) (stack modes rules s)) (st i) rule (drop (c.premise + 1) rule.premises) (env_at (reader_envs bound_reader) e) s.noted)
+        is = λ js. subst (λ (r : Move). IsReplayStep modes rules s.waiting.items v (hand_on modes (replay_hypotheses pairs s js) (stack modes rules s)) step r)
+            ((λ i. premises_move modes (replay_hypotheses pairs s js) (hand_on modes (replay_hypotheses pairs s js) (stack modes rules s)) (st i) rule (drop (c.premise + 1) rule.premises) (env_at (reader_envs bound_reader) e) s.noted)
             ∙ sym (handed_is js ∙ ap (made_of js) m))
-            (p.is js (hand_on modes (hyps_in pairs s js) (stack modes rules s)));
+            (p.is js (hand_on modes (replay_hypotheses pairs s js) (stack modes rules s)));
       }
 
 -- where a step has no outputs it does not matter what becomes of them
@@ -105,8 +105,8 @@ step_other modes rules cs ds r next other (Asks f t) m n h = h
 pub record Handing (modes : Modes) (rules : List Rule) (pairs : List Pair) (old now : Reader) (firsts outs : List ℕ) : Type 0 where
   pub grows : ReplayGoesOn rules old now
   pub below : AreBelow (length (reader_trees now)) outs
-  pub same : (js : List Judgement) → hand_on modes (hyps_in pairs old js) (stack modes rules old) (map (tree_at (reader_trees old)) firsts) old.noted
-      ≡ hand_on modes (hyps_in pairs old js) (stack modes rules now) (map (tree_at (reader_trees now)) outs) now.noted
+  pub same : (js : List Judgement) → hand_on modes (replay_hypotheses pairs old js) (stack modes rules old) (map (tree_at (reader_trees old)) firsts) old.noted
+      ≡ hand_on modes (replay_hypotheses pairs old js) (stack modes rules now) (map (tree_at (reader_trees now)) outs) now.noted
 
 pub handing_first : (modes : Modes) (rules : List Rule) (pairs : List Pair) (r : Reader) (outs : List ℕ) → IsReplayReader rules r → AreBelow (length (reader_trees r)) outs → Handing modes rules pairs r r outs outs
 handing_first modes rules pairs r outs h b = record { grows = goes_same rules r h; below = b; same = λ js. refl }
@@ -138,7 +138,7 @@ popped now ws b a = record { arena = a; binds = b; waiting = ws; noted = now.not
 
 module _ (rules : List Rule) (now : Reader) (ws : Vec Waiting Global) (c : Waiting) (b : Binds) (a : Arena) (outs kept : List ℕ)
     (h : IsReplayReader rules now) (e : now.waiting.items ≡ ws.items ++ c ∷ []) (k : IsCutAt now.binds b c) (x : AreKeptIn c.terms now.arena a outs kept) where
-  front_waits : AreWaiting rules c.mark ws.items × WaitsAt rules (length now.binds.cells.items) c
+  front_waits : AreWaiting rules c.mark ws.items × WaitsInReader rules (length now.binds.cells.items) c
   front_waits = waiting_front rules (length now.binds.cells.items) ws.items c (subst (λ (cs : List Waiting). AreWaiting rules (length now.binds.cells.items) cs) e h.waiting)
 
   front_kept : AreKept now.base now.binds.cells.items ws.items × ((now.base ≤ c.terms) × AreTo c.terms (take c.mark now.binds.cells.items))
@@ -156,7 +156,7 @@ module _ (rules : List Rule) (now : Reader) (ws : Vec Waiting Global) (c : Waiti
       let r = envs_stay (take c.terms ts) (trees a) x.kept b l.1 in
       (r.0 ∙ l.0, r.1)
 
-  pub popped_reader : IsReplayReader rules (popped now ws b a) × WaitsAt rules (length b.cells.items) c
+  pub popped_reader : IsReplayReader rules (popped now ws b a) × WaitsInReader rules (length b.cells.items) c
   popped_reader =
       let f = front_waits in
       let l = cells_length in (
@@ -187,7 +187,7 @@ module _ (rules : List Rule) (now : Reader) (ws : Vec Waiting Global) (c : Waiti
 
 module _ (modes : Modes) (rules : List Rule) (pairs : List Pair) (old now new : Reader) (firsts outs kept : List ℕ) (ws : Vec Waiting Global) (c : Waiting) (b : Binds) (a : Arena) (cut : IsCutAt now.binds b c)
     (hp : ArePairs (length (base_trees old)) pairs) (i : Handing modes rules pairs old now firsts outs) (e : now.waiting.items ≡ ws.items ++ c ∷ []) (x : AreKeptIn c.terms now.arena a outs kept) where
-  here : IsReplayReader rules (popped now ws b a) × WaitsAt rules (length b.cells.items) c
+  here : IsReplayReader rules (popped now ws b a) × WaitsInReader rules (length b.cells.items) c
   here = popped_reader rules now ws c b a outs kept i.grows.reader e cut x
 
   goes : ReplayGoesOn rules old (popped now ws b a)
@@ -199,15 +199,15 @@ module _ (modes : Modes) (rules : List Rule) (pairs : List Pair) (old now new : 
   pub pairs_here : ArePairs (length (trees a)) pairs
   pairs_here = reader_pairs (popped now ws b a) pairs (base_pairs rules old (popped now ws b a) goes pairs hp)
 
-  read_same : (js : List Judgement) → hand_on modes (hyps_in pairs old js) (stack modes rules old) (map (tree_at (reader_trees old)) firsts) old.noted
-      ≡ hand_on modes (hyps_in pairs (popped now ws b a) js) (frame_of modes rules (reader_envs (popped now ws b a)) c ∷ stack modes rules (popped now ws b a)) (map (tree_at (trees a)) kept) now.noted
+  read_same : (js : List Judgement) → hand_on modes (replay_hypotheses pairs old js) (stack modes rules old) (map (tree_at (reader_trees old)) firsts) old.noted
+      ≡ hand_on modes (replay_hypotheses pairs (popped now ws b a) js) (replay_frame_of modes rules (reader_envs (popped now ws b a)) c ∷ stack modes rules (popped now ws b a)) (map (tree_at (trees a)) kept) now.noted
   read_same js =
       let pr = here in
       let y = popped_envs rules now ws c b a outs kept i.grows.reader e cut x in
       let n = envs_length (popped now ws b a) in
       let en = pr.1.env in
       let mk = pr.1.mark in
-      let st : stack modes rules now ≡ frame_of modes rules (reader_envs (popped now ws b a)) c ∷ stack modes rules (popped now ws b a) =
+      let st : stack modes rules now ≡ replay_frame_of modes rules (reader_envs (popped now ws b a)) c ∷ stack modes rules (popped now ws b a) =
       ap (stack_on modes rules (reader_envs now) []) e ∙ stack_one modes rules (reader_envs now) [] ws.items c
       ∙ (λ k. frame_stays modes rules (reader_envs (popped now ws b a)) (reader_envs now) c y (omega arith) k
       ∷ stack_stays modes rules (reader_envs (popped now ws b a)) (reader_envs now) (length b.cells.items) y (omega arith) [] ws.items pr.0.waiting k) in
@@ -241,6 +241,6 @@ module _ (modes : Modes) (rules : List Rule) (pairs : List Pair) (old now new : 
   handed_stop step n m = record {
     grows = grown step m;
     is = λ js. subst (λ (x : Move). IsReplayStep modes rules [] new ends step x) (sym (read_same js))
-        (step_other modes rules ws.items [] new (hand_on modes (hyps_in pairs (popped now ws b a) js) (stack modes rules (popped now ws b a))) ends step
-        (hand_on modes (hyps_in pairs (popped now ws b a) js) (frame_of modes rules (reader_envs (popped now ws b a)) c ∷ stack modes rules (popped now ws b a)) (map (tree_at (trees a)) kept) now.noted) n (m.is js));
+        (step_other modes rules ws.items [] new (hand_on modes (replay_hypotheses pairs (popped now ws b a) js) (stack modes rules (popped now ws b a))) ends step
+        (hand_on modes (replay_hypotheses pairs (popped now ws b a) js) (replay_frame_of modes rules (reader_envs (popped now ws b a)) c ∷ stack modes rules (popped now ws b a)) (map (tree_at (trees a)) kept) now.noted) n (m.is js));
   }

@@ -9,7 +9,7 @@ use Rattle.sx_rules.specs.Orders.{Entry}
 use Rattle.sx_replay.specs.declared.replay_error.ReplayError.{ReplayError}
 use Rattle.sx_replay.specs.declared.replay_error.ReplayError.TheVariants.{Memory, WrongAt, EndsEarly, LongList, TooDeep, TooBig, DeepList}
 use Rattle.sx_replay.specs.Limits.{first_deep, first_big}
-use Rattle.sx_replay.specs.Fronts.{Stage, open_one, whole, IsFront}
+use Rattle.sx_replay.specs.Fronts.{DerivationStage, open_one, whole, IsFront}
 use Rattle.sx_replay.specs.Replay.{IsWithin, IsReached, IsFitting, IsReplayAnswer}
 use Rattle.sx_replay.specs.Laws.{OneAnswerIsDue}
 use Rattle.sx_replay.proofs.Alone.{fronts_alone}
@@ -25,7 +25,7 @@ data Verdict : Type 0 where
   term_deep : ℕ → Verdict
   term_big : ℕ → Verdict
 
-abbrev of_stage : Stage → Verdict
+abbrev of_stage : DerivationStage → Verdict
 of_stage open_one = goes_on
 of_stage (whole outs) = ends outs
 
@@ -42,7 +42,7 @@ of_level true v = stands_deep
 of_level false v = v
 
 -- the verdict of a front
-abbrev verdict_of : Stage → Option ℕ → Option ℕ → ℕ → Verdict
+abbrev verdict_of : DerivationStage → Option ℕ → Option ℕ → ℕ → Verdict
 verdict_of stage deep big level = of_level (nat_lt 3000 level) (of_depth deep (of_size big (of_stage stage)))
 
 -- the answer for the verdict of the first entries, so many of so many
@@ -77,14 +77,14 @@ cut_short (x ∷ xs) (suc i) (suc k) l m =
 module _ (modes : Modes) (rules : List Rule) (hyps : Hypotheses) (moded : AllModed modes rules) (goal : Goal) where
   -- the list has a front with this verdict
   record IsJudged (list : List Entry) (v : Verdict) : Type 0 where
-    pub stage : Stage
+    pub stage : DerivationStage
     pub terms : List Tree
     pub depth : ℕ
     pub front : IsFront modes rules hyps goal stage list terms depth
     pub is : v ≡ verdict_of stage (first_deep terms) (first_big terms) depth
 
   abbrev FitsNothing : List Entry → Type 0
-  FitsNothing list = (stage : Stage) (terms : List Tree) (depth : ℕ) → IsFront modes rules hyps goal stage list terms depth → ⊥
+  FitsNothing list = (stage : DerivationStage) (terms : List Tree) (depth : ℕ) → IsFront modes rules hyps goal stage list terms depth → ⊥
 
   abbrev HasVerdict : List Entry → Verdict → Type 0
   HasVerdict list v = IsJudged list v ⊎ (FitsNothing list × (v ≡ fits_nothing))
@@ -99,7 +99,7 @@ module _ (modes : Modes) (rules : List Rule) (hyps : Hypotheses) (moded : AllMod
   one_verdict list v w (inr a) (inl b) = absurd (a.0 b.stage b.terms b.depth b.front)
   one_verdict list v w (inr a) (inr b) = a.1 ∙ sym b.1
 
-  within_verdict : (stage : Stage) (list : List Entry) → IsWithin modes rules hyps goal stage list → HasVerdict list (of_stage stage)
+  within_verdict : (stage : DerivationStage) (list : List Entry) → IsWithin modes rules hyps goal stage list → HasVerdict list (of_stage stage)
   within_verdict stage list w = inl (record {
     stage = stage;
     terms = w.terms;
@@ -131,7 +131,7 @@ module _ (modes : Modes) (rules : List Rule) (hyps : Hypotheses) (moded : AllMod
         ]
 
     -- within the limits up to an entry, so before
-    within_before : (stage : Stage) (k : ℕ) → k ≤ length list → IsWithin modes rules hyps goal stage (take k list) → (i : ℕ) → i < k → IsWithin modes rules hyps goal open_one (take i list)
+    within_before : (stage : DerivationStage) (k : ℕ) → k ≤ length list → IsWithin modes rules hyps goal stage (take k list) → (i : ℕ) → i < k → IsWithin modes rules hyps goal open_one (take i list)
     within_before stage k last w i l =
         let c = cut_short list i k l last in
         beginnings_within modes rules hyps moded goal stage (take i list) c.0 c.1 (subst (λ (xs : List Entry). IsWithin modes rules hyps goal stage xs) c.2 w)
@@ -146,7 +146,7 @@ module _ (modes : Modes) (rules : List Rule) (hyps : Hypotheses) (moded : AllMod
         ]
 
     -- the verdict where all entries are taken
-    at_end : (stage : Stage) → IsWithin modes rules hyps goal stage list → IsVerdictAt list (length list) (of_stage stage)
+    at_end : (stage : DerivationStage) → IsWithin modes rules hyps goal stage list → IsVerdictAt list (length list) (of_stage stage)
     at_end stage w =
         let all = sym (all_taken list (length list) (omega arith)) in
         let v = subst (λ (xs : List Entry). IsWithin modes rules hyps goal stage xs) all w in

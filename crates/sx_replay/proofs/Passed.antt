@@ -17,7 +17,7 @@ use Rattle.sx_arena.specs.Limits.{first_values}
 use Rattle.sx_arena.proofs.Sameness.{nat_same}
 use Rattle.sx_arena.proofs.Matchings.{when_true, match_all-matches, match_all_found, stays-bound}
 use Rattle.sx_arena.proofs.Filled.{filled-instance, filled-inputs, filled-outputs, filled-goal, first_values-at, length-first_values}
-use Rattle.sx_replay.specs.Fronts.{asked_of, concluded_of, rule_match, made_in, made_below}
+use Rattle.sx_replay.specs.Fronts.{asked_of, concluded_of, entry_match, made_in, made_below}
 use Rattle.sx_replay.specs.Fronts.{ArePassed}
 
 unbound_agrees : (s : ℕ → Tree) → Agrees nothing_bound s
@@ -27,7 +27,7 @@ agrees_filled : (env : Assignment) → Agrees env (filled env)
 agrees_filled env v u e = ap value_or e
 
 -- the bindings at a rule whose conclusion's instance has the goal
-pub rule_bindings : (modes : Modes) (rule : Rule) (s : ℕ → Tree) → (env : Assignment) × (rule_match modes rule (goal_of modes (judgement_instance s rule.conclusion)) ≡ Some env) × Agrees env s
+pub rule_bindings : (modes : Modes) (rule : Rule) (s : ℕ → Tree) → (env : Assignment) × (entry_match modes rule (goal_of modes (judgement_instance s rule.conclusion)) ≡ Some env) × Agrees env s
     × ((v : ℕ) → StandsAmong v (inputs_of modes rule.conclusion) → IsBound env v)
 rule_bindings modes rule s =
     let patterns = inputs_of modes rule.conclusion in
@@ -95,7 +95,7 @@ module _ (modes : Modes) (rules : List Rule) (hyps : Hypotheses) where
     pub rule : Rule
     pub at_r : slice_get rules r ≡ Some rule
     pub env : Assignment
-    pub matches : rule_match modes rule goal ≡ Some env
+    pub matches : entry_match modes rule goal ≡ Some env
     pub last : Assignment
     pub before : List Tree
     pub passed : ArePassed modes rules hyps rule.premises env kids before [] last
@@ -115,7 +115,7 @@ module _ (modes : Modes) (rules : List Rule) (hyps : Hypotheses) where
           rule = rule;
           at_r = at_r;
           env = b.0;
-          matches = ap (rule_match modes rule) (sym goals) ∙ b.1;
+          matches = ap (entry_match modes rule) (sym goals) ∙ b.1;
           last = x.last;
           before = made_below modes rules (judgements_of rule.premises) s kids;
           passed = x.passed;
@@ -196,7 +196,7 @@ module _ (modes : Modes) (rules : List Rule) (hyps : Hypotheses) where
     pub made : made_in modes rules (by r binds kids) ≡ terms
 
   module _ (moded : AllModed modes rules) where
-    pub passes_derive : (goal : Goal) (r : ℕ) (rule : Rule) (kids : Proofs) (env last : Assignment) (before : List Tree) → slice_get rules r ≡ Some rule → rule_match modes rule goal ≡ Some env →
+    pub passes_derive : (goal : Goal) (r : ℕ) (rule : Rule) (kids : Proofs) (env last : Assignment) (before : List Tree) → slice_get rules r ≡ Some rule → entry_match modes rule goal ≡ Some env →
         ArePassed modes rules hyps rule.premises env kids before [] last →
         Concludes goal r kids (outputs_of modes (judgement_instance (filled last) rule.conclusion)) (before ++ outputs_of modes (judgement_instance (filled last) rule.conclusion))
     passes_derive goal r rule kids env last before at_r matches passed =

@@ -27,8 +27,8 @@ use Rattle.sx_replay.specs.declared.noted.Noted.{Noted}
 use Rattle.sx_replay.specs.declared.step.Step.TheVariants.{Clash, Done, Asks}
 use Rattle.sx_replay.specs.Limits.{note}
 use Rattle.sx_replay.specs.Machine.{Move, asks, move_when, premises_move}
-use Rattle.sx_replay.specs.Reader.{reader_trees, reader_envs, frame_of, stack_on, stack, WaitsAt}
-use Rattle.sx_replay.specs.Reader.{IsReplayReader, NamesStay, places_made, AreTermsMade, hyps_in}
+use Rattle.sx_replay.specs.Reader.{reader_trees, reader_envs, replay_frame_of, stack_on, stack, WaitsInReader}
+use Rattle.sx_replay.specs.Reader.{IsReplayReader, NamesStay, places_made, AreTermsMade, replay_hypotheses}
 use Rattle.sx_replay.specs.Reader.{IsReplayPremises}
 use Rattle.sx_replay.proofs.Readers.{envs_length, stack_stays, env_later, stack_one, frame_is, grows_same, grows_then, grows_terms, grows_waiting}
 
@@ -56,7 +56,7 @@ premise_get ps k p q l e f = slice_get-map premise_of ps k ∙ ap (option_map pr
 module _ (modes : Modes) (rules : List Rule) (pairs : List Pair) (old : Reader) (rule : Rule) (env : ℕ) where
   -- the move of the premises, by the reader before them
   abbrev pub move_of : List Judgement → (List Tree → Noted → Move) → List Premise → Move
-  move_of js next ps = premises_move modes (hyps_in pairs old js) next (stack modes rules old) rule ps (env_at (reader_envs old) env) old.noted
+  move_of js next ps = premises_move modes (replay_hypotheses pairs old js) next (stack modes rules old) rule ps (env_at (reader_envs old) env) old.noted
 
   -- the premises up to the ones that are left hold
   pub record Reached (mid : Reader) (ps rest : List Premise) : Type 0 where
@@ -131,12 +131,12 @@ module _ (modes : Modes) (rules : List Rule) (pairs : List Pair) (old mid new : 
       let g = grows_then rules old mid made a.grows (grows_terms rules mid made a.grows.reader m.held.arena m.held.extends m.binds w m.base) in
       let l = env_later rules old made g env le in
       let lo = l.0 in
-      let at : WaitsAt rules (length made.binds.cells.items) c = record { rule = rule; judgement = j; found = found; premise = prem; env = (omega arith); mark = (omega arith) } in
+      let at : WaitsInReader rules (length made.binds.cells.items) c = record { rule = rule; judgement = j; found = found; premise = prem; env = (omega arith); mark = (omega arith) } in
       let h = grows_waiting rules made new c g.reader at (omega arith) he ua ub uw uz in
       let x = grows_then rules old made new g h in
       let n = env_later rules old new x env le in
       let env0 = env_at (reader_envs old) env in
-      let fr : frame_of modes rules (reader_envs new) c ≡ record { rule = rule; rest = drop (k + 1) rule.premises; patterns = outputs_of modes j; env = env0 } =
+      let fr : replay_frame_of modes rules (reader_envs new) c ≡ record { rule = rule; rest = drop (k + 1) rule.premises; patterns = outputs_of modes j; env = env0 } =
       frame_is modes rules (reader_envs new) j c rule env0 found prem n.1 in
       let uo : new.waiting.items ≡ old.waiting.items ++ c ∷ [] = uw ∙ ap (λ (cs : List Waiting). cs ++ c ∷ []) (w ∙ a.waiting) in
       let es = envs_length old in

@@ -24,16 +24,16 @@ use Rattle.sx_arena.proofs.Facts.{facts_stay}
 use Rattle.sx_arena.proofs.Parted.{pairs_more_terms, pairs_stay}
 use Rattle.sx_replay.specs.declared.reader.Waiting.{Waiting}
 use Rattle.sx_replay.specs.declared.reader.Reader.{Reader}
-use Rattle.sx_replay.specs.Machine.{Frame}
-use Rattle.sx_replay.specs.Reader.{reader_trees, reader_envs, base_trees, patterns_of, no_rule}
-use Rattle.sx_replay.specs.Reader.{frame_of, stack_on, stack, WaitsAt, AreLater, AreWaiting, AreTo}
+use Rattle.sx_replay.specs.Machine.{ReplayFrame}
+use Rattle.sx_replay.specs.Reader.{reader_trees, reader_envs, base_trees, replay_patterns, no_replay_rule}
+use Rattle.sx_replay.specs.Reader.{replay_frame_of, stack_on, stack, WaitsInReader, AreLater, AreWaiting, AreTo}
 use Rattle.sx_replay.specs.Reader.{AreKept, IsReplayReader, NamesStay, ReplayGoesOn}
 
 -- the number of chains
 pub envs_length : (r : Reader) → length (reader_envs r) ≡ length r.binds.cells.items
 envs_length r = grown-length (bind_step (reader_trees r)) r.binds.cells.items
 
-pub waits_later : (rules : List Rule) (m n : ℕ) → m ≤ n → (c : Waiting) → WaitsAt rules m c → WaitsAt rules n c
+pub waits_later : (rules : List Rule) (m n : ℕ) → m ≤ n → (c : Waiting) → WaitsInReader rules m c → WaitsInReader rules n c
 waits_later rules m n l c w = let e = w.mark in record { rule = w.rule; judgement = w.judgement; found = w.found; premise = w.premise; env = w.env; mark = (omega arith) }
 
 pub waiting_later : (rules : List Rule) (m n : ℕ) → m ≤ n → (cs : List Waiting) → AreWaiting rules m cs → AreWaiting rules n cs
@@ -48,12 +48,12 @@ later_front : (m : ℕ) (cs : List Waiting) (c : Waiting) → AreLater m (cs ++ 
 later_front m [] c h = (tt, h.0)
 later_front m (x ∷ cs) c h = let r = later_front m cs c h.1 in ((h.0, r.0), r.1)
 
-pub waiting_one : (rules : List Rule) (n : ℕ) (cs : List Waiting) (c : Waiting) → AreWaiting rules n cs → WaitsAt rules n c → n ≤ c.mark → AreWaiting rules n (cs ++ c ∷ [])
+pub waiting_one : (rules : List Rule) (n : ℕ) (cs : List Waiting) (c : Waiting) → AreWaiting rules n cs → WaitsInReader rules n c → n ≤ c.mark → AreWaiting rules n (cs ++ c ∷ [])
 waiting_one rules n [] c h w l = (w, (tt, tt))
 waiting_one rules n (x ∷ cs) c h w l = let e = h.0.mark in (h.0, (later_one x.mark cs c h.1.0 (omega arith), waiting_one rules n cs c h.1.1 w l))
 
 -- the rules before one wait with bindings that were there when it began to wait
-pub waiting_front : (rules : List Rule) (n : ℕ) (cs : List Waiting) (c : Waiting) → AreWaiting rules n (cs ++ c ∷ []) → AreWaiting rules c.mark cs × WaitsAt rules n c
+pub waiting_front : (rules : List Rule) (n : ℕ) (cs : List Waiting) (c : Waiting) → AreWaiting rules n (cs ++ c ∷ []) → AreWaiting rules c.mark cs × WaitsInReader rules n c
 waiting_front rules n [] c h = (tt, h.0)
 waiting_front rules n (x ∷ cs) c h =
     let a = later_front x.mark cs c h.1.0 in
@@ -61,36 +61,36 @@ waiting_front rules n (x ∷ cs) c h =
     ((record { rule = h.0.rule; judgement = h.0.judgement; found = h.0.found; premise = h.0.premise; env = h.0.env; mark = a.1 }, (a.0, r.0)), r.1)
 
 -- the stack with one rule more
-pub stack_one : (modes : Modes) (rules : List Rule) (es : List Assignment) (fs : List Frame) (cs : List Waiting) (c : Waiting) → stack_on modes rules es fs (cs ++ c ∷ []) ≡ frame_of modes rules es c ∷ stack_on modes rules es fs cs
+pub stack_one : (modes : Modes) (rules : List Rule) (es : List Assignment) (fs : List ReplayFrame) (cs : List Waiting) (c : Waiting) → stack_on modes rules es fs (cs ++ c ∷ []) ≡ replay_frame_of modes rules es c ∷ stack_on modes rules es fs cs
 stack_one modes rules es fs [] c = refl
-stack_one modes rules es fs (x ∷ cs) c = stack_one modes rules es (frame_of modes rules es x ∷ fs) cs c
+stack_one modes rules es fs (x ∷ cs) c = stack_one modes rules es (replay_frame_of modes rules es x ∷ fs) cs c
 
-pub stack_length : (modes : Modes) (rules : List Rule) (es : List Assignment) (fs : List Frame) (cs : List Waiting) → length (stack_on modes rules es fs cs) ≡ length fs + length cs
+pub stack_length : (modes : Modes) (rules : List Rule) (es : List Assignment) (fs : List ReplayFrame) (cs : List Waiting) → length (stack_on modes rules es fs cs) ≡ length fs + length cs
 stack_length modes rules es fs [] = omega arith
-stack_length modes rules es fs (c ∷ cs) = let r = stack_length modes rules es (frame_of modes rules es c ∷ fs) cs in omega arith
+stack_length modes rules es fs (c ∷ cs) = let r = stack_length modes rules es (replay_frame_of modes rules es c ∷ fs) cs in omega arith
 
 -- more terms and bindings change no frame
-pub frame_stays : (modes : Modes) (rules : List Rule) (es ds : List Assignment) (c : Waiting) → Extends es ds → c.env ≤ length es → frame_of modes rules ds c ≡ frame_of modes rules es c
+pub frame_stays : (modes : Modes) (rules : List Rule) (es ds : List Assignment) (c : Waiting) → Extends es ds → c.env ≤ length es → replay_frame_of modes rules ds c ≡ replay_frame_of modes rules es c
 frame_stays modes rules es ds c x l =
-    let rule = get_or rules c.rule no_rule in
+    let rule = get_or rules c.rule no_replay_rule in
     let e = env_stays es ds x c.env l in
-    λ i. record { rule = rule; rest = drop (c.premise + 1) rule.premises; patterns = patterns_of modes (slice_get rule.premises c.premise); env = e i }
+    λ i. record { rule = rule; rest = drop (c.premise + 1) rule.premises; patterns = replay_patterns modes (slice_get rule.premises c.premise); env = e i }
 
-pub stack_stays : (modes : Modes) (rules : List Rule) (es ds : List Assignment) (n : ℕ) → Extends es ds → n ≤ length es → (fs : List Frame) (cs : List Waiting) → AreWaiting rules n cs → stack_on modes rules ds fs cs ≡ stack_on modes rules es fs cs
+pub stack_stays : (modes : Modes) (rules : List Rule) (es ds : List Assignment) (n : ℕ) → Extends es ds → n ≤ length es → (fs : List ReplayFrame) (cs : List Waiting) → AreWaiting rules n cs → stack_on modes rules ds fs cs ≡ stack_on modes rules es fs cs
 stack_stays modes rules es ds n x l fs [] h = refl
 stack_stays modes rules es ds n x l fs (c ∷ cs) h =
     let w = h.0.env in
     let v = h.0.mark in
-    stack_stays modes rules es ds n x l (frame_of modes rules ds c ∷ fs) cs h.1.1
-    ∙ ap (λ (f : Frame). stack_on modes rules es (f ∷ fs) cs) (frame_stays modes rules es ds c x (omega arith))
+    stack_stays modes rules es ds n x l (replay_frame_of modes rules ds c ∷ fs) cs h.1.1
+    ∙ ap (λ (f : ReplayFrame). stack_on modes rules es (f ∷ fs) cs) (frame_stays modes rules es ds c x (omega arith))
 
 -- the frame that a waiting rule stands for
 pub frame_is : (modes : Modes) (rules : List Rule) (es : List Assignment) (j : Judgement) (c : Waiting) (rule : Rule) (env : Assignment) → slice_get rules c.rule ≡ Some rule → slice_get rule.premises c.premise ≡ Some (holds j) → env_at es c.env ≡ env →
-    frame_of modes rules es c ≡ record { rule = rule; rest = drop (c.premise + 1) rule.premises; patterns = outputs_of modes j; env = env }
+    replay_frame_of modes rules es c ≡ record { rule = rule; rest = drop (c.premise + 1) rule.premises; patterns = outputs_of modes j; env = env }
 frame_is modes rules es j c rule env f g x =
-    let r = get_or_from_slice_get rules c.rule rule no_rule f in
-    let p = ap (patterns_of modes) g in
-    (λ i. record { rule = r i; rest = drop (c.premise + 1) (r i).premises; patterns = patterns_of modes (slice_get (r i).premises c.premise); env = x i })
+    let r = get_or_from_slice_get rules c.rule rule no_replay_rule f in
+    let p = ap (replay_patterns modes) g in
+    (λ i. record { rule = r i; rest = drop (c.premise + 1) (r i).premises; patterns = replay_patterns modes (slice_get (r i).premises c.premise); env = x i })
     ∙ (λ i. record { rule = rule; rest = drop (c.premise + 1) rule.premises; patterns = p i; env = env })
 
 -- bindings to terms that are there
@@ -244,7 +244,7 @@ grows_binds rules s t h g a w z =
     }
 
 -- one rule more that waits
-pub grows_waiting : (rules : List Rule) (s t : Reader) (c : Waiting) → IsReplayReader rules s → WaitsAt rules (length s.binds.cells.items) c → length s.binds.cells.items ≤ c.mark → c.terms ≡ length (reader_trees s) → t.arena ≡ s.arena → t.binds ≡ s.binds →
+pub grows_waiting : (rules : List Rule) (s t : Reader) (c : Waiting) → IsReplayReader rules s → WaitsInReader rules (length s.binds.cells.items) c → length s.binds.cells.items ≤ c.mark → c.terms ≡ length (reader_trees s) → t.arena ≡ s.arena → t.binds ≡ s.binds →
     t.waiting.items ≡ s.waiting.items ++ c ∷ [] → t.base ≡ s.base → NamesStay rules s t
 grows_waiting rules s t c h w l d a b e z =
     let n : length t.binds.cells.items ≡ length s.binds.cells.items = ap (λ (y : Binds). length y.cells.items) b in

@@ -10,7 +10,7 @@ use Rattle.sx_rules.specs.Orders.{Entry, order_of}
 use Rattle.sx_replay.specs.declared.replay_error.ReplayError.{ReplayError}
 use Rattle.sx_replay.specs.declared.replay_error.ReplayError.TheVariants.{Memory, WrongAt, EndsEarly, LongList, TooDeep, TooBig, DeepList}
 use Rattle.sx_replay.specs.Limits.{first_deep, first_big}
-use Rattle.sx_replay.specs.Fronts.{Stage, open_one, whole, made_in}
+use Rattle.sx_replay.specs.Fronts.{DerivationStage, open_one, whole, made_in}
 use Rattle.sx_replay.specs.Replay.{IsWithin, IsFitting, IsReplayed}
 use Rattle.sx_replay.specs.Laws.{DerivationsAreReplayed}
 use Rattle.sx_replay.proofs.Alone.{fronts_alone}
@@ -48,10 +48,10 @@ module _ (modes : Modes) (rules : List Rule) (hyps : Hypotheses) (moded : AllMod
       let c = cut list k l in
       beginnings_within modes rules hyps moded goal (whole outs) (take k list) c.0 c.1 (subst (λ (xs : List Entry). IsWithin modes rules hyps goal (whole outs) xs) c.2 w)
 
-  within_upto : (k : ℕ) → (stage : Stage) × IsWithin modes rules hyps goal stage (take k list)
+  within_upto : (k : ℕ) → (stage : DerivationStage) × IsWithin modes rules hyps goal stage (take k list)
   within_upto k = go (past_or_not k (length list))
     where
-      go : (k < length list) ⊎ (length list ≤ k) → (stage : Stage) × IsWithin modes rules hyps goal stage (take k list)
+      go : (k < length list) ⊎ (length list ≤ k) → (stage : DerivationStage) × IsWithin modes rules hyps goal stage (take k list)
       go (inl l) = (open_one, open_before k l)
       go (inr l) = (whole outs, subst (λ (xs : List Entry). IsWithin modes rules hyps goal (whole outs) xs) (sym (all_taken list k l)) w)
 

@@ -19,9 +19,9 @@ use Rattle.sx_arena.proofs.Sameness.{and_left, and_right, nat_same, same_all_tru
 use Rattle.sx_arena.proofs.Filled.{apart-true}
 use Rattle.sx_replay.specs.declared.noted.Noted.{Noted}
 use Rattle.sx_replay.specs.Limits.{note, nothing_noted}
-use Rattle.sx_replay.specs.Fronts.{Partial, begun, partial_order, partial_height, rule_match, Stage}
+use Rattle.sx_replay.specs.Fronts.{Partial, begun, partial_order, partial_height, entry_match, DerivationStage}
 use Rattle.sx_replay.specs.Fronts.{open_one, whole, made_in, ArePassed, IsBegun, IsFront}
-use Rattle.sx_replay.specs.Machine.{Frame, Move, clash, ends, asks, move_when, move_matched}
+use Rattle.sx_replay.specs.Machine.{ReplayFrame, Move, clash, ends, asks, move_when, move_matched}
 use Rattle.sx_replay.specs.Machine.{premises_move, hand_on, given_named, rule_named, entry_move}
 use Rattle.sx_replay.proofs.Noting.{note-append}
 use Rattle.sx_replay.proofs.Passed.{passes_derive}
@@ -60,7 +60,7 @@ module _ (modes : Modes) (rules : List Rule) (hyps : Hypotheses) where
     pub r : ℕ
     pub at_r : slice_get rules r ≡ Some rule
     pub first : Assignment
-    pub matches : rule_match modes rule above ≡ Some first
+    pub matches : entry_match modes rule above ≡ Some first
     pub kids : Proofs
     pub made : List Tree
     pub leads : Leads rule.premises first kids made ps env
@@ -74,19 +74,19 @@ module _ (modes : Modes) (rules : List Rule) (hyps : Hypotheses) where
 
   module _ (root : Goal) where
     -- the goal is in work below the frames, and the list, the terms and the depth are those before its entry
-    abbrev pub IsStack : List Frame → Goal → List Entry → List Tree → ℕ → Type 0
+    abbrev pub IsStack : List ReplayFrame → Goal → List Entry → List Tree → ℕ → Type 0
     IsStack [] goal list terms d = (goal ≡ root) × (list ≡ []) × (terms ≡ []) × (d ≡ 0)
     IsStack (f ∷ fs) goal list terms d =
         (j : Judgement) × (before : List Tree) × InWork (IsStack fs) (length fs) f.rule (holds j ∷ f.rest) f.env list before d
         × (f.patterns ≡ outputs_of modes j) × (goal ≡ goal_of modes (judgement_instance (filled f.env) j)) × (terms ≡ before ++ inputs_of modes (judgement_instance (filled f.env) j))
 
-    pub front_as : (stage : Stage) (list xs : List Entry) (terms ts : List Tree) (d e : ℕ) → list ≡ xs → terms ≡ ts → d ≡ e → IsFront modes rules hyps root stage list terms d → IsFront modes rules hyps root stage xs ts e
+    pub front_as : (stage : DerivationStage) (list xs : List Entry) (terms ts : List Tree) (d e : ℕ) → list ≡ xs → terms ≡ ts → d ≡ e → IsFront modes rules hyps root stage list terms d → IsFront modes rules hyps root stage xs ts e
     front_as stage list xs terms ts d e p q r h =
         subst (λ (k : ℕ). IsFront modes rules hyps root stage xs ts k) r
         (subst (λ (us : List Tree). IsFront modes rules hyps root stage xs us d) q (subst (λ (ys : List Entry). IsFront modes rules hyps root stage ys terms d) p h))
 
     -- a partial derivation of the goal in work makes one of the first goal
-    pub open_front : (frames : List Frame) (goal : Goal) (list : List Entry) (terms : List Tree) (d : ℕ) → IsStack frames goal list terms d → (f : Partial) (more : List Tree) → IsBegun modes rules hyps f goal more →
+    pub open_front : (frames : List ReplayFrame) (goal : Goal) (list : List Entry) (terms : List Tree) (d : ℕ) → IsStack frames goal list terms d → (f : Partial) (more : List Tree) → IsBegun modes rules hyps f goal more →
         IsFront modes rules hyps root open_one (list ++ partial_order f) (terms ++ more) (max d (length frames + partial_height f))
     open_front [] goal list terms d (eg, el, et, ed) f more h = (
       f,
@@ -120,13 +120,13 @@ module _ (modes : Modes) (rules : List Rule) (hyps : Hypotheses) where
     sound_as f n m list xs d e p q r h = subst (λ (k : ℕ). IsSound (f m) xs k) r (subst (λ (ys : List Entry). IsSound (f m) ys d) q (subst (λ (k : Noted). IsSound (f k) list d) p h))
 
     -- outputs handed on are sound
-    abbrev HandsOn : List Frame → Type 0
+    abbrev HandsOn : List ReplayFrame → Type 0
     HandsOn frames =
         (goal : Goal) (list : List Entry) (terms : List Tree) (d : ℕ) → IsStack frames goal list terms d → (p : Proof) (outs : List Tree) → DerivesGoal modes rules hyps goal (p, outs) →
         IsSound (hand_on modes hyps frames outs (note nothing_noted (terms ++ made_in modes rules p))) (list ++ order_of p) (max d (length frames + height_of p))
 
     module _ (moded : AllModed modes rules) where
-      premises_sound : (fs : List Frame) → HandsOn fs → (rule : Rule) (ps : List Premise) (env : Assignment) (list : List Entry) (terms : List Tree) (d : ℕ) → InWork (IsStack fs) (length fs) rule ps env list terms d →
+      premises_sound : (fs : List ReplayFrame) → HandsOn fs → (rule : Rule) (ps : List Premise) (env : Assignment) (list : List Entry) (terms : List Tree) (d : ℕ) → InWork (IsStack fs) (length fs) rule ps env list terms d →
           IsSound (premises_move modes hyps (hand_on modes hyps fs) fs rule ps env (note nothing_noted terms)) list d
       premises_sound fs hand rule [] env list terms d w =
           let outs = outputs_of modes (judgement_instance (filled env) rule.conclusion) in
@@ -171,7 +171,7 @@ module _ (modes : Modes) (rules : List Rule) (hyps : Hypotheses) where
           (terms ++ ins, (j, terms, w, refl, refl, refl), note-append nothing_noted terms ins)
 
       -- a kid more
-      kid_more : (fs : List Frame) (x : Frame) (goal : Goal) (list : List Entry) (terms : List Tree) (d : ℕ) → IsStack (x ∷ fs) goal list terms d → (p : Proof) (outs : List Tree) → DerivesGoal modes rules hyps goal (p, outs) →
+      kid_more : (fs : List ReplayFrame) (x : ReplayFrame) (goal : Goal) (list : List Entry) (terms : List Tree) (d : ℕ) → IsStack (x ∷ fs) goal list terms d → (p : Proof) (outs : List Tree) → DerivesGoal modes rules hyps goal (p, outs) →
           (more : Assignment) → match_all x.patterns outs x.env ≡ Some more →
           InWork (IsStack fs) (length fs) x.rule x.rest more (list ++ order_of p) (terms ++ made_in modes rules p) (max d (length (x ∷ fs) + height_of p))
       kid_more fs x goal list terms d (j, before, w, ep, eg, et) p outs derives more found =
@@ -204,7 +204,7 @@ module _ (modes : Modes) (rules : List Rule) (hyps : Hypotheses) where
             d_is = (omega arith);
           }
 
-      hand_sound : (frames : List Frame) → HandsOn frames
+      hand_sound : (frames : List ReplayFrame) → HandsOn frames
       hand_sound [] goal list terms d (eg, el, et, ed) p outs derives = (
         terms ++ made_in modes rules p,
         (p, subst (λ (g : Goal). DerivesGoal modes rules hyps g (p, outs)) eg derives, ap (λ (xs : List Entry). xs ++ order_of p) (sym el), ap (λ (ts : List Tree). ts ++ made_in modes rules p) (sym et), (omega arith)),
@@ -218,7 +218,7 @@ module _ (modes : Modes) (rules : List Rule) (hyps : Hypotheses) where
           go (Some more) hand e =
               premises_sound fs hand x.rule x.rest more (list ++ order_of p) (terms ++ made_in modes rules p) (max d (length (x ∷ fs) + height_of p)) (kid_more fs x goal list terms d stack p outs derives more e)
 
-      given_sound : (i : ℕ) (frames : List Frame) (goal : Goal) (list : List Entry) (terms : List Tree) (d : ℕ) → IsStack frames goal list terms d → (o : Option Judgement) → slice_get hyps.judgements i ≡ o →
+      given_sound : (i : ℕ) (frames : List ReplayFrame) (goal : Goal) (list : List Entry) (terms : List Tree) (d : ℕ) → IsStack frames goal list terms d → (o : Option Judgement) → slice_get hyps.judgements i ≡ o →
           IsSound (given_named modes hyps o goal frames (note nothing_noted terms)) (list ++ (of_given i ∷ [])) (max d (length frames + 1))
       given_sound i frames goal list terms d stack None e = tt
       given_sound i frames goal list terms d stack (Some j) e = go (nat_eq j.form goal.form && same_all (inputs_of modes j) goal.terms) refl
@@ -232,7 +232,7 @@ module _ (modes : Modes) (rules : List Rule) (hyps : Hypotheses) where
               sound_as (hand_on modes hyps frames (outputs_of modes j)) (note nothing_noted (terms ++ [])) (note nothing_noted terms) (list ++ (of_given i ∷ [])) (list ++ (of_given i ∷ []))
               (max d (length frames + 1)) (max d (length frames + 1)) (ap (note nothing_noted) (append-nil terms)) refl refl h
 
-      rule_sound : (r : ℕ) (frames : List Frame) (goal : Goal) (list : List Entry) (terms : List Tree) (d : ℕ) → IsStack frames goal list terms d → (o : Option Rule) → slice_get rules r ≡ o →
+      rule_sound : (r : ℕ) (frames : List ReplayFrame) (goal : Goal) (list : List Entry) (terms : List Tree) (d : ℕ) → IsStack frames goal list terms d → (o : Option Rule) → slice_get rules r ≡ o →
           IsSound (rule_named modes hyps o goal frames (note nothing_noted terms)) (list ++ (of_rule r ∷ [])) (max d (length frames + 1))
       rule_sound r frames goal list terms d stack None e = tt
       rule_sound r frames goal list terms d stack (Some rule) e = go (nat_eq rule.conclusion.form goal.form) (match_all (inputs_of modes rule.conclusion) goal.terms nothing_bound) refl refl
@@ -260,7 +260,7 @@ module _ (modes : Modes) (rules : List Rule) (hyps : Hypotheses) where
                 d_is = (omega arith);
               })
 
-      pub entry_sound : (e : Entry) (frames : List Frame) (goal : Goal) (list : List Entry) (terms : List Tree) (d : ℕ) → IsStack frames goal list terms d →
+      pub entry_sound : (e : Entry) (frames : List ReplayFrame) (goal : Goal) (list : List Entry) (terms : List Tree) (d : ℕ) → IsStack frames goal list terms d →
           IsSound (entry_move modes hyps rules e goal frames (note nothing_noted terms)) (list ++ (e ∷ [])) (max d (length frames + 1))
       entry_sound (of_given i) frames goal list terms d stack = given_sound i frames goal list terms d stack (slice_get hyps.judgements i) refl
       entry_sound (of_rule r) frames goal list terms d stack = rule_sound r frames goal list terms d stack (slice_get rules r) refl

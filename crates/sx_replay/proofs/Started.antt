@@ -24,7 +24,7 @@ use Rattle.sx_replay.specs.declared.replaying.Problem.{Problem}
 use Rattle.sx_replay.specs.declared.replay_error.ReplayError.{ReplayError}
 use Rattle.sx_replay.specs.Limits.{nothing_noted}
 use Rattle.sx_replay.specs.Fronts.{whole}
-use Rattle.sx_replay.specs.Reader.{reader_trees, base_trees, AreKept, IsReplayReader, hyps_in}
+use Rattle.sx_replay.specs.Reader.{reader_trees, base_trees, AreKept, IsReplayReader, replay_hypotheses}
 use Rattle.sx_replay.specs.Reader.{replay_goal}
 use Rattle.sx_replay.specs.Problem.{IsReplayProblem}
 use Rattle.sx_replay.specs.Following.{IsFollowed}
@@ -64,16 +64,16 @@ module _ (modes : Modes) (rules : List Rule) (hyps : Hypotheses) (moded : AllMod
   abbrev goal : Goal
   goal = record { form = form; terms = terms }
 
-  followed_as : (r : Result (Vec ℕ Global) ReplayError) → IsFollowed modes rules (hyps_in p.pairs.items p.reader hyps.judgements) (replay_goal p.reader form p.terms.items) list new r → IsFollowed modes rules hyps goal list new r
+  followed_as : (r : Result (Vec ℕ Global) ReplayError) → IsFollowed modes rules (replay_hypotheses p.pairs.items p.reader hyps.judgements) (replay_goal p.reader form p.terms.items) list new r → IsFollowed modes rules hyps goal list new r
   followed_as r f =
       subst (λ (ts : List Tree). IsFollowed modes rules hyps (let g : Goal = record { form = form; terms = ts } in g) list new r) h.terms_are
       (subst (λ (ps : List (Tree × Tree)). IsFollowed modes rules (let x : Hypotheses = record { judgements = hyps.judgements; pairs = ps } in x) (replay_goal p.reader form p.terms.items) list new r) h.pairs_are f)
 
-  pub replayed_ok : (outs : Vec ℕ Global) (made : Vec Term Global) → IsFollowed modes rules (hyps_in p.pairs.items p.reader hyps.judgements) (replay_goal p.reader form p.terms.items) list new (Ok outs) →
+  pub replayed_ok : (outs : Vec ℕ Global) (made : Vec Term Global) → IsFollowed modes rules (replay_hypotheses p.pairs.items p.reader hyps.judgements) (replay_goal p.reader form p.terms.items) list new (Ok outs) →
       map tree made.items ≡ map (tree_at (reader_trees new)) outs.items → IsReplayed modes rules hyps goal list (Ok made)
   replayed_ok outs made f e =
       let w = whole_within modes rules hyps moded goal list (map (tree_at (reader_trees new)) outs.items) (followed_as (Ok outs) f) in
       subst (λ (ts : List Tree). IsWithin modes rules hyps goal (whole ts) list) (sym e) w
 
-  pub replayed_err : (err : ReplayError) → IsFollowed modes rules (hyps_in p.pairs.items p.reader hyps.judgements) (replay_goal p.reader form p.terms.items) list new (Err err) → IsReplayed modes rules hyps goal list (Err err)
+  pub replayed_err : (err : ReplayError) → IsFollowed modes rules (replay_hypotheses p.pairs.items p.reader hyps.judgements) (replay_goal p.reader form p.terms.items) list new (Err err) → IsReplayed modes rules hyps goal list (Err err)
   replayed_err err f = refusal_is modes rules hyps moded goal list err (followed_as (Err err) f)

@@ -27,7 +27,7 @@ use Rattle.sx_replay.specs.declared.step.Step.TheVariants.{Clash, Done}
 use Rattle.sx_replay.specs.Machine.{Move, ends, move_when, move_matched, premises_move, hand_on}
 use Rattle.sx_replay.specs.Machine.{given_move, given_named, rule_move, rule_named, entry_move}
 use Rattle.sx_replay.specs.Reader.{reader_trees, reader_envs, stack, IsReplayReader, NamesStay}
-use Rattle.sx_replay.specs.Reader.{ReplayGoesOn, hyps_in, replay_goal, IsReplayStep}
+use Rattle.sx_replay.specs.Reader.{ReplayGoesOn, replay_hypotheses, replay_goal, IsReplayStep}
 use Rattle.sx_replay.specs.Reader.{IsReplayPremises, IsMoved}
 use Rattle.sx_replay.proofs.Readers.{stack_later, grows_then, grows_binds, goes_same, goes_then, goes_grown}
 use Rattle.sx_replay.proofs.Handed.{step_other}
@@ -47,7 +47,7 @@ module _ (modes : Modes) (rules : List Rule) (pairs : List Pair) (s : Reader) (r
   tried_as hyps = rule_move modes hyps rule (replay_goal s form terms) (stack modes rules s) s.noted
 
   abbrev pub matched_as : List Judgement → Option Assignment → Move
-  matched_as js m = move_matched m (λ env. premises_move modes (hyps_in pairs s js) (hand_on modes (hyps_in pairs s js) (stack modes rules s)) (stack modes rules s) rule rule.premises env s.noted)
+  matched_as js m = move_matched m (λ env. premises_move modes (replay_hypotheses pairs s js) (hand_on modes (replay_hypotheses pairs s js) (stack modes rules s)) (stack modes rules s) rule rule.premises env s.noted)
 
   pub rule_other : (rule.conclusion.form ≡ form → ⊥) → IsMoved modes rules pairs s s tried_as Clash
   rule_other d = record {
@@ -62,7 +62,7 @@ module _ (modes : Modes) (rules : List Rule) (pairs : List Pair) (s : Reader) (r
     pub bound_later : NamesStay rules s bound_to
     bound_later = grows_binds rules s bound_to h g refl refl refl
 
-    tried_is : (js : List Judgement) (m : Option Assignment) → match_all (inputs_of modes rule.conclusion) (map (tree_at (reader_trees s)) terms) nothing_bound ≡ m → tried_as (hyps_in pairs s js) ≡ matched_as js m
+    tried_is : (js : List Judgement) (m : Option Assignment) → match_all (inputs_of modes rule.conclusion) (map (tree_at (reader_trees s)) terms) nothing_bound ≡ m → tried_as (replay_hypotheses pairs s js) ≡ matched_as js m
     tried_is js m e =
         ap (λ b. move_when b (matched_as js (match_all (inputs_of modes rule.conclusion) (map (tree_at (reader_trees s)) terms) nothing_bound))) (number_true rule.conclusion.form form same_form)
         ∙ ap (matched_as js) e
@@ -75,32 +75,32 @@ module _ (modes : Modes) (rules : List Rule) (pairs : List Pair) (s : Reader) (r
       pub grown : NamesStay rules s v
       grown = grows_then rules s bound_to v bound_later p.grows
 
-      step_is : (js : List Judgement) → IsReplayStep modes rules s.waiting.items v (hand_on modes (hyps_in pairs s js) (stack modes rules s)) step (tried_as (hyps_in pairs s js))
+      step_is : (js : List Judgement) → IsReplayStep modes rules s.waiting.items v (hand_on modes (replay_hypotheses pairs s js) (stack modes rules s)) step (tried_as (replay_hypotheses pairs s js))
       step_is js =
           let st = stack_later modes rules s bound_to h bound_later.envs refl in
-          let next = hand_on modes (hyps_in pairs s js) (stack modes rules s) in
+          let next = hand_on modes (replay_hypotheses pairs s js) (stack modes rules s) in
           subst (λ (r : Move). IsReplayStep modes rules s.waiting.items v next step r)
-          ((λ i. premises_move modes (hyps_in pairs s js) next (st i) rule rule.premises (env_at (reader_envs bound_to) env) s.noted)
+          ((λ i. premises_move modes (replay_hypotheses pairs s js) next (st i) rule rule.premises (env_at (reader_envs bound_to) env) s.noted)
           ∙ sym (tried_is js (Some (env_at (reader_envs bound_to) env)) m))
           (p.is js next)
 
       pub rule_stop : ((o : Vec ℕ Global) → step ≡ Done o → ⊥) → IsMoved modes rules pairs s v tried_as step
       rule_stop n = record {
         grows = goes_grown rules s v h grown;
-        is = λ js. step_other modes rules s.waiting.items [] v (hand_on modes (hyps_in pairs s js) (stack modes rules s)) ends step (tried_as (hyps_in pairs s js)) n (step_is js);
+        is = λ js. step_other modes rules s.waiting.items [] v (hand_on modes (replay_hypotheses pairs s js) (stack modes rules s)) ends step (tried_as (replay_hypotheses pairs s js)) n (step_is js);
       }
 
       pub rule_done : (outs : Vec ℕ Global) → step ≡ Done outs →
           AreBelow (length (reader_trees v)) outs.items
-          × ((js : List Judgement) → tried_as (hyps_in pairs s js) ≡ hand_on modes (hyps_in pairs v js) (stack modes rules v) (map (tree_at (reader_trees v)) outs.items) v.noted)
+          × ((js : List Judgement) → tried_as (replay_hypotheses pairs s js) ≡ hand_on modes (replay_hypotheses pairs v js) (stack modes rules v) (map (tree_at (reader_trees v)) outs.items) v.noted)
       rule_done outs e =
           let ep : pairs_of (reader_trees v) pairs ≡ pairs_of (reader_trees s) pairs = pairs_stay (reader_trees s) (reader_trees v) grown.trees pairs hp in
           let k = told [] in
           let st = stack_later modes rules s v h grown.envs k.1 in
           (k.0, λ js. (told js).2 ∙ (λ i. hand_on modes (record { judgements = js; pairs = sym ep i }) (sym st i) (map (tree_at (reader_trees v)) outs.items) v.noted))
         where
-          told : (js : List Judgement) → IsReplayStep modes rules s.waiting.items v (hand_on modes (hyps_in pairs s js) (stack modes rules s)) (Done outs) (tried_as (hyps_in pairs s js))
-          told js = subst (λ (x : Step). IsReplayStep modes rules s.waiting.items v (hand_on modes (hyps_in pairs s js) (stack modes rules s)) x (tried_as (hyps_in pairs s js))) e (step_is js)
+          told : (js : List Judgement) → IsReplayStep modes rules s.waiting.items v (hand_on modes (replay_hypotheses pairs s js) (stack modes rules s)) (Done outs) (tried_as (replay_hypotheses pairs s js))
+          told js = subst (λ (x : Step). IsReplayStep modes rules s.waiting.items v (hand_on modes (replay_hypotheses pairs s js) (stack modes rules s)) x (tried_as (replay_hypotheses pairs s js))) e (step_is js)
 
       pub rule_handed : (outs : Vec ℕ Global) → step ≡ Done outs → (w : Reader) (last : Step) →
           IsMoved modes rules pairs v w (λ hyps. hand_on modes hyps (stack modes rules v) (map (tree_at (reader_trees v)) outs.items) v.noted) last → IsMoved modes rules pairs s w tried_as last
@@ -152,7 +152,7 @@ module _ (modes : Modes) (rules : List Rule) (pairs : List Pair) (s : Reader) (j
   pub given_form : (fact.form ≡ form → ⊥) → IsMoved modes rules pairs s s given_as Clash
   given_form d = record {
     grows = goes_same rules s h;
-    is = λ js. given_when false (both_false (nat_eq j.form form) (same_all (inputs_of modes j) (map (tree_at (reader_trees s)) terms)) (number_false j.form form (λ e. d (f.form ∙ e)))) (hyps_in pairs s js);
+    is = λ js. given_when false (both_false (nat_eq j.form form) (same_all (inputs_of modes j) (map (tree_at (reader_trees s)) terms)) (number_false j.form form (λ e. d (f.form ∙ e)))) (replay_hypotheses pairs s js);
   }
 
   pub given_other : (fact.inputs.items ≡ terms → ⊥) → IsMoved modes rules pairs s s given_as Clash
@@ -160,7 +160,7 @@ module _ (modes : Modes) (rules : List Rule) (pairs : List Pair) (s : Reader) (j
       let x = ap (λ us. same_all us (map (tree_at (reader_trees s)) terms)) (sym f.inputs) ∙ numbers_differ (reader_trees s) (distinct s.arena.cells h.arena) fact.inputs.items terms f.inputs_below b d in
       record {
         grows = goes_same rules s h;
-        is = λ js. given_when false (second_false (nat_eq j.form form) (same_all (inputs_of modes j) (map (tree_at (reader_trees s)) terms)) x) (hyps_in pairs s js);
+        is = λ js. given_when false (second_false (nat_eq j.form form) (same_all (inputs_of modes j) (map (tree_at (reader_trees s)) terms)) x) (replay_hypotheses pairs s js);
       }
 
   pub given_handed : fact.form ≡ form → fact.inputs.items ≡ terms → (outs : List ℕ) → outs ≡ fact.outputs.items → (w : Reader) (step : Step) →
@@ -173,7 +173,7 @@ module _ (modes : Modes) (rules : List Rule) (pairs : List Pair) (s : Reader) (j
       record {
         grows = k.grows;
         is = λ js. subst (λ (r : Move). IsReplayStep modes rules [] w ends step r)
-            ((λ i. hand_on modes (hyps_in pairs s js) (stack modes rules s) (m i) s.noted) ∙ sym (given_when true z (hyps_in pairs s js))) (k.is js);
+            ((λ i. hand_on modes (replay_hypotheses pairs s js) (stack modes rules s) (m i) s.noted) ∙ sym (given_when true z (replay_hypotheses pairs s js))) (k.is js);
       }
 
 -- the hypothesis of a fact
@@ -200,7 +200,7 @@ no_rule_at (x ∷ xs) (suc i) e = no_rule_at xs i e
 
 module _ (modes : Modes) (rules : List Rule) (pairs : List Pair) (old new : Reader) (form : ℕ) (terms : List ℕ) (js : List Judgement) (facts : List Fact) (a : AreFacts modes (reader_trees old) js facts) where
   abbrev pub entry_of_old : Entry → Move
-  entry_of_old e = entry_move modes (hyps_in pairs old js) rules e (replay_goal old form terms) (stack modes rules old) old.noted
+  entry_of_old e = entry_move modes (replay_hypotheses pairs old js) rules e (replay_goal old form terms) (stack modes rules old) old.noted
 
   abbrev pub IsEntered : Reader → Step → Entry → Type 0
   IsEntered r step e = ReplayGoesOn rules old r × IsReplayStep modes rules [] r ends step (entry_of_old e)
@@ -210,18 +210,18 @@ module _ (modes : Modes) (rules : List Rule) (pairs : List Pair) (old new : Read
   given_entered i fact step l h =
       let f = fact_at modes (reader_trees old) js facts a i fact l in
       let m = h f.0 f.2 in
-      (m.grows, subst (λ (o : Option Judgement). IsReplayStep modes rules [] new ends step (given_named modes (hyps_in pairs old js) o (replay_goal old form terms) (stack modes rules old) old.noted)) (sym f.1) (m.is js))
+      (m.grows, subst (λ (o : Option Judgement). IsReplayStep modes rules [] new ends step (given_named modes (replay_hypotheses pairs old js) o (replay_goal old form terms) (stack modes rules old) old.noted)) (sym f.1) (m.is js))
 
   pub no_given_entered : IsReplayReader rules old → (i : ℕ) → length facts ≤ i → IsEntered old Clash (of_given i)
   no_given_entered h i l =
       let n = no_fact_at modes (reader_trees old) js facts a i l in
-      (goes_same rules old h, ap (λ (o : Option Judgement). given_named modes (hyps_in pairs old js) o (replay_goal old form terms) (stack modes rules old) old.noted) n)
+      (goes_same rules old h, ap (λ (o : Option Judgement). given_named modes (replay_hypotheses pairs old js) o (replay_goal old form terms) (stack modes rules old) old.noted) n)
 
   pub rule_entered : (r : ℕ) (rule : Rule) (step : Step) → slice_get rules r ≡ Some rule →
       IsMoved modes rules pairs old new (λ hyps. rule_move modes hyps rule (replay_goal old form terms) (stack modes rules old) old.noted) step → IsEntered new step (of_rule r)
   rule_entered r rule step found m =
-      (m.grows, subst (λ (o : Option Rule). IsReplayStep modes rules [] new ends step (rule_named modes (hyps_in pairs old js) o (replay_goal old form terms) (stack modes rules old) old.noted)) (sym found) (m.is js))
+      (m.grows, subst (λ (o : Option Rule). IsReplayStep modes rules [] new ends step (rule_named modes (replay_hypotheses pairs old js) o (replay_goal old form terms) (stack modes rules old) old.noted)) (sym found) (m.is js))
 
   pub no_rule_entered : IsReplayReader rules old → (r : ℕ) → slice_get rules r ≡ None → IsEntered old Clash (of_rule r)
   no_rule_entered h r n =
-      (goes_same rules old h, ap (λ (o : Option Rule). rule_named modes (hyps_in pairs old js) o (replay_goal old form terms) (stack modes rules old) old.noted) n)
+      (goes_same rules old h, ap (λ (o : Option Rule). rule_named modes (replay_hypotheses pairs old js) o (replay_goal old form terms) (stack modes rules old) old.noted) n)

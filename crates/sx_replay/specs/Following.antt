@@ -14,7 +14,7 @@ use Rattle.sx_replay.specs.declared.replay_error.ReplayError.TheVariants.{Memory
 use Rattle.sx_replay.specs.declared.replay_error.ReplayError.TheVariants.{EndsEarly, LongList}
 use Rattle.sx_replay.specs.declared.replay_error.ReplayError.TheVariants.{TooDeep, TooBig, DeepList}
 use Rattle.sx_replay.specs.Limits.{nothing_noted}
-use Rattle.sx_replay.specs.Machine.{Frame, asks, Reading, wrong, open_at, ended, read}
+use Rattle.sx_replay.specs.Machine.{ReplayFrame, asks, ReplayReading, wrong, open_at, ended, read}
 use Rattle.sx_replay.specs.Reader.{reader_trees}
 use Rattle.sx_rules.specs.Limits.{most_levels}
 
@@ -33,12 +33,12 @@ IsEntryChecked level n number (Err (LongList k)) = ⊥
 
 module _ (modes : Modes) (rules : List Rule) (hyps : Hypotheses) (goal : Goal) where
   -- where reading the list from the first goal on stands
-  abbrev pub reading : List Entry → Reading
+  abbrev pub reading : List Entry → ReplayReading
   reading list = read modes rules hyps list 0 (asks goal [] nothing_noted)
 
   -- at a goal, within the limits
   abbrev pub StandsOpen : List Entry → Type 0
-  StandsOpen list = (g : Goal) × (fs : List Frame) × (d : ℕ) ×
+  StandsOpen list = (g : Goal) × (fs : List ReplayFrame) × (d : ℕ) ×
       (reading list ≡ open_at g fs nothing_noted d) × (d ≤ most_levels)
 
   -- at the end of a derivation, within the limits
@@ -49,7 +49,7 @@ module _ (modes : Modes) (rules : List Rule) (hyps : Hypotheses) (goal : Goal) w
   -- at a goal or at the end of a derivation, with this noted and this depth
   abbrev pub StandsAt : List Entry → Noted → ℕ → Type 0
   StandsAt list n d =
-      ((g : Goal) × (fs : List Frame) × (reading list ≡ open_at g fs n d)) ⊎
+      ((g : Goal) × (fs : List ReplayFrame) × (reading list ≡ open_at g fs n d)) ⊎
       ((outs : List Tree) × (reading list ≡ ended outs n d []))
 
   -- the entries before number k stand at a goal

@@ -39,14 +39,14 @@ concluded_of modes None s = []
 concluded_of modes (Some rule) s = outputs_of modes (judgement_instance s rule.conclusion)
 
 -- the bindings under which the inputs of a rule's conclusion are the goal's
-abbrev pub rule_match : Modes → Rule → Goal → Option Assignment
-rule_match modes rule goal = match_when (nat_eq rule.conclusion.form goal.form)
+abbrev pub entry_match : Modes → Rule → Goal → Option Assignment
+entry_match modes rule goal = match_when (nat_eq rule.conclusion.form goal.form)
     (match_all (inputs_of modes rule.conclusion) goal.terms nothing_bound)
 
 -- how far a derivation is: with goals left, or whole, with its outputs
-pub data Stage : Type 0 where
-  open_one : Stage
-  whole : List Tree → Stage
+pub data DerivationStage : Type 0 where
+  open_one : DerivationStage
+  whole : List Tree → DerivationStage
 
 module _ (modes : Modes) (rules : List Rule) where
   -- the terms that a derivation makes, in this order: for each judgement among the premises its
@@ -88,7 +88,7 @@ module _ (modes : Modes) (rules : List Rule) where
     IsBegun unbegun goal terms = terms ≡ []
     IsBegun (begun r kids f) goal terms =
         (rule : Rule) × (slice_get rules r ≡ Some rule)
-        × ((env : Assignment) × (rule_match modes rule goal ≡ Some env)
+        × ((env : Assignment) × (entry_match modes rule goal ≡ Some env)
         × ((j : Judgement) × (ps : List Premise) × (last : Assignment) × (before : List Tree) ×
         (after : List Tree)
         × ArePassed rule.premises env kids before (holds j ∷ ps) last
@@ -97,7 +97,7 @@ module _ (modes : Modes) (rules : List Rule) where
 
     -- the list is that of a derivation of the goal at this stage, which makes these terms, with
     -- entries down to this depth
-    abbrev pub IsFront : Goal → Stage → List Entry → List Tree → ℕ → Type 0
+    abbrev pub IsFront : Goal → DerivationStage → List Entry → List Tree → ℕ → Type 0
     IsFront goal open_one list terms depth =
         (f : Partial) × IsBegun f goal terms × (partial_order f ≡ list) × (partial_height f ≡ depth)
     IsFront goal (whole outs) list terms depth =

@@ -12,7 +12,7 @@ use Rattle.sx_rules.specs.Orders.{Entry, order_of}
 use Rattle.sx_replay.specs.declared.replay_error.ReplayError.{ReplayError}
 use Rattle.sx_replay.specs.declared.replay_error.ReplayError.TheVariants.{Memory}
 use Rattle.sx_replay.specs.Limits.{first_deep, first_big}
-use Rattle.sx_replay.specs.Fronts.{Stage, open_one, made_in, IsFront}
+use Rattle.sx_replay.specs.Fronts.{DerivationStage, open_one, made_in, IsFront}
 use Rattle.sx_replay.specs.Replay.{IsWithin, IsReplayAnswer, IsReplayed}
 use Rattle.sx_rules.specs.Limits.{most_levels}
 
@@ -21,7 +21,7 @@ use Rattle.sx_rules.specs.Limits.{most_levels}
 abbrev pub FrontsAreAlone : Type 0
 FrontsAreAlone =
     (modes : Modes) (rules : List Rule) (hyps : Hypotheses) → AllModed modes rules →
-    (goal : Goal) (list : List Entry) (one other : Stage) (terms others : List Tree)
+    (goal : Goal) (list : List Entry) (one other : DerivationStage) (terms others : List Tree)
     (depth level : ℕ) →
     IsFront modes rules hyps goal one list terms depth →
     IsFront modes rules hyps goal other list others level →
@@ -33,7 +33,8 @@ FrontsAreAlone =
 abbrev pub BeginningsAreWithin : Type 0
 BeginningsAreWithin =
     (modes : Modes) (rules : List Rule) (hyps : Hypotheses) → AllModed modes rules →
-    (goal : Goal) (stage : Stage) (front : List Entry) (next : Entry) (rest : List Entry) →
+    (goal : Goal) (stage : DerivationStage) (front : List Entry) (next : Entry)
+    (rest : List Entry) →
     IsWithin modes rules hyps goal stage (front ++ (next ∷ rest)) →
     IsWithin modes rules hyps goal open_one front
 

@@ -19,7 +19,7 @@ use Rattle.sx_replay.specs.declared.noted.Noted.{Noted}
 use Rattle.sx_replay.specs.declared.step.Step.{Step}
 use Rattle.sx_replay.specs.declared.step.Step.TheVariants.{Clash, Done, Asks}
 use Rattle.sx_replay.specs.Limits.{note}
-use Rattle.sx_replay.specs.Machine.{Frame, Move, clash, ends, asks, premises_move, hand_on}
+use Rattle.sx_replay.specs.Machine.{ReplayFrame, Move, clash, ends, asks, premises_move, hand_on}
 
 -- the terms and the assignments by their numbers
 abbrev pub reader_trees : Reader → List Tree
@@ -33,36 +33,38 @@ abbrev pub base_trees : Reader → List Tree
 base_trees r = take r.base (trees r.arena)
 
 -- the frame that a waiting rule stands for
-abbrev pub patterns_of : Modes → Option Premise → List Tree
-patterns_of modes None = []
-patterns_of modes (Some (holds j)) = outputs_of modes j
-patterns_of modes (Some (apart t u)) = []
+abbrev pub replay_patterns : Modes → Option Premise → List Tree
+replay_patterns modes None = []
+replay_patterns modes (Some (holds j)) = outputs_of modes j
+replay_patterns modes (Some (apart t u)) = []
 
-abbrev pub no_rule : Rule
-no_rule = record { sorts = []; premises = []; conclusion = record { form = 0; places = [] } }
+abbrev pub no_replay_rule : Rule
+no_replay_rule = record { sorts = []; premises = []; conclusion = record { form = 0; places = [] } }
 
-abbrev pub frame_at_rule : Modes → List Assignment → Rule → Waiting → Frame
-frame_at_rule modes es rule c = record {
+abbrev pub replay_frame_at : Modes → List Assignment → Rule → Waiting → ReplayFrame
+replay_frame_at modes es rule c = record {
   rule = rule;
   rest = drop (c.premise + 1) rule.premises;
-  patterns = patterns_of modes (slice_get rule.premises c.premise);
+  patterns = replay_patterns modes (slice_get rule.premises c.premise);
   env = env_at es c.env;
 }
 
-abbrev pub frame_of : Modes → List Rule → List Assignment → Waiting → Frame
-frame_of modes rules es c = frame_at_rule modes es (get_or rules c.rule no_rule) c
+abbrev pub replay_frame_of : Modes → List Rule → List Assignment → Waiting → ReplayFrame
+replay_frame_of modes rules es c = replay_frame_at modes es (get_or rules c.rule no_replay_rule) c
 
 -- the frames of the waiting rules, the last rule's first
-abbrev pub stack_on : Modes → List Rule → List Assignment → List Frame → List Waiting → List Frame
+abbrev pub stack_on : Modes → List Rule → List Assignment → List ReplayFrame → List Waiting →
+    List ReplayFrame
 stack_on modes rules es fs [] = fs
-stack_on modes rules es fs (c ∷ cs) = stack_on modes rules es (frame_of modes rules es c ∷ fs) cs
+stack_on modes rules es fs (c ∷ cs) = stack_on modes rules es
+    (replay_frame_of modes rules es c ∷ fs) cs
 
-abbrev pub stack : Modes → List Rule → Reader → List Frame
+abbrev pub stack : Modes → List Rule → Reader → List ReplayFrame
 stack modes rules r = stack_on modes rules (reader_envs r) [] r.waiting.items
 
 -- the rule is there, and waits at a judgement premise, with bindings that were there when it began
 -- to wait
-pub record WaitsAt (rules : List Rule) (n : ℕ) (c : Waiting) : Type 0 where
+pub record WaitsInReader (rules : List Rule) (n : ℕ) (c : Waiting) : Type 0 where
   pub rule : Rule
   pub judgement : Judgement
   pub found : slice_get rules c.rule ≡ Some rule
@@ -77,7 +79,7 @@ AreLater m (c ∷ cs) = (m ≤ c.mark) × AreLater m cs
 
 abbrev pub AreWaiting : List Rule → ℕ → List Waiting → Type 0
 AreWaiting rules n [] = Unit {0}
-AreWaiting rules n (c ∷ cs) = WaitsAt rules n c × (AreLater c.mark cs × AreWaiting rules n cs)
+AreWaiting rules n (c ∷ cs) = WaitsInReader rules n c × (AreLater c.mark cs × AreWaiting rules n cs)
 
 -- the bindings are to the first terms, so many
 abbrev pub AreTo : ℕ → List Bind → Type 0
@@ -124,8 +126,8 @@ pub record AreTermsMade (old new : Reader) (ts : List Tree) (is : List ℕ) : Ty
   pub noted : new.noted ≡ note old.noted ts
 
 -- the hypotheses, with the pairs by their numbers
-abbrev pub hyps_in : List Pair → Reader → List Judgement → Hypotheses
-hyps_in pairs r js = record { judgements = js; pairs = pairs_of (reader_trees r) pairs }
+abbrev pub replay_hypotheses : List Pair → Reader → List Judgement → Hypotheses
+replay_hypotheses pairs r js = record { judgements = js; pairs = pairs_of (reader_trees r) pairs }
 
 -- a goal by its numbers
 abbrev pub replay_goal : Reader → ℕ → List ℕ → Goal
@@ -151,7 +153,7 @@ pub record IsReplayPremises (modes : Modes) (rules : List Rule) (pairs : List Pa
   pub grows : NamesStay rules old new
   pub is : (js : List Judgement) (next : List Tree → Noted → Move) →
       IsReplayStep modes rules old.waiting.items new next step
-      (premises_move modes (hyps_in pairs old js) next (stack modes rules old) rule ps
+      (premises_move modes (replay_hypotheses pairs old js) next (stack modes rules old) rule ps
       (env_at (reader_envs old) env) old.noted)
 
 -- what comes of the outputs at a rule that waits for them
@@ -161,8 +163,9 @@ pub record IsReplayResumed (modes : Modes) (rules : List Rule) (pairs : List Pai
   pub grows : NamesStay rules old new
   pub is : (js : List Judgement) →
       IsReplayStep modes rules old.waiting.items new
-      (hand_on modes (hyps_in pairs old js) (stack modes rules old)) step
-      (hand_on modes (hyps_in pairs old js) (frame_of modes rules (reader_envs old) c ∷
+      (hand_on modes (replay_hypotheses pairs old js) (stack modes rules old)) step
+      (hand_on modes (replay_hypotheses pairs old js)
+      (replay_frame_of modes rules (reader_envs old) c ∷
       stack modes rules old) (map (tree_at (reader_trees old)) outs) old.noted)
 
 -- what comes of a candidate, or of outputs handed on, is the machine's move
@@ -170,4 +173,4 @@ pub record IsMoved (modes : Modes) (rules : List Rule) (pairs : List Pair) (old 
     (move : Hypotheses → Move) (step : Step) : Type 0 where
   pub grows : ReplayGoesOn rules old new
   pub is : (js : List Judgement) → IsReplayStep modes rules [] new ends step (move
-      (hyps_in pairs old js))
+      (replay_hypotheses pairs old js))

@@ -13,12 +13,12 @@ use Rattle.sx_replay.specs.declared.replay_error.ReplayError.TheVariants.{Memory
 use Rattle.sx_replay.specs.declared.replay_error.ReplayError.TheVariants.{EndsEarly, LongList}
 use Rattle.sx_replay.specs.declared.replay_error.ReplayError.TheVariants.{TooDeep, TooBig, DeepList}
 use Rattle.sx_replay.specs.Limits.{first_deep, first_big}
-use Rattle.sx_replay.specs.Fronts.{Stage, open_one, whole, IsFront}
+use Rattle.sx_replay.specs.Fronts.{DerivationStage, open_one, whole, IsFront}
 use Rattle.sx_rules.specs.Limits.{most_levels}
 
 module _ (modes : Modes) (rules : List Rule) (hyps : Hypotheses) (goal : Goal) where
   -- no term passes a limit, and no entry stands deeper than 3,000
-  pub record IsWithin (stage : Stage) (list : List Entry) : Type 0 where
+  pub record IsWithin (stage : DerivationStage) (list : List Entry) : Type 0 where
     pub terms : List Tree
     pub depth : ℕ
     pub front : IsFront modes rules hyps goal stage list terms depth
@@ -36,7 +36,7 @@ module _ (modes : Modes) (rules : List Rule) (hyps : Hypotheses) (goal : Goal) w
   -- and entry k fits: with it there are these terms and this depth
   pub record IsFitting (list : List Entry) (k : ℕ) (terms : List Tree) (depth : ℕ) : Type 0 where
     pub reached : IsReached list k
-    pub stage : Stage
+    pub stage : DerivationStage
     pub front : IsFront modes rules hyps goal stage (take k list) terms depth
 
   -- the answer: the outputs of the derivation that has this list, or else what is wrong at the
@@ -45,7 +45,7 @@ module _ (modes : Modes) (rules : List Rule) (hyps : Hypotheses) (goal : Goal) w
   IsReplayAnswer list (Ok outs) = IsWithin (whole outs) list
   IsReplayAnswer list (Err Memory) = Unit {0}
   IsReplayAnswer list (Err (WrongAt k)) =
-      IsReached list k × ((stage : Stage) (terms : List Tree) (depth : ℕ) →
+      IsReached list k × ((stage : DerivationStage) (terms : List Tree) (depth : ℕ) →
       IsFront modes rules hyps goal stage (take k list) terms depth → ⊥)
   IsReplayAnswer list (Err EndsEarly) = IsWithin open_one list
   IsReplayAnswer list (Err (LongList k)) = (1 ≤ k) × (k ≤ length list) ×

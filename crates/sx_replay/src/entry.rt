@@ -11,7 +11,8 @@ ghost use Rattle.sx_arena.specs.Views.{rules_of, set_modes, rule_of};
 ghost use Rattle.std.specs.Prelude.{List, []};
 ghost use Rattle.sx_replay.specs.Machine.{rule_move, given_move, entry_move, ends};
 ghost use Rattle.sx_replay.specs.Reader.{IsReplayReader, IsMoved, reader_trees, base_trees, stack};
-ghost use Rattle.sx_replay.specs.Reader.{replay_goal, hyps_in, IsReplayStep, ReplayGoesOn};
+ghost use Rattle.sx_replay.specs.Reader.{replay_goal, replay_hypotheses, IsReplayStep};
+ghost use Rattle.sx_replay.specs.Reader.{ReplayGoesOn};
 
 use crate::given::Given;
 use crate::handing::hand_on;
@@ -110,7 +111,8 @@ pub(crate) fn try_entry(
         × IsReplayStep (set_modes given.now.rules.now) (rules_of given.now.rules.now) [] reader.new
         ends
         step
-        (entry_move (set_modes given.now.rules.now) (hyps_in given.now.pairs.now reader.old js)
+        (entry_move (set_modes given.now.rules.now)
+        (replay_hypotheses given.now.pairs.now reader.old js)
         (rules_of given.now.rules.now)
         (entry_of entry) (replay_goal reader.old form terms.now)
         (stack (set_modes given.now.rules.now) (rules_of given.now.rules.now) reader.old)

@@ -12,7 +12,7 @@ ghost use Rattle.sx_arena.specs.Views.{rules_of, set_modes};
 ghost use Rattle.sx_replay.specs.Limits.{nothing_noted};
 ghost use Rattle.sx_replay.specs.Following.{IsEntryChecked, IsFollowed};
 ghost use Rattle.sx_replay.specs.Reader.{IsReplayReader, reader_trees, base_trees, replay_goal};
-ghost use Rattle.sx_replay.specs.Reader.{hyps_in};
+ghost use Rattle.sx_replay.specs.Reader.{replay_hypotheses};
 
 use crate::entry::try_entry;
 use crate::given::Given;
@@ -72,7 +72,7 @@ pub(crate) fn follow(
     ensures within { IfOk result (λ outs. AreBelow (length (reader_trees reader.new)) outs.items) }
     ensures followed { (js : List Judgement) →
         AreFacts (set_modes given.now.rules.now) (base_trees reader.old) js given.now.facts.now →
-        IsFollowed (set_modes given.now.rules.now) (rules_of given.now.rules.now) (hyps_in
+        IsFollowed (set_modes given.now.rules.now) (rules_of given.now.rules.now) (replay_hypotheses
         given.now.pairs.now reader.old js)
         (replay_goal reader.old form terms.items) (entries list.now) reader.new result }
 {

@@ -6,7 +6,7 @@ ghost use Rattle.sx_arena.specs.Arena.{tree_at, AreBelow};
 ghost use Rattle.sx_arena.specs.Pairs.{ArePairs};
 ghost use Rattle.sx_arena.specs.Views.{rules_of, set_modes};
 ghost use Rattle.sx_replay.specs.Machine.{hand_on as handed};
-ghost use Rattle.sx_replay.specs.Reader.{IsReplayReader, WaitsAt, IsReplayResumed, IsMoved};
+ghost use Rattle.sx_replay.specs.Reader.{IsReplayReader, WaitsInReader, IsReplayResumed, IsMoved};
 ghost use Rattle.sx_replay.specs.Reader.{reader_trees};
 ghost use Rattle.sx_replay.specs.Reader.{base_trees, stack};
 
@@ -28,7 +28,8 @@ fn resume(
     requires shallow { RulesAreShallow (rules_of given.now.rules.now) }
     requires reader { IsReplayReader (rules_of given.now.rules.now) reader.old }
     requires pairs { ArePairs (length (reader_trees reader.old)) given.now.pairs.now }
-    requires waits { WaitsAt (rules_of given.now.rules.now) (length reader.old.binds.cells.items)
+    requires waits { WaitsInReader (rules_of given.now.rules.now)
+        (length reader.old.binds.cells.items)
         waiting }
     requires outputs { AreBelow (length (reader_trees reader.old)) outputs.now }
     ensures { IfOk result (λ step. IsReplayResumed (set_modes given.now.rules.now)

@@ -9,7 +9,7 @@ use Rattle.sx_rewrite.specs.declared.flat.Flat.{Flat}
 use Rattle.sx_rewrite.specs.Accepted.{ExtRule, Checked, checked, rule_in, Accepted, extended_rules}
 use Rattle.sx_rewrite.specs.Accepted.{IsAccepted}
 use Rattle.sx_rewrite.specs.Sound.{AreSoundBy}
-use Rattle.sx_rewrite.specs.Extensions.{Extension, with_table, extended, FitsRules}
+use Rattle.sx_rewrite.specs.Extensions.{StoredExtension, with_table, extended, FitsRules}
 use Rattle.sx_rewrite.specs.Extensions.{without_extensions, HasGrownSoundly}
 use Rattle.sx_rewrite.specs.Stored.{checked_with, checked_of, accepted_from, signature_of}
 use Rattle.sx_rewrite.specs.Stored.{IsSetHeld}
@@ -51,7 +51,7 @@ module _ (base old new : List Rule) (table : Table) (flats : List Flat) (first :
   abbrev pub before : Accepted
   before = accepted_from base old table flats
 
-  abbrev pub extension : Extension
+  abbrev pub extension : StoredExtension
   extension = record { rules = exts; stored = checked_of rules more; table = ext_table }
 
   pub added-as : accepted_from base new ext_table all_flats ≡ extended before extension

@@ -5,7 +5,7 @@ use Rattle.std.proofs.lemmas.Bool.{ltb-false}
 use Rattle.sx_term.specs.Tree.{Tree, depth_of, size_of}
 use Rattle.sx_plain.specs.declared.measure.Measure.{Measure}
 use Rattle.sx_rewrite.specs.declared.rewrite_error.RewriteError.{RewriteError}
-use Rattle.sx_rewrite.specs.Rewriting.{Refusal, too_deep, too_big, first_over}
+use Rattle.sx_rewrite.specs.Rewriting.{RewriteRefusal, too_deep, too_big, first_over}
 use Rattle.sx_rewrite.specs.Puts.{IsMeasureOf, AreMeasuresOf, IsSmallTerm, AreMadeOf, IsLimited}
 use Rattle.sx_rewrite.specs.Puts.{Tells}
 use Rattle.sx_rewrite.proofs.Puts.{over-none, limited-small, limited-tells}
@@ -39,7 +39,7 @@ module _ (ms : List Measure) (i : ℕ) (so : (ts : List Tree) → AreMeasuresOf 
     pub measures-tell : (e : RewriteError) → IsLimited (get_or ms i d) (Err e) → (ts : List Tree) → AreMeasuresOf ts ms → Tells (first_over ts) e
     measures-tell e l ts h =
         let r = is-at ts ms i d h within in
-        subst (λ (o : Option Refusal). Tells o e) (sym (so ts h ∙ ap first_over r.from)) (limited-tells r.term (drop (i + 1) ts) (get_or ms i d) e l r.is)
+        subst (λ (o : Option RewriteRefusal). Tells o e) (sym (so ts h ∙ ap first_over r.from)) (limited-tells r.term (drop (i + 1) ts) (get_or ms i d) e l r.is)
 
     pub measures-step : ((get_or ms i d).depth ≤ 1000) × ((get_or ms i d).size ≤ 1000000) → (ts : List Tree) → AreMeasuresOf ts ms → first_over ts ≡ first_over (drop (i + 1) ts)
     measures-step small ts h =

@@ -18,7 +18,7 @@ use Rattle.sx_plain.specs.PartMeasures.{depths_of, sizes_of}
 use Rattle.sx_plain.proofs.Measured.{sat}
 use Rattle.sx_rewrite.specs.declared.put_terms.PutTerms.{PutTerms}
 use Rattle.sx_rewrite.specs.declared.rewrite_error.RewriteError.{RewriteError}
-use Rattle.sx_rewrite.specs.Rewriting.{Refusal, first_over}
+use Rattle.sx_rewrite.specs.Rewriting.{RewriteRefusal, first_over}
 use Rattle.sx_rewrite.specs.Puts.{IsMeasureOf, AreMeasuresOf, IsSmallTerm, IsLimited, Tells}
 use Rattle.sx_rewrite.specs.Put.{ArePut}
 use Rattle.sx_rewrite.proofs.Puts.{put-depth, put-size, put-made, over-none, limited-small, limited-tells}
@@ -110,7 +110,7 @@ module _ (s : ℕ → Tree) (ts : List Term) (i : ℕ) (k : Term) (within : i < 
   pub here-tells : (m : Measure) (e : RewriteError) → first_over (map (instance s) (map tree ts)) ≡ first_over (map (instance s) (drop i (map tree ts))) →
       IsLimited m (Err e) → IsMeasureOf (instance s (tree k)) m → Tells (first_over (map (instance s) (map tree ts))) e
   here-tells m e over l is =
-      subst (λ (o : Option Refusal). Tells o e) (sym (over ∙ ap first_over here)) (limited-tells (instance s (tree k)) (map (instance s) (drop (i + 1) (map tree ts))) m e l is)
+      subst (λ (o : Option RewriteRefusal). Tells o e) (sym (over ∙ ap first_over here)) (limited-tells (instance s (tree k)) (map (instance s) (drop (i + 1) (map tree ts))) m e l is)
 
   pub here-passes : first_over (map (instance s) (map tree ts)) ≡ first_over (map (instance s) (drop i (map tree ts))) → IsSmallTerm (instance s (tree k)) →
       first_over (map (instance s) (map tree ts)) ≡ first_over (map (instance s) (drop (i + 1) (map tree ts)))

@@ -17,7 +17,7 @@ use Rattle.sx_rewrite.specs.declared.rewrite_error.RewriteError.{RewriteError}
 use Rattle.sx_rewrite.specs.declared.rewrite_error.RewriteError.TheVariants.{Memory}
 use Rattle.sx_rewrite.specs.Givens.{givens_of, givens_of_all, numbered, all_numbered}
 use Rattle.sx_rewrite.specs.Measured.{node_terms, certificate_terms, certificate_terms_of}
-use Rattle.sx_rewrite.specs.Rewriting.{Refusal, first_over}
+use Rattle.sx_rewrite.specs.Rewriting.{RewriteRefusal, first_over}
 use Rattle.sx_rewrite.specs.Puts.{Tells, Answers}
 use Rattle.sx_rewrite.specs.Put.{ArePut}
 use Rattle.sx_rewrite.proofs.Puts.{over-left, over-right}
@@ -87,7 +87,7 @@ module _ (rules : List Rule) (puts : PutTerms) (kids : List (Box ProofOf Global)
     pub kids-tell : (e : RewriteError) (more : List Tree) → ArePut more puts → Tells (first_over (certificate_terms rules (bound_by more) (proof p))) e → Tells (first_over (certificate_terms_of rules (bound_by more) (boxed kids))) e
     kids-tell e more q t =
         let a = over-left (certificate_terms rules (bound_by more) (proof p)) (certificate_terms_of rules (bound_by more) (boxed (drop (i + 1) kids))) e t in
-        subst (λ (o : Option Refusal). Tells o e) (sym ((so.goes more q).over ∙ ap (λ (x : Proofs). first_over (certificate_terms_of rules (bound_by more) x)) here)) a
+        subst (λ (o : Option RewriteRefusal). Tells o e) (sym ((so.goes more q).over ∙ ap (λ (x : Proofs). first_over (certificate_terms_of rules (bound_by more) x)) here)) a
 
     -- or it is made
     pub kids-step : (new : Box ProofOf Global) (then : List ℕ) → then ≡ now ++ givens_of (proof p) →
@@ -164,7 +164,7 @@ module _ (p : ProofOf) (rule : ℕ) (binds : Vec Term Global) (kids : Vec (Box P
         Tells (first_over (certificate_terms rules s (proof p))) e
     later-tells e n h =
         subst (λ (q : Proof). Tells (first_over (certificate_terms rules s q)) e) (sym node-view)
-        (subst (λ (o : Option Refusal). Tells o e) (sym (over-right own (certificate_terms_of rules s (boxed parts)) n)) h)
+        (subst (λ (o : Option RewriteRefusal). Tells o e) (sym (over-right own (certificate_terms_of rules s (boxed parts)) n)) h)
 
     pub node-answers : (n : ℕ) (made : List Tree) (new : Proofs) (result : Result (Box ProofOf Global) RewriteError) →
         (first_over (node_terms (slice_get rules rule) (map (instance s) (map tree terms))) ≡ None) × (made ≡ map (instance s) (map tree terms)) →

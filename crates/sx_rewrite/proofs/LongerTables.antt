@@ -21,7 +21,7 @@ use Rattle.sx_rewrite.specs.Lowers.{AreLoweredBinds, LowersTo, Lowers, LowersEac
 use Rattle.sx_rewrite.specs.Measured.{Measures, MeasuresEach, terms_at}
 use Rattle.sx_rewrite.specs.PlainRules.{plain_checked}
 use Rattle.sx_rewrite.specs.RewrittenView.{rewritten, IsRewriting}
-use Rattle.sx_rewrite.specs.Rewriting.{Refusal, spent, deep, too_deep, too_big, Rewritten, FirstOver, IsRewritten}
+use Rattle.sx_rewrite.specs.Rewriting.{RewriteRefusal, spent, deep, too_deep, too_big, Rewritten, FirstOver, IsRewritten}
 use Rattle.sx_rewrite.specs.Used.{lowered_nodes, lowered_nodes_of, lowered_height, lowered_heights_of, nodes_at, height_at}
 use Rattle.sx_rewrite.proofs.Growing.{same-image, same-flat, sorted-more}
 use Rattle.sx_rewrite.proofs.Known.{rule-at, sorted-at}
@@ -150,14 +150,14 @@ module _ (shapes : List Shape) (forms : FormSorts) (subjects : Modes) (a : Accep
 
   -- what rewriting answers
   module _ (p : Proof) (is_sorted : ProofIsSorted shapes (extended_rules a) vars p) (budget : ℕ) where
-    over-alike : (o : Option Refusal) → FirstOver a subjects hyps p budget o → FirstOver after subjects hyps p budget o
+    over-alike : (o : Option RewriteRefusal) → FirstOver a subjects hyps p budget o → FirstOver after subjects hyps p budget o
     over-alike o (n, h, (ts, m, e)) = (
       subst (λ (x : ℕ). x ≤ budget) (sym (nodes a table p)) n,
       subst (λ (x : ℕ). x ≤ 3000) (sym (height a table p)) h,
       (ts, measures-alike p ts is_sorted m, e),
     )
 
-    rewritten-alike : (answer : Result Rewritten Refusal) → IsRewritten a subjects hyps p budget answer → IsRewritten after subjects hyps p budget answer
+    rewritten-alike : (answer : Result Rewritten RewriteRefusal) → IsRewritten a subjects hyps p budget answer → IsRewritten after subjects hyps p budget answer
     rewritten-alike (Ok x) h = (
       lowers-alike p x.proof x.judgement is_sorted h.0,
       h.1 ∙ ap (λ (n : ℕ). min n (2 ^ 64 - 1)) (sym (copies a table p)),

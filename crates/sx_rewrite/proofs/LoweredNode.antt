@@ -27,7 +27,7 @@ use Rattle.sx_rewrite.specs.Used.{SubjectsWhereUsed, AreUsedBinds}
 use Rattle.sx_rewrite.specs.LoweredSizes.{proof_count}
 use Rattle.sx_rewrite.specs.Measured.{is_used, node_terms, certificate_terms, certificate_terms_of}
 use Rattle.sx_rewrite.specs.Measured.{used_terms, all_terms, terms_at, Measures, MeasuresEach}
-use Rattle.sx_rewrite.specs.Rewriting.{Refusal, first_over}
+use Rattle.sx_rewrite.specs.Rewriting.{RewriteRefusal, first_over}
 use Rattle.sx_rewrite.specs.Puts.{Tells}
 use Rattle.sx_rewrite.specs.PutImages.{image_for, images_for}
 use Rattle.sx_rewrite.specs.PutSubjects.{ArePutBelow}
@@ -337,4 +337,4 @@ module _ (sig : Signature) (base shapes : List Shape) (a : Accepted) (ok : IsAcc
     node-lowers q e none = record { lowered = λ o k l. e ∙ node-proof o k l; small = λ ts m. node-terms ts m ∙ none }
 
     pub node-refuses : (e : RewriteError) → Tells (first_over (own_terms a known r more)) e → IsLoweringRefused a sig.subjects hyps (by r binds kids) e
-    node-refuses e h ts m = subst (λ (o : Option Refusal). Tells o e) (sym (node-terms ts m)) h
+    node-refuses e h ts m = subst (λ (o : Option RewriteRefusal). Tells o e) (sym (node-terms ts m)) h

@@ -11,7 +11,7 @@ use Rattle.sx_rewrite.specs.declared.rewrite_error.RewriteError.{RewriteError}
 use Rattle.sx_rewrite.specs.Accepted.{Accepted}
 use Rattle.sx_rewrite.specs.LoweredSizes.{proof_count}
 use Rattle.sx_rewrite.specs.Measured.{Measures, MeasuresEach}
-use Rattle.sx_rewrite.specs.Rewriting.{Refusal, first_over}
+use Rattle.sx_rewrite.specs.Rewriting.{RewriteRefusal, first_over}
 use Rattle.sx_rewrite.specs.Puts.{Tells}
 use Rattle.sx_rewrite.specs.Lowering.{IsLoweredTo, AreLoweredTo, AreRefused, needed_terms}
 use Rattle.sx_rewrite.specs.Lowering.{IsKidLowered, IsKidRefused}
@@ -47,7 +47,7 @@ module _ (a : Accepted) (subjects : Modes) (hyps : Hypotheses) where
       let z : n + suc i ≡ n + 1 + i = omega arith in
       let rest = refused-at need e (n + 1) ps qs i p tss (omega (arith, m)) (λ l y w c b d. f (suc l) y w (let v : n + suc l ≡ n + 1 + l = omega arith in ap need v ∙ c) b d) g
       (subst (λ (l : ℕ). IsKidRefused a subjects hyps (need l) p e) z k) h.1 in
-      subst (λ (o : Option Refusal). Tells o e) (sym (over-right (if need n then ts else []) (needed_terms need (n + 1) tss) (here (need n) refl))) rest
+      subst (λ (o : Option RewriteRefusal). Tells o e) (sym (over-right (if need n then ts else []) (needed_terms need (n + 1) tss) (here (need n) refl))) rest
     where
       here : (b : Bool) → need n ≡ b → first_over (if b then ts else []) ≡ None
       here true c = (f 0 x q (let v : n + 0 ≡ n = omega arith in ap need v ∙ c) refl refl).small ts h.0

@@ -20,7 +20,7 @@ use Rattle.sx_rewrite.specs.declared.rewrite_error.RewriteError.TheVariants.{Too
 use Rattle.sx_rules.specs.Rules.{Rule}
 use Rattle.sx_rewrite.specs.Measured.{node_terms}
 use Rattle.sx_rewrite.specs.Put.{conclusion_terms}
-use Rattle.sx_rewrite.specs.Rewriting.{Refusal, too_deep, too_big, first_over}
+use Rattle.sx_rewrite.specs.Rewriting.{RewriteRefusal, too_deep, too_big, first_over}
 use Rattle.sx_rewrite.specs.Puts.{IsMeasureOf, AreMeasuresOf, IsSmallTerm, AreMadeOf, IsLimited}
 use Rattle.sx_rewrite.specs.Puts.{Tells}
 
@@ -123,12 +123,12 @@ limited-tells t ts m Memory h k = absurd h
 limited-tells t ts m (RewriteSpent n) h k = absurd h
 limited-tells t ts m RewriteDeep h k = absurd h
 limited-tells t ts m (TooDeep n) (l, e) (a, b) =
-    over-deep t ts (omega (arith, l, a)) ∙ ap (λ (x : ℕ). let o : Option Refusal = Some (too_deep x) in o) (sym (e ∙ a))
+    over-deep t ts (omega (arith, l, a)) ∙ ap (λ (x : ℕ). let o : Option RewriteRefusal = Some (too_deep x) in o) (sym (e ∙ a))
 limited-tells t ts m (TooBig n) (d, l, e) (a, b) =
-    over-big t ts (omega (arith, d, a)) (omega (arith, l, b)) ∙ ap (λ (x : ℕ). let o : Option Refusal = Some (too_big x) in o) (sym (e ∙ b))
+    over-big t ts (omega (arith, d, a)) (omega (arith, l, b)) ∙ ap (λ (x : ℕ). let o : Option RewriteRefusal = Some (too_big x) in o) (sym (e ∙ b))
 
 -- the first of two lists of terms
-abbrev pub or_else : Option Refusal → Option Refusal → Option Refusal
+abbrev pub or_else : Option RewriteRefusal → Option RewriteRefusal → Option RewriteRefusal
 or_else None o = o
 or_else (Some r) o = Some r
 
@@ -147,11 +147,11 @@ pub over-left : (ts us : List Tree) (e : RewriteError) → Tells (first_over ts)
 over-left ts us Memory h = tt
 over-left ts us (RewriteSpent n) h = absurd h
 over-left ts us RewriteDeep h = absurd h
-over-left ts us (TooDeep n) h = over-both ts us ∙ ap (λ (o : Option Refusal). or_else o (first_over us)) h
-over-left ts us (TooBig n) h = over-both ts us ∙ ap (λ (o : Option Refusal). or_else o (first_over us)) h
+over-left ts us (TooDeep n) h = over-both ts us ∙ ap (λ (o : Option RewriteRefusal). or_else o (first_over us)) h
+over-left ts us (TooBig n) h = over-both ts us ∙ ap (λ (o : Option RewriteRefusal). or_else o (first_over us)) h
 
 pub over-right : (ts us : List Tree) → first_over ts ≡ None → first_over (ts ++ us) ≡ first_over us
-over-right ts us h = over-both ts us ∙ ap (λ (o : Option Refusal). or_else o (first_over us)) h
+over-right ts us h = over-both ts us ∙ ap (λ (o : Option RewriteRefusal). or_else o (first_over us)) h
 
 -- the terms of a node: its bindings, and then the places of its conclusion
 node-split : (o : Option Rule) (binds : List Tree) → node_terms o binds ≡ binds ++ conclusion_terms o binds

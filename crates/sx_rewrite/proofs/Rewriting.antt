@@ -10,7 +10,7 @@ use Rattle.sx_rules.specs.Derivations.{Proof, Proofs, by, given, no_more, ◌⊳
 use Rattle.sx_rewrite.specs.Accepted.{Accepted, Signature, IsAccepted, extended_rules}
 use Rattle.sx_rewrite.specs.Used.{lowered_nodes, lowered_height}
 use Rattle.sx_rewrite.specs.Measured.{Measures, node_terms, AllPass, ProofPasses, ProofsPass}
-use Rattle.sx_rewrite.specs.Rewriting.{Refusal, spent, deep, too_deep, too_big, first_over, Rewritten, FirstOver, IsRewritten}
+use Rattle.sx_rewrite.specs.Rewriting.{RewriteRefusal, spent, deep, too_deep, too_big, first_over, Rewritten, FirstOver, IsRewritten}
 use Rattle.sx_rewrite.specs.Copied.{copied}
 use Rattle.sx_rewrite.specs.RewritingLaws.{RewritingAnswers, RewritingIsUnique, RewritingIsGood}
 use Rattle.sx_rewrite.proofs.Lowerings.{lowered_are_derivations}
@@ -21,19 +21,19 @@ use Rattle.sx_rewrite.proofs.Counted.{lowered_are_counted}
 use Rattle.sx_rewrite.proofs.Measured.{terms_are_measured, measuring_is_unique, measured_are_all}
 
 abbrev Answer : Type 0
-Answer = Result Rewritten Refusal
+Answer = Result Rewritten RewriteRefusal
 
 either : (a b : ℕ) → (a < b) ⊎ (b ≤ a)
 either a b = grind arith
 
 -- what is over is a term
-abbrev IsOfTerm : Refusal → Type 0
+abbrev IsOfTerm : RewriteRefusal → Type 0
 IsOfTerm spent = ⊥
 IsOfTerm deep = ⊥
 IsOfTerm (too_deep n) = Unit {0}
 IsOfTerm (too_big n) = Unit {0}
 
-over-term : (ts : List Tree) (r : Refusal) → first_over ts ≡ Some r → IsOfTerm r
+over-term : (ts : List Tree) (r : RewriteRefusal) → first_over ts ≡ Some r → IsOfTerm r
 over-term [] r e = cc
 over-term (t ∷ ts) r e = go (over-term ts r) (nat_lt 1000 (depth_of t)) (nat_lt 1000000 (size_of t)) e
   where
@@ -43,7 +43,7 @@ over-term (t ∷ ts) r e = go (over-term ts r) (nat_lt 1000 (depth_of t)) (nat_l
     go again false false f = again f
 
 module _ (sig : Signature) (base shapes : List Shape) (a : Accepted) (ok : IsAccepted sig base shapes a) (hyps : Hypotheses) (p : Proof) (budget : ℕ) where
-  refused : (r : Refusal) → IsOfTerm r → FirstOver a sig.subjects hyps p budget (Some r) → IsRewritten a sig.subjects hyps p budget (Err r)
+  refused : (r : RewriteRefusal) → IsOfTerm r → FirstOver a sig.subjects hyps p budget (Some r) → IsRewritten a sig.subjects hyps p budget (Err r)
   refused spent t h = absurd t
   refused deep t h = absurd t
   refused (too_deep n) t h = h
@@ -52,7 +52,7 @@ module _ (sig : Signature) (base shapes : List Shape) (a : Accepted) (ok : IsAcc
   answered : (j : Judgement) → Derives (extended_rules a) hyps j p → (answer : Answer) × IsRewritten a sig.subjects hyps p budget answer
   answered j d = by_nodes (either budget (lowered_nodes a p)) (either 3000 (lowered_height a p))
     where
-      by_terms : lowered_nodes a p ≤ budget → lowered_height a p ≤ 3000 → (ts : List Tree) → Measures a sig.subjects hyps p ts → (o : Option Refusal) → first_over ts ≡ o →
+      by_terms : lowered_nodes a p ≤ budget → lowered_height a p ≤ 3000 → (ts : List Tree) → Measures a sig.subjects hyps p ts → (o : Option RewriteRefusal) → first_over ts ≡ o →
           (answer : Answer) × IsRewritten a sig.subjects hyps p budget answer
       by_terms n h ts m None e =
           let l = lowering_exists sig base shapes a ok hyps p j d in
@@ -65,20 +65,20 @@ module _ (sig : Signature) (base shapes : List Shape) (a : Accepted) (ok : IsAcc
       by_nodes (inr few) (inr less) =
           let t = terms_are_measured sig base shapes a ok hyps p j d in by_terms few less t.0 t.1 (first_over t.0) refl
 
-  same_over : (o r : Option Refusal) → FirstOver a sig.subjects hyps p budget o → FirstOver a sig.subjects hyps p budget r → o ≡ r
+  same_over : (o r : Option RewriteRefusal) → FirstOver a sig.subjects hyps p budget o → FirstOver a sig.subjects hyps p budget r → o ≡ r
   same_over o r (n, h, (ts, m, e)) (n', h', (us, m', e')) = sym e ∙ ap first_over (measuring_is_unique sig base shapes a ok hyps p ts us m m') ∙ e'
 
   -- within the numbers, not over the budget and not too deep
-  within : (o : Option Refusal) → FirstOver a sig.subjects hyps p budget o → (lowered_nodes a p ≤ budget) × (lowered_height a p ≤ 3000)
+  within : (o : Option RewriteRefusal) → FirstOver a sig.subjects hyps p budget o → (lowered_nodes a p ≤ budget) × (lowered_height a p ≤ 3000)
   within o (n, h, t) = (n, h)
 
-  not_spent : (o : Option Refusal) → FirstOver a sig.subjects hyps p budget o → budget < lowered_nodes a p → ⊥
+  not_spent : (o : Option RewriteRefusal) → FirstOver a sig.subjects hyps p budget o → budget < lowered_nodes a p → ⊥
   not_spent o f l = let w = (within o f).0 in omega (arith, w, l)
 
-  not_deep : (o : Option Refusal) → FirstOver a sig.subjects hyps p budget o → (lowered_nodes a p ≤ budget) × (3000 < lowered_height a p) → ⊥
+  not_deep : (o : Option RewriteRefusal) → FirstOver a sig.subjects hyps p budget o → (lowered_nodes a p ≤ budget) × (3000 < lowered_height a p) → ⊥
   not_deep o f l = let w = (within o f).1 in let m = l.1 in omega (arith, w, m)
 
-  some_differ : (r : Refusal) → (let o : Option Refusal = None in o) ≡ Some r → ⊥
+  some_differ : (r : RewriteRefusal) → (let o : Option RewriteRefusal = None in o) ≡ Some r → ⊥
   some_differ r e = cc
 
   once : (x y : Answer) → IsRewritten a sig.subjects hyps p budget x → IsRewritten a sig.subjects hyps p budget y → x ≡ y

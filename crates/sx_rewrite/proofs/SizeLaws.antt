@@ -9,7 +9,7 @@ use Rattle.sx_rewrite.specs.declared.given_use.GivenUse.{GivenUse}
 use Rattle.sx_rewrite.specs.Measured.{is_used, is_used_among}
 use Rattle.sx_rewrite.specs.Copied.{times_given, times_given_in, copies, used_total}
 use Rattle.sx_rewrite.specs.Counts.{own_height, own_height_of, nodes_above, nodes_above_in, sum_of, most_of}
-use Rattle.sx_rewrite.specs.Sizes.{in_u128, in_u64, IsUseOf, AreUsesOf, AreNear, used_sum, used_most, used_copies}
+use Rattle.sx_rewrite.specs.Sizes.{in_u128, in_u64, IsUseOf, AreUsesOf, AreGivensNear, used_sum, used_most, used_copies}
 
 either : (a b : ℕ) → (a ≤ b) ⊎ (b < a)
 either a b = grind arith
@@ -153,7 +153,7 @@ mutual
       let a = either-within (is_used i p) (nodes_above i p) (height_of p) (above-within i p) in
       let b = all_above-within i ps in omega (arith, a, b)
 
-pub uses-near : (i : ℕ) (p : Proof) (us : List GivenUse) → height_of p ≤ 3000 → AreUsesOf i p us → AreNear us
+pub uses-near : (i : ℕ) (p : Proof) (us : List GivenUse) → height_of p ≤ 3000 → AreUsesOf i p us → AreGivensNear us
 uses-near i p [] l h = tt
 uses-near i p (u ∷ us) l h =
     let a = either-within (is_used i p) (nodes_above i p) (height_of p) (above-within i p) in
@@ -161,7 +161,7 @@ uses-near i p (u ∷ us) l h =
     ((omega (arith, a, b, l)), uses-near (i + 1) p us l h.1)
 
 -- the use at a place
-pub near-at : (us : List GivenUse) (i : ℕ) (u : GivenUse) → i < length us → u ≡ get_or us i u → AreNear us → u.above ≤ 3000
+pub near-at : (us : List GivenUse) (i : ℕ) (u : GivenUse) → i < length us → u ≡ get_or us i u → AreGivensNear us → u.above ≤ 3000
 near-at [] i u l e h = absurd (omega (arith, l))
 near-at (x ∷ us) zero u l e h = let q = ap (λ (y : GivenUse). y.above) e in let k = h.0 in omega (arith, q, k)
 near-at (x ∷ us) (suc i) u l e h = near-at us i u (omega (arith, l)) e h.1

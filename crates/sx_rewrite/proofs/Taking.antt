@@ -9,7 +9,7 @@ use Rattle.sx_rules.specs.Discipline.{one_when}
 use Rattle.sx_rules.specs.Derivations.{Proof, Proofs, no_more, ◌⊳◌, proof_at, put_for, height_of}
 use Rattle.sx_rules.specs.Derivations.{most_height, HasShallowBinds, HaveShallowBinds}
 use Rattle.sx_rules.specs.ProofView.{proof, row_of, boxed}
-use Rattle.sx_rewrite.specs.Givens.{placed_at, times_among, NumbersBelow}
+use Rattle.sx_rewrite.specs.Givens.{placed_at, number_times, NumbersBelow}
 use Rattle.sx_rewrite.specs.Taken.{IsPlaceTaken}
 use Rattle.sx_rewrite.proofs.Grafted.{views}
 
@@ -48,11 +48,11 @@ differ-eqb i j h = go (nat_eq i j) refl
     go true e = absurd (h (eqb-true i j e))
     go false e = e
 
-times-same : (i : ℕ) (xs : List ℕ) → times_among i (i ∷ xs) ≡ 1 + times_among i xs
-times-same i xs = ap (λ (b : Bool). one_when b + times_among i xs) (eq-eqb i i refl)
+times-same : (i : ℕ) (xs : List ℕ) → number_times i (i ∷ xs) ≡ 1 + number_times i xs
+times-same i xs = ap (λ (b : Bool). one_when b + number_times i xs) (eq-eqb i i refl)
 
-times-other : (i j : ℕ) (xs : List ℕ) → (i ≡ j → ⊥) → times_among i (j ∷ xs) ≡ times_among i xs
-times-other i j xs h = let e = ap (λ (b : Bool). one_when b + times_among i xs) (differ-eqb i j h) in omega (arith, e)
+times-other : (i j : ℕ) (xs : List ℕ) → (i ≡ j → ⊥) → number_times i (j ∷ xs) ≡ number_times i xs
+times-other i j xs h = let e = ap (λ (b : Bool). one_when b + number_times i xs) (differ-eqb i j h) in omega (arith, e)
 
 either : (i j : ℕ) → (i ≡ j) ⊎ (i ≡ j → ⊥)
 either i j = go (nat_eq i j) refl
@@ -64,7 +64,7 @@ either i j = go (nat_eq i j) refl
 -- the places up to one are counted
 pub record CountedTo (many : ℕ) (givens : List ℕ) (i : ℕ) (left : List ℕ) : Type 0 where
   pub many_are : length left ≡ many
-  pub times : (g : ℕ) → g < many → get_or left g 0 + times_among g (drop i givens) ≡ times_among g givens
+  pub times : (g : ℕ) → g < many → get_or left g 0 + number_times g (drop i givens) ≡ number_times g givens
   pub few : (g : ℕ) → g < many → get_or left g 0 ≤ i
 
 pub counted-step : (many : ℕ) (givens : List ℕ) (i : ℕ) (left : List ℕ) (j n : ℕ) → CountedTo many givens i left → i < length givens → j ≡ get_or givens i j → j < many → n ≡ get_or left j 0 + 1 →
@@ -78,17 +78,17 @@ counted-step many givens i left j n so l e b is = record {
     within : j < length left
     within = let m = so.many_are in omega (arith, m, b)
 
-    times : (g : ℕ) → g < many → (g ≡ j) ⊎ (g ≡ j → ⊥) → get_or (set left j n) g 0 + times_among g (drop (i + 1) givens) ≡ times_among g givens
+    times : (g : ℕ) → g < many → (g ≡ j) ⊎ (g ≡ j → ⊥) → get_or (set left j n) g 0 + number_times g (drop (i + 1) givens) ≡ number_times g givens
     times g w (inl same) =
         let a : get_or (set left j n) g 0 ≡ n = ap (λ (x : ℕ). get_or (set left j n) x 0) same ∙ get_or-set_same left j n 0 within in
-        let c = ap (times_among g) (numbers-from givens i j l e) in
-        let d : times_among g (j ∷ drop (i + 1) givens) ≡ 1 + times_among g (drop (i + 1) givens) =
-        subst (λ (x : ℕ). times_among g (x ∷ drop (i + 1) givens) ≡ 1 + times_among g (drop (i + 1) givens)) same (times-same g (drop (i + 1) givens)) in
+        let c = ap (number_times g) (numbers-from givens i j l e) in
+        let d : number_times g (j ∷ drop (i + 1) givens) ≡ 1 + number_times g (drop (i + 1) givens) =
+        subst (λ (x : ℕ). number_times g (x ∷ drop (i + 1) givens) ≡ 1 + number_times g (drop (i + 1) givens)) same (times-same g (drop (i + 1) givens)) in
         let t = so.times g w in
         let k = ap (λ (x : ℕ). get_or left x 0) same in omega (arith, a, c, d, t, is, k)
     times g w (inr other) =
         let a = get_or-set_other left j g n 0 other in
-        let c = ap (times_among g) (numbers-from givens i j l e) in
+        let c = ap (number_times g) (numbers-from givens i j l e) in
         let d = times-other g j (drop (i + 1) givens) other in
         let t = so.times g w in omega (arith, a, c, d, t)
 
@@ -101,10 +101,10 @@ counted-step many givens i left j n so l e b is = record {
         let a = get_or-set_other left j g n 0 other in
         let f = so.few g w in omega (arith, a, f)
 
-pub counted-all : (many : ℕ) (givens : List ℕ) (i : ℕ) (left : List ℕ) → CountedTo many givens i left → length givens ≤ i → (g : ℕ) → g < many → get_or left g 0 ≡ times_among g givens
+pub counted-all : (many : ℕ) (givens : List ℕ) (i : ℕ) (left : List ℕ) → CountedTo many givens i left → length givens ≤ i → (g : ℕ) → g < many → get_or left g 0 ≡ number_times g givens
 counted-all many givens i left so l g w =
     let t = so.times g w in
-    let e = ap (times_among g) (numbers-end givens i l) in omega (arith, t, e)
+    let e = ap (number_times g) (numbers-end givens i l) in omega (arith, t, e)
 
 -- proofs after a list of them
 abbrev after : List Proof → Proofs → Proofs
@@ -123,7 +123,7 @@ after-none (p ∷ ps) = ap (λ (r : Proofs). p ⊳ r) (after-none ps)
 pub record TakenTo (givens : List ℕ) (i : ℕ) (old now : List (Box ProofOf Global)) (left : List ℕ) (made : List (Box ProofOf Global)) : Type 0 where
   pub left_many : length left ≡ length now
   pub kids_many : length now ≡ length old
-  pub times : (g : ℕ) → g < length now → get_or left g 0 ≡ times_among g (drop i givens)
+  pub times : (g : ℕ) → g < length now → get_or left g 0 ≡ number_times g (drop i givens)
   pub kept : (g : ℕ) → 0 < get_or left g 0 → proof_at (boxed now) g ≡ proof_at (boxed old) g
   pub made_are : after (views made) (placed_at (boxed old) (drop i givens)) ≡ placed_at (boxed old) givens
   pub height : most_height (boxed now) ≤ 3000
@@ -140,7 +140,7 @@ module _ (givens : List ℕ) (i : ℕ) (old now : List (Box ProofOf Global)) (le
   pub taken-some : 0 < get_or left j 0
   taken-some =
       let t = so.times j taken-within in
-      let c = ap (times_among j) from in
+      let c = ap (number_times j) from in
       let d = times-same j (drop (i + 1) givens) in omega (arith, t, c, d)
 
   pub taken-step : (then : List ℕ) (new : List (Box ProofOf Global)) (kid : Box ProofOf Global) → IsPlaceTaken j left then now new → Some (proof kid.value) ≡ proof_at (boxed now) j →
@@ -161,17 +161,17 @@ module _ (givens : List ℕ) (i : ℕ) (old now : List (Box ProofOf Global)) (le
     binds = t.binds;
   }
     where
-      times : (g : ℕ) → g < length now → (g ≡ j) ⊎ (g ≡ j → ⊥) → get_or then g 0 ≡ times_among g (drop (i + 1) givens)
+      times : (g : ℕ) → g < length now → (g ≡ j) ⊎ (g ≡ j → ⊥) → get_or then g 0 ≡ number_times g (drop (i + 1) givens)
       times g w (inl same) =
           let a = so.times j taken-within in
-          let c = ap (times_among j) from in
+          let c = ap (number_times j) from in
           let d = times-same j (drop (i + 1) givens) in
           let m = t.less in
-          let r : get_or then j 0 ≡ times_among j (drop (i + 1) givens) = omega (arith, a, c, d, m) in
-          subst (λ (x : ℕ). get_or then x 0 ≡ times_among x (drop (i + 1) givens)) (sym same) r
+          let r : get_or then j 0 ≡ number_times j (drop (i + 1) givens) = omega (arith, a, c, d, m) in
+          subst (λ (x : ℕ). get_or then x 0 ≡ number_times x (drop (i + 1) givens)) (sym same) r
       times g w (inr other) =
           let a = so.times g w in
-          let c = ap (times_among g) from in
+          let c = ap (number_times g) from in
           let d = times-other g j (drop (i + 1) givens) other in
           let m = t.others g other in omega (arith, a, c, d, m)
 

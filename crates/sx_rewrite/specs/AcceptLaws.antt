@@ -17,7 +17,7 @@ use Rattle.sx_rewrite.specs.Accepted.{ExtRule, Checked, flat_conclusion, IsCerti
 use Rattle.sx_rewrite.specs.Accepted.{AreTypedSorts, AllDisciplined, Signature, IsAccepted}
 use Rattle.sx_rewrite.specs.Sound.{HasBaseSyntax, flat_given, flat_goal, IsSoundBy, AreSoundBy}
 use Rattle.sx_rewrite.specs.Accepting.{IsStored, IsRejected}
-use Rattle.sx_rewrite.specs.Extensions.{Extension, without_extensions, with_table, extended}
+use Rattle.sx_rewrite.specs.Extensions.{StoredExtension, without_extensions, with_table, extended}
 use Rattle.sx_rewrite.specs.Extensions.{GrowsSoundly, BodyFits, FitsRules}
 
 -- a certificate holds for all terms that are put for the rule's variables: from derivations
@@ -85,7 +85,7 @@ BaseRulesAreAccepted =
 -- an accepted set stays one with an extension that fits and is sound after it
 abbrev pub AcceptedSetsGrow : Type 0
 AcceptedSetsGrow =
-    (sig : Signature) (base shapes all : List Shape) (a : Accepted) (e : Extension) →
+    (sig : Signature) (base shapes all : List Shape) (a : Accepted) (e : StoredExtension) →
     IsAccepted sig base shapes a →
     FitsRules sig base shapes all a.table e.table e.rules →
     AreSoundBy sig.subjects (length base) (with_table a e.table) e.rules e.stored →
@@ -94,7 +94,8 @@ AcceptedSetsGrow =
 -- what has grown soundly goes on to
 abbrev pub GrowthGoesOn : Type 0
 GrowthGoesOn =
-    (subjects : Modes) (n : ℕ) (start a : Accepted) (es : List Extension) (e : Extension) →
+    (subjects : Modes) (n : ℕ) (start a : Accepted) (es : List StoredExtension)
+    (e : StoredExtension) →
     GrowsSoundly subjects n start es a →
     AreSoundBy subjects n (with_table a e.table) e.rules e.stored →
     GrowsSoundly subjects n start (es ++ e ∷ []) (extended a e)

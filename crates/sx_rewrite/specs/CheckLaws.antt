@@ -12,7 +12,8 @@ use Rattle.sx_rewrite.specs.declared.rewrite_error.RewriteError.{RewriteError}
 use Rattle.sx_rewrite.specs.Accepted.{ExtRule, Checked, Accepted, Signature, IsAccepted}
 use Rattle.sx_rewrite.specs.Accepted.{extended_rules}
 use Rattle.sx_rewrite.specs.Accepting.{IsFirstBy, IsStored, AreStored}
-use Rattle.sx_rewrite.specs.Extensions.{Extension, with_table, ShapesGoOn, FitsRules, ComesAfter}
+use Rattle.sx_rewrite.specs.Extensions.{StoredExtension, with_table, ShapesGoOn, FitsRules}
+use Rattle.sx_rewrite.specs.Extensions.{ComesAfter}
 use Rattle.sx_rewrite.specs.Lowering.{BindsFit}
 use Rattle.sx_rewrite.specs.Lowers.{HypothesesBelow}
 use Rattle.sx_rewrite.specs.PlainRules.{plain_of}
@@ -103,7 +104,7 @@ ChecksAreSound =
 abbrev pub StoredExtensionsAreSound : Type 0
 StoredExtensionsAreSound =
     (sig : Signature) (base shapes all : List Shape) →
-    (a : Accepted) → IsAccepted sig base shapes a → (e : Extension) →
+    (a : Accepted) → IsAccepted sig base shapes a → (e : StoredExtension) →
     FitsRules sig base shapes all a.table e.table e.rules →
     AreStored sig (length base) (with_table a e.table) e.rules e.stored →
     AreSoundBy sig.subjects (length base) (with_table a e.table) e.rules e.stored

@@ -7,7 +7,7 @@ use Rattle.sx_rewrite.specs.declared.ext_rule.ExtRule.{ExtRule as ExtRuleOf}
 use Rattle.sx_rewrite.specs.declared.extension_data.ExtensionData.{ExtensionData}
 use Rattle.sx_rewrite.specs.declared.flat.Flat.{Flat}
 use Rattle.sx_rewrite.specs.Accepted.{ExtRule}
-use Rattle.sx_rewrite.specs.Extensions.{Extension}
+use Rattle.sx_rewrite.specs.Extensions.{StoredExtension}
 use Rattle.sx_rewrite.specs.Stored.{checked_of}
 
 -- the view of an extension rule
@@ -19,7 +19,7 @@ abbrev pub named_rules : ExtensionData → List NamedRule
 named_rules ext = map (λ e. named e.rule) ext.rules.items
 
 -- the extension, with what is stored of its rules
-abbrev pub extension_with : ExtensionData → List Flat → Extension
+abbrev pub extension_with : ExtensionData → List Flat → StoredExtension
 extension_with ext flats = record {
   rules = map ext_rule ext.rules.items;
   stored = checked_of (map (λ e. rule e.rule) ext.rules.items) flats;

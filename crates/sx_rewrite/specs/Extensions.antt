@@ -14,7 +14,7 @@ use Rattle.sx_rewrite.specs.Accepted.{IsAccepted}
 use Rattle.sx_rewrite.specs.Sound.{AreSoundBy}
 
 -- an extension with what is stored of its rules, and the plain table of the extensions up to it
-pub record Extension : Type 0 where
+pub record StoredExtension : Type 0 where
   pub rules : List ExtRule
   pub stored : List Checked
   pub table : Table
@@ -28,11 +28,11 @@ abbrev pub with_table : Accepted → Table → Accepted
 with_table a table = record { base = a.base; more = a.more; table = table }
 
 -- the set with the extension after it
-abbrev pub extended : Accepted → Extension → Accepted
+abbrev pub extended : Accepted → StoredExtension → Accepted
 extended a e = record { base = a.base; more = a.more ++ e.stored; table = e.table }
 
 -- the set grows by the extensions in order, and the rules of each are sound after those before it
-abbrev pub GrowsSoundly : Modes → ℕ → Accepted → List Extension → Accepted → Type 0
+abbrev pub GrowsSoundly : Modes → ℕ → Accepted → List StoredExtension → Accepted → Type 0
 GrowsSoundly subjects n start [] a = start ≡ a
 GrowsSoundly subjects n start (e ∷ es) a =
     AreSoundBy subjects n (with_table start e.table) e.rules e.stored
@@ -86,4 +86,4 @@ pub record ComesAfter (sig : Signature) (base shapes all : List Shape)
 -- and the rules of each are sound after those before it
 abbrev pub HasGrownSoundly : Modes → ℕ → Accepted → Type 0
 HasGrownSoundly subjects n a =
-    ∥ ((es : List Extension) × GrowsSoundly subjects n (without_extensions a.base) es a) ∥₁
+    ∥ ((es : List StoredExtension) × GrowsSoundly subjects n (without_extensions a.base) es a) ∥₁

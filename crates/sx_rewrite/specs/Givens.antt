@@ -36,9 +36,9 @@ placed_at proofs [] = no_more
 placed_at proofs (i ∷ is) = put_for (proof_at proofs i) i ⊳ placed_at proofs is
 
 -- how often the number stands in the list
-abbrev pub times_among : ℕ → List ℕ → ℕ
-times_among i [] = 0
-times_among i (j ∷ js) = one_when (nat_eq i j) + times_among i js
+abbrev pub number_times : ℕ → List ℕ → ℕ
+number_times i [] = 0
+number_times i (j ∷ js) = one_when (nat_eq i j) + number_times i js
 
 -- each number is below the bound
 abbrev pub NumbersBelow : ℕ → List ℕ → Type 0

@@ -7,7 +7,7 @@ use Rattle.sx_rewrite.specs.declared.rewrite_error.RewriteError.{RewriteError}
 use Rattle.sx_rewrite.specs.declared.rewrite_error.RewriteError.TheVariants.{Memory, RewriteSpent}
 use Rattle.sx_rewrite.specs.declared.rewrite_error.RewriteError.TheVariants.{RewriteDeep, TooDeep}
 use Rattle.sx_rewrite.specs.declared.rewrite_error.RewriteError.TheVariants.{TooBig}
-use Rattle.sx_rewrite.specs.Rewriting.{Refusal, too_deep, too_big}
+use Rattle.sx_rewrite.specs.Rewriting.{RewriteRefusal, too_deep, too_big}
 use Rattle.sx_term.specs.Limits.{most_depth, most_size}
 
 -- the measure is that of the term
@@ -40,7 +40,7 @@ IsLimited m (Err (TooDeep depth)) = (most_depth < m.depth) × (depth ≡ m.depth
 IsLimited m (Err (TooBig nodes)) = (m.depth ≤ most_depth) × (most_size < m.size) × (nodes ≡ m.size)
 
 -- the error tells this refusal, or out of memory
-abbrev pub Tells : Option Refusal → RewriteError → Type 0
+abbrev pub Tells : Option RewriteRefusal → RewriteError → Type 0
 Tells over Memory = Unit {0}
 Tells over (RewriteSpent nodes) = ⊥
 Tells over RewriteDeep = ⊥
@@ -48,6 +48,7 @@ Tells over (TooDeep depth) = over ≡ Some (too_deep depth)
 Tells over (TooBig nodes) = over ≡ Some (too_big nodes)
 
 -- what was to be measured passes no limit and the value is as it should be, or the refusal is told
-abbrev pub Answers : {X : Type 0} → Option Refusal → (X → Type 0) → Result X RewriteError → Type 0
+abbrev pub Answers : {X : Type 0} → Option RewriteRefusal → (X → Type 0) →
+    Result X RewriteError → Type 0
 Answers over Good (Ok x) = (over ≡ None) × Good x
 Answers over Good (Err e) = Tells over e

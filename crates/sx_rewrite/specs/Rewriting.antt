@@ -15,15 +15,15 @@ use Rattle.sx_term.specs.Limits.{most_depth, most_size}
 
 -- why no lowered derivation is answered: it has more nodes than the budget, it is too deep,
 -- or a term of it passes a limit
-pub data Refusal : Type 0 where
-  spent : Refusal
-  deep : Refusal
-  too_deep : ℕ → Refusal
-  too_big : ℕ → Refusal
+pub data RewriteRefusal : Type 0 where
+  spent : RewriteRefusal
+  deep : RewriteRefusal
+  too_deep : ℕ → RewriteRefusal
+  too_big : ℕ → RewriteRefusal
 
 -- the first of the terms that is deeper than 1,000, or else has more than 1,000,000 nodes,
 -- lexemes and variables
-abbrev pub first_over : List Tree → Option Refusal
+abbrev pub first_over : List Tree → Option RewriteRefusal
 first_over [] = None
 first_over (t ∷ ts) =
     if nat_lt most_depth (depth_of t) then Some (too_deep (depth_of t)) else
@@ -39,14 +39,14 @@ pub record Rewritten : Type 0 where
 
 -- the numbers are within the budget and the depth of derivations,
 -- and this is the first of the measured terms that passes a limit
-abbrev pub FirstOver : Accepted → Modes → Hypotheses → Proof → ℕ → Option Refusal → Type 0
+abbrev pub FirstOver : Accepted → Modes → Hypotheses → Proof → ℕ → Option RewriteRefusal → Type 0
 FirstOver a subjects hyps p budget over =
     (lowered_nodes a p ≤ budget) × (lowered_height a p ≤ most_levels)
     × ((ts : List Tree) × Measures a subjects hyps p ts × (first_over ts ≡ over))
 
 -- the lowered derivation of p from the hypotheses, or the first limit that it passes
 abbrev pub IsRewritten : Accepted → Modes → Hypotheses → Proof → ℕ →
-    Result Rewritten Refusal → Type 0
+    Result Rewritten RewriteRefusal → Type 0
 IsRewritten a subjects hyps p budget (Ok x) =
     Lowers a subjects hyps p x.proof x.judgement × (x.copied ≡ min (copied a p) (2 ^ 64 - 1))
     × FirstOver a subjects hyps p budget None

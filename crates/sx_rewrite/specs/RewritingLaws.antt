@@ -11,7 +11,7 @@ use Rattle.sx_rules.specs.Derivations.{Proof, Derives, nodes_of, height_of, AreS
 use Rattle.sx_rules.specs.Derivations.{HasShallowBinds, ShallowJudgements}
 use Rattle.sx_rewrite.specs.Accepted.{Accepted, Signature, IsAccepted, extended_rules}
 use Rattle.sx_rewrite.specs.Lowers.{IsImageOf, HypothesesBelow}
-use Rattle.sx_rewrite.specs.Rewriting.{Refusal, Rewritten, IsRewritten}
+use Rattle.sx_rewrite.specs.Rewriting.{RewriteRefusal, Rewritten, IsRewritten}
 use Rattle.sx_rules.specs.Limits.{most_levels}
 
 -- there is an answer
@@ -20,13 +20,13 @@ RewritingAnswers =
     (sig : Signature) (base shapes : List Shape) (a : Accepted) → IsAccepted sig base shapes a →
     (hyps : Hypotheses) (p : Proof) (j : Judgement) →
     Derives (extended_rules a) hyps j p → (budget : ℕ) →
-    (answer : Result Rewritten Refusal) × IsRewritten a sig.subjects hyps p budget answer
+    (answer : Result Rewritten RewriteRefusal) × IsRewritten a sig.subjects hyps p budget answer
 
 -- and one alone
 abbrev pub RewritingIsUnique : Type 0
 RewritingIsUnique =
     (sig : Signature) (base shapes : List Shape) (a : Accepted) → IsAccepted sig base shapes a →
-    (hyps : Hypotheses) (p : Proof) (budget : ℕ) (answer other : Result Rewritten Refusal) →
+    (hyps : Hypotheses) (p : Proof) (budget : ℕ) (answer other : Result Rewritten RewriteRefusal) →
     IsRewritten a sig.subjects hyps p budget answer →
     IsRewritten a sig.subjects hyps p budget other → answer ≡ other
 

@@ -14,21 +14,23 @@ use Rattle.sx_rewrite.specs.Lowers.{Lowers}
 use Rattle.sx_rules.specs.Rules.{no_hypotheses}
 
 -- a shape
-abbrev pub shape_of : Sort → List Sort → Shape
-shape_of sort kids = record { sort = sort; kids = kids }
+abbrev pub sample_shape : Sort → List Sort → Shape
+sample_shape sort kids = record { sort = sort; kids = kids }
 
 -- the environment, the types `str` and `fun`, the terms `quote` and `both`
 abbrev pub base_shapes : List Shape
 base_shapes =
-    shape_of (Plain 0) [] ∷ shape_of (Plain 1) [] ∷ shape_of (Plain 1) (Plain 1 ∷ Plain 1 ∷ [])
-    ∷ shape_of (Typed 0) (Lex Str ∷ []) ∷ shape_of (Typed 0) (Typed 0 ∷ Typed 0 ∷ []) ∷ []
+    sample_shape (Plain 0) [] ∷ sample_shape (Plain 1) []
+    ∷ sample_shape (Plain 1) (Plain 1 ∷ Plain 1 ∷ [])
+    ∷ sample_shape (Typed 0) (Lex Str ∷ []) ∷ sample_shape (Typed 0) (Typed 0 ∷ Typed 0 ∷ []) ∷ []
 
 -- and then `twin` and `twice`
 abbrev pub all_shapes : List Shape
 all_shapes =
-    shape_of (Plain 0) [] ∷ shape_of (Plain 1) [] ∷ shape_of (Plain 1) (Plain 1 ∷ Plain 1 ∷ [])
-    ∷ shape_of (Typed 0) (Lex Str ∷ []) ∷ shape_of (Typed 0) (Typed 0 ∷ Typed 0 ∷ [])
-    ∷ shape_of (Plain 1) (Plain 1 ∷ []) ∷ shape_of (Typed 0) (Typed 0 ∷ []) ∷ []
+    sample_shape (Plain 0) [] ∷ sample_shape (Plain 1) []
+    ∷ sample_shape (Plain 1) (Plain 1 ∷ Plain 1 ∷ [])
+    ∷ sample_shape (Typed 0) (Lex Str ∷ []) ∷ sample_shape (Typed 0) (Typed 0 ∷ Typed 0 ∷ [])
+    ∷ sample_shape (Plain 1) (Plain 1 ∷ []) ∷ sample_shape (Typed 0) (Typed 0 ∷ []) ∷ []
 
 -- the empty environment, the type of texts, and functions
 abbrev pub empty : Tree

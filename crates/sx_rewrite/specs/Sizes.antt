@@ -69,14 +69,14 @@ IsSizeIn None size = ⊥
 IsSizeIn (Some c) size = IsSizeOf c size
 
 -- no given stands under more than 3,000 nodes
-abbrev pub AreNear : List GivenUse → Type 0
-AreNear [] = Unit {0}
-AreNear (u ∷ us) = (u.above ≤ most_levels) × AreNear us
+abbrev pub AreGivensNear : List GivenUse → Type 0
+AreGivensNear [] = Unit {0}
+AreGivensNear (u ∷ us) = (u.above ≤ most_levels) × AreGivensNear us
 
 -- the numbers are those of a certificate that is no deeper than 3,000
 abbrev pub IsSmallCertificate : CertificateSize → Type 0
 IsSmallCertificate size =
-    (in_u128 size.nodes ≡ size.nodes) × (size.height ≤ most_levels) × AreNear size.uses.items
+    (in_u128 size.nodes ≡ size.nodes) × (size.height ≤ most_levels) × AreGivensNear size.uses.items
 
 -- the sum of the numbers, each as often as the given at its place is used
 abbrev pub used_sum : List GivenUse → List ℕ → ℕ

@@ -4,7 +4,7 @@ ghost use Rattle.std.specs.Prelude.{◌≡◌, ℕ, ◌+◌, ◌<◌, ◌≤◌,
 ghost use Rattle.std.specs.Prelude.{slice_index_or};
 ghost use Rattle.sx_rules.specs.Derivations as spec;
 ghost use Rattle.sx_rules.specs.ProofView as view;
-ghost use Rattle.sx_rewrite.specs.Givens.{placed_at, times_among, NumbersBelow};
+ghost use Rattle.sx_rewrite.specs.Givens.{placed_at, number_times, NumbersBelow};
 ghost use Rattle.sx_rewrite.specs.Taken.{IsPlaceTaken};
 ghost use Rattle.sx_rules.specs.Limits.{most_levels};
 
@@ -40,7 +40,7 @@ fn places_left(alloc: Global, givens: &Vec<u32>, many: usize) -> Result<Vec<usiz
     requires { NumbersBelow many givens.now.items }
     ensures many { IfOk result (λ x. length x.items ≡ many) }
     ensures times { IfOk result
-        (λ x. (g : ℕ) → g < many → slice_index_or x.items g 0 ≡ times_among g givens.now.items) }
+        (λ x. (g : ℕ) → g < many → slice_index_or x.items g 0 ≡ number_times g givens.now.items) }
 {
     let mut left = Vec::from_elem(alloc, 0, many)?;
     for i in 0..givens.len() {
@@ -59,7 +59,7 @@ fn put_kids(
     requires below { NumbersBelow (length kids.old) givens.now }
     requires many { length left.old ≡ length kids.old }
     requires times { (g : ℕ) → g < length kids.old →
-        slice_index_or left.old g 0 ≡ times_among g givens.now }
+        slice_index_or left.old g 0 ≡ number_times g givens.now }
     requires height { spec.most_height (view.boxed kids.old) ≤ most_levels }
     requires binds { spec.HaveShallowBinds (view.boxed kids.old) }
     ensures { IfOk result (λ x. view.boxed x.items ≡ placed_at (view.boxed kids.old) givens.now) }

@@ -4,7 +4,7 @@ use Rattle.std.proofs.Common.{codes, ap, sym, refl, ◌∙◌, append_assoc, ari
 use Rattle.std.specs.List.{flat_map, join_with_byte, range_with_len}
 use Rattle.std.proofs.lemmas.Grind.{flat_map-append}
 use Rattle.std.proofs.lemmas.List.{append-nil, length-append}
-use Rattle.sx_sample.specs.Samples.{numbered_name, binding_of, tokens_of, sample_text}
+use Rattle.sx_sample.specs.Samples.{numbered_name, binding_of, sample_tokens, sample_text}
 
 -- a token, and a blank after it
 abbrev pub blanked : List ℕ → List ℕ
@@ -35,7 +35,7 @@ text-is n =
     let tokens = flat_map binding_of (range_with_len 1 n) in
     let body = joined tokens (numbered_name n) in
     ap (λ (text : List ℕ). head ++ text) (ap (λ (text : List ℕ). text ++ 10 ∷ []) (sym body)
-    ∙ sym (append-nil (join_with_byte 32 (tokens_of n) ++ 10 ∷ [])))
+    ∙ sym (append-nil (join_with_byte 32 (sample_tokens n) ++ 10 ∷ [])))
 
 -- one name more is bound
 pub bound-more : (text new total : List ℕ) (n i : ℕ) → i < n →
@@ -68,7 +68,7 @@ many-tokens : (k many : ℕ) → length (flat_map binding_of (range_with_len k m
 many-tokens k zero = refl
 many-tokens k (suc many) = let r = many-tokens (k + 1) many in omega (arith, r)
 
-pub tokens-counted : (n : ℕ) → length (tokens_of n) ≡ 5 * n + 1
+pub tokens-counted : (n : ℕ) → length (sample_tokens n) ≡ 5 * n + 1
 tokens-counted n =
     length-append (flat_map binding_of (range_with_len 1 n)) (numbered_name n ∷ [])
     ∙ ap (λ (m : ℕ). m + 1) (many-tokens 1 n)

@@ -16,13 +16,13 @@ abbrev pub binding_of : ℕ → List (List ℕ)
 binding_of k = codes "let" ∷ numbered_name k ∷ codes "=" ∷ bound_of k ∷ codes "in" ∷ []
 
 -- the tokens of the body: those that bind the names from 1 on, and the last name
-abbrev pub tokens_of : ℕ → List (List ℕ)
-tokens_of n = flat_map binding_of (range_with_len 1 n) ++ numbered_name n ∷ []
+abbrev pub sample_tokens : ℕ → List (List ℕ)
+sample_tokens n = flat_map binding_of (range_with_len 1 n) ++ numbered_name n ∷ []
 
 -- the lines of the module's file, the body with one blank between its tokens
 abbrev pub lines_of : ℕ → List (List ℕ)
 lines_of n = codes "module Sample" ∷ codes "language Lam" ∷ codes "use Let" ∷ codes "---"
-    ∷ join_with_byte 32 (tokens_of n) ∷ []
+    ∷ join_with_byte 32 (sample_tokens n) ∷ []
 
 -- the text of the module's file
 abbrev pub sample_text : ℕ → List ℕ

@@ -20,10 +20,10 @@ use Rattle.sx_compiling.specs.Laws.{UnitsAgree}
 use Rattle.sx_compiling.specs.Laws.{SameButShown as UnitShown}
 use Rattle.sx_compiling.specs.MakeUnit.{MakesUnit}
 use Rattle.sx_sample.specs.Holding.{sample_files}
-use Rattle.sx_sampling.specs.SampleSteps.{sample_name, sample_file, sample_budgets, given_in}
+use Rattle.sx_sampling.specs.SampleSteps.{sample_name, sample_file, sample_budgets, given_for_sample}
 use Rattle.sx_sampling.specs.SampleSteps.{MakesOver, MakesRead, MakesSample, PlansSample}
-use Rattle.sx_sampling.specs.Found.{IsSampleFound, given_from}
-use Rattle.sx_sampling.specs.Laws.{SameButShown, SamplesAgree}
+use Rattle.sx_sampling.specs.Found.{IsSampleFound, sample_given}
+use Rattle.sx_sampling.specs.Laws.{SamplesAlikeButShown, SamplesAgree}
 use Rattle.sx_sampling.proofs.FoundModules.{language_of}
 
 plans_one : (number : ℕ) (unit : UnitData) → IsOne (PlansSample number unit)
@@ -34,7 +34,7 @@ module _ (units : UnitsAgree) (number : ℕ) where
   files = sample_files number
 
   abbrev Related : Stop → Stop → Type 0
-  Related = SameButShown number
+  Related = SamplesAlikeButShown number
 
   same_alike : (s t : Stop) → s ≡ t → Related s t
   same_alike s t e = inl (record { status = ap status_of e; line = ap line_of e })
@@ -44,15 +44,15 @@ module _ (units : UnitsAgree) (number : ℕ) where
 
   -- the unit
   module _ (f : IsSampleFound number) where
-    of_unit : (s t : Stop) → UnitShown sample_budgets files (given_from f) s t → Related s t
+    of_unit : (s t : Stop) → UnitShown sample_budgets files (sample_given f) s t → Related s t
     of_unit s t (inl same) = inl same
     of_unit s t (inr (are, free)) = inr (are, inr (f, free))
 
-    unit_by : IsOneBy Related (MakesUnit sample_budgets files (given_from f))
+    unit_by : IsOneBy Related (MakesUnit sample_budgets files (sample_given f))
     unit_by a b m n h k p q =
-        let one = units sample_budgets files (given_from f) a b m n (language_of number f) h k p q
+        let one = units sample_budgets files (sample_given f) a b m n (language_of number f) h k p q
         in (
-          answers_so (UnitShown sample_budgets files (given_from f)) Related of_unit a b one.0,
+          answers_so (UnitShown sample_budgets files (sample_given f)) Related of_unit a b one.0,
           one.1,
         )
 
@@ -62,7 +62,7 @@ module _ (units : UnitsAgree) (number : ℕ) where
         IsOneBy Related (MakesOver files m l)
     over_by l states =
         and_then_by Related (Untried (ReadsImports files m.header.imports))
-        (λ its. MakesUnit sample_budgets files (given_in m l its))
+        (λ its. MakesUnit sample_budgets files (given_for_sample m l its))
         (trying_same Related alike NoTries (ReadsImports files m.header.imports) no_tries_one
         (reads_imports_one files m.header.imports))
         (λ its before h. unit_by (record {
@@ -99,7 +99,7 @@ module _ (units : UnitsAgree) (number : ℕ) where
 
 pub samples_agree : UnitsAgree → SamplesAgree
 samples_agree units number =
-    and_then_by (SameButShown number) (MakesSample (sample_files number))
+    and_then_by (SamplesAlikeButShown number) (MakesSample (sample_files number))
     (λ unit. Untried (PlansSample number unit)) (sample_by units number)
-    (λ unit before made. trying_same (SameButShown number) (alike units number) NoTries
+    (λ unit before made. trying_same (SamplesAlikeButShown number) (alike units number) NoTries
     (PlansSample number unit) no_tries_one (plans_one number unit))

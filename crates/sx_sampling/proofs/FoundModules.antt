@@ -13,18 +13,18 @@ use Rattle.sx_compiling.specs.Reached.{HasNamedLanguage, HasModule}
 use Rattle.sx_compiling.proofs.NamedImports.{imports_named}
 use Rattle.sx_sample.specs.Holding.{sample_files}
 use Rattle.sx_sampling.specs.SampleSteps.{sample_name, sample_file}
-use Rattle.sx_sampling.specs.Found.{IsSampleFound, given_from}
+use Rattle.sx_sampling.specs.Found.{IsSampleFound, sample_given}
 
 -- ---- the module and its language
 
 module _ (number : ℕ) (f : IsSampleFound number) where
-  pub language_of : HasNamedLanguage (given_from f)
+  pub language_of : HasNamedLanguage (sample_given f)
   language_of =
       let stated = went (Held most_bytes (language_file f.read.header.language) (sample_files number))
       (StatesLanguage f.read.header.language) f.language f.states in
       record { bytes = stated.given; states = stated.goes }
 
-  pub module_of : HasModule sample_name (given_from f)
+  pub module_of : HasModule sample_name (sample_given f)
   module_of =
       let held = went (Held most_bytes sample_file (sample_files number))
       (StatesModule sample_file sample_name) f.read f.reads in

@@ -16,10 +16,10 @@ use Rattle.sx_compiling.specs.MakeUnit.{MakesUnit}
 use Rattle.sx_compiling.proofs.MadeUnits.{units_keep_promise}
 use Rattle.sx_compiling.proofs.StepTries.{passed}
 use Rattle.sx_sample.specs.Holding.{sample_files}
-use Rattle.sx_sampling.specs.SampleSteps.{sample_name, sample_file, sample_budgets, given_in}
+use Rattle.sx_sampling.specs.SampleSteps.{sample_name, sample_file, sample_budgets, given_for_sample}
 use Rattle.sx_sampling.specs.SampleSteps.{MakesOver, MakesRead, MakesSample, sample_plan}
 use Rattle.sx_sampling.specs.SampleSteps.{PlansSample, Samples}
-use Rattle.sx_sampling.specs.Found.{IsSampleFound, given_from}
+use Rattle.sx_sampling.specs.Found.{IsSampleFound, sample_given}
 use Rattle.sx_sampling.specs.Sampled.{SamplesKeepPromise, SampledHaveHeadline}
 use Rattle.sx_sampling.proofs.FoundModules.{language_of, module_of}
 
@@ -30,7 +30,7 @@ module _ (number : ℕ) where
   -- the unit that is made from what is found, with so many tries
   pub record HasMade (unit : UnitData) (tries : ℕ) : Type 0 where
     pub found : IsSampleFound number
-    pub makes : MakesUnit sample_budgets files (given_from found) (Ok unit) tries
+    pub makes : MakesUnit sample_budgets files (sample_given found) (Ok unit) tries
 
   made_of : (unit : UnitData) (tries : ℕ) → MakesSample files (Ok unit) tries →
       HasMade unit tries
@@ -42,7 +42,7 @@ module _ (number : ℕ) where
       read.goes in
       let l = over.given in
       let imports = passed (ReadsImports files m.header.imports)
-      (λ its. MakesUnit sample_budgets files (given_in m l its)) unit tries over.goes in
+      (λ its. MakesUnit sample_budgets files (given_for_sample m l its)) unit tries over.goes in
       record {
         found = record {
           read = m;
@@ -88,7 +88,7 @@ samples_keep_promise number old new plan tries samples files_are =
     record {
       found = f;
       unit = planned.unit;
-      made = units_keep_promise sample_budgets (sample_files number) (given_from f) planned.unit tries
+      made = units_keep_promise sample_budgets (sample_files number) (sample_given f) planned.unit tries
           (language_of number f) planned.made.makes;
       files = λ file. ap (λ (fs : Files). fs file) left;
       told = ap (λ (p : Plan). p.lines) planned.is;
@@ -100,5 +100,5 @@ is_a_name = refl
 
 pub sampled_have_headline : UnitsHaveHeadline → SampledHaveHeadline
 sampled_have_headline units number old new lines s =
-    units sample_name sample_budgets (sample_files number) (given_from s.found) s.unit is_a_name
+    units sample_name sample_budgets (sample_files number) (sample_given s.found) s.unit is_a_name
     (language_of number s.found) (module_of number s.found) s.made

@@ -17,7 +17,7 @@ use Rattle.sx_steps.proofs.TypeErrors.{no_type_error, Final, FinalTrying, then_f
 use Rattle.sx_steps.proofs.TypeErrors.{trying_final, and_then_final, held_final}
 use Rattle.sx_accepting.specs.ReadLanguage.{Stated, ReadsLanguage}
 use Rattle.sx_accepting.proofs.TypeErrors.{reads_language_final}
-use Rattle.sx_headers.specs.HeaderStops.{bad_header, other_version}
+use Rattle.sx_headers.specs.HeaderStops.{bad_header, version_stop}
 use Rattle.sx_headers.specs.ReadInterface.{HeldInterface, StatesParts, ReadsInterface}
 use Rattle.sx_headers.specs.ReadModule.{Module, StatesModule, ReadsModule}
 use Rattle.sx_importing.specs.Each.{GivesNext, GivesAfter}
@@ -26,10 +26,10 @@ use Rattle.sx_compiling.specs.Laws.{HasNoType, HasUnsoundRule}
 use Rattle.sx_compiling.specs.Laws.{TypeErrorsOfUnitsAreFinal as UnitsFinal}
 use Rattle.sx_compiling.specs.MakeUnit.{MakesUnit}
 use Rattle.sx_sample.specs.Holding.{sample_files}
-use Rattle.sx_sampling.specs.SampleSteps.{sample_name, sample_file, sample_budgets, given_in}
+use Rattle.sx_sampling.specs.SampleSteps.{sample_name, sample_file, sample_budgets, given_for_sample}
 use Rattle.sx_sampling.specs.SampleSteps.{MakesOver, MakesRead, MakesSample, sample_plan}
 use Rattle.sx_sampling.specs.SampleSteps.{PlansSample}
-use Rattle.sx_sampling.specs.Found.{IsSampleFound, given_from}
+use Rattle.sx_sampling.specs.Found.{IsSampleFound, sample_given}
 use Rattle.sx_sampling.specs.Laws.{SampleTypeErrorsAreFinal}
 use Rattle.sx_sampling.proofs.FoundModules.{language_of}
 
@@ -51,7 +51,7 @@ module _ (Q : Stop → Type 0) where
   parts_final file name bytes stop (inl h) =
       no_type_error Q (not_utf8 file (utf8_valid_len bytes)) stop (λ h. h) h.1
   parts_final file name bytes stop (inr (utf8, inl h)) =
-      no_type_error Q (other_version file h.0) stop (λ h. h) h.2
+      no_type_error Q (version_stop file h.0) stop (λ h. h) h.2
   parts_final file name bytes stop (inr (utf8, inr h)) =
       no_type_error Q (bad_header file h.1.0) stop (λ h. h) h.1.2
 
@@ -88,14 +88,14 @@ module _ (units : UnitsFinal) (number : ℕ) where
 
   abbrev Q : Stop → Type 0
   Q stop = (f : IsSampleFound number) ×
-      (HasNoType sample_budgets files (given_from f) stop
-      ⊎ HasUnsoundRule sample_budgets files (given_from f) stop)
+      (HasNoType sample_budgets files (sample_given f) stop
+      ⊎ HasUnsoundRule sample_budgets files (sample_given f) stop)
 
   unit_final : (f : IsSampleFound number) →
-      FinalTrying Q (MakesUnit sample_budgets files (given_from f))
+      FinalTrying Q (MakesUnit sample_budgets files (sample_given f))
   unit_final f stop tries h error = (
     f,
-    units sample_budgets files (given_from f) stop tries (language_of number f) h error,
+    units sample_budgets files (sample_given f) stop tries (language_of number f) h error,
   )
 
   module _ (m : Module) (reads : ReadsModule sample_file sample_name files (Ok m)) where
@@ -103,7 +103,7 @@ module _ (units : UnitsFinal) (number : ℕ) where
         FinalTrying Q (MakesOver files m l)
     over_final l states =
         and_then_final Q (Untried (ReadsImports files m.header.imports))
-        (λ its. MakesUnit sample_budgets files (given_in m l its))
+        (λ its. MakesUnit sample_budgets files (given_for_sample m l its))
         (trying_final Q NoTries (ReadsImports files m.header.imports)
         (after_final Q files [] m.header.imports))
         (λ its before h. unit_final (record {

@@ -10,7 +10,7 @@ use Rattle.sx_steps.specs.Work.{Plan}
 use Rattle.sx_accepting.specs.ReadLanguage.{Stated, ReadsLanguage}
 use Rattle.sx_headers.specs.ReadModule.{Module, ReadsModule}
 use Rattle.sx_importing.specs.ReadImports.{ImportData, ReadsImports}
-use Rattle.sx_compiling.specs.Given.{Given}
+use Rattle.sx_compiling.specs.Given.{GivenModule}
 use Rattle.sx_compiling.specs.MakeUnit.{MakesUnit}
 use Rattle.sx_sample.specs.declared.summary.Summary.{Summary}
 use Rattle.sx_sample.specs.Holding.{sample_files}
@@ -29,14 +29,14 @@ abbrev pub sample_budgets : Budgets
 sample_budgets = record { tries = most_budget; nodes = most_budget }
 
 -- what its unit is made from
-abbrev pub given_in : Module → Stated → List ImportData → Given
-given_in m l its = record { file = sample_file; read = m; language = l; imports = its }
+abbrev pub given_for_sample : Module → Stated → List ImportData → GivenModule
+given_for_sample m l its = record { file = sample_file; read = m; language = l; imports = its }
 
 -- the interfaces of the imports that the header names, and then the unit
 abbrev pub MakesOver : Files → Module → Stated → Result UnitData StepError → ℕ → Type 0
 MakesOver files m l =
     AndThen (Untried (ReadsImports files m.header.imports))
-    (λ its. MakesUnit sample_budgets files (given_in m l its))
+    (λ its. MakesUnit sample_budgets files (given_for_sample m l its))
 
 -- the language that the header names, and then these
 abbrev pub MakesRead : Files → Module → Result UnitData StepError → ℕ → Type 0

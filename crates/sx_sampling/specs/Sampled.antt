@@ -7,14 +7,14 @@ use Rattle.sx_compiling.specs.Headline.{HasUnit, HasHeadline}
 use Rattle.sx_sample.specs.Holding.{sample_files}
 use Rattle.sx_sample.specs.Summaries.{summary_line}
 use Rattle.sx_sampling.specs.SampleSteps.{sample_name, sample_budgets, summary_in, Samples}
-use Rattle.sx_sampling.specs.Found.{IsSampleFound, given_from}
+use Rattle.sx_sampling.specs.Found.{IsSampleFound, sample_given}
 
 -- There is a unit of the module Sample with so many names in its dialect, over the files that it
 -- needs alone. All files are as before, and the line tells how big the unit is.
 pub record Sampled (number : ℕ) (old new : Files) (lines : List ℕ) : Type 0 where
   pub found : IsSampleFound number
   pub unit : UnitData
-  pub made : HasUnit sample_budgets (sample_files number) (given_from found) unit
+  pub made : HasUnit sample_budgets (sample_files number) (sample_given found) unit
   pub files : (file : List ℕ) → new file ≡ old file
   pub told : lines ≡ summary_line (summary_in number unit)
 
@@ -28,4 +28,4 @@ SamplesKeepPromise =
 abbrev pub SampledHaveHeadline : Type 0
 SampledHaveHeadline =
     (number : ℕ) (old new : Files) (lines : List ℕ) → (s : Sampled number old new lines) →
-    HasHeadline sample_name sample_budgets (sample_files number) (given_from s.found) s.unit
+    HasHeadline sample_name sample_budgets (sample_files number) (sample_given s.found) s.unit

@@ -7,7 +7,7 @@ use Rattle.sx_steps.specs.declared.status.Status.TheVariants as statuses
 use Rattle.sx_steps.specs.Refusal.{status_of}
 use Rattle.sx_steps.specs.declared.step_error.StepError.{StepError}
 use Rattle.sx_steps.specs.declared.step_error.StepError.TheVariants as errors
-use Rattle.sx_steps.specs.Steps.{Then, Goes, NoTries, Trying, GoesOn, AndThen}
+use Rattle.sx_steps.specs.Steps.{Then, StepsGo, NoTries, Trying, GoesOn, AndThen}
 use Rattle.sx_steps.specs.Held.{Held, IsLong}
 use Rattle.sx_steps.specs.Lower.{Lower}
 use Rattle.sx_steps.specs.Agree.{IsNoReadFault, IsSure, AnswersBy}
@@ -34,7 +34,7 @@ pub none_some : {A : Type 0} (a : A) → ◌≡◌ {A = Option A} None (Some a) 
 none_some a e = cc
 
 module _ {A B : Type 0} (first : Result A Stop → Type 0) (next : A → Result B Stop → Type 0) (one : IsOne first) (more : (given : A) → first (Ok given) → IsOne (next given)) where
-  goes_one : (g k : Result A Stop) (x y : Result B Stop) → first g → first k → Goes next g x → Goes next k y → IsNoReadFault x → IsNoReadFault y → x ≡ y
+  goes_one : (g k : Result A Stop) (x y : Result B Stop) → first g → first k → StepsGo next g x → StepsGo next k y → IsNoReadFault x → IsNoReadFault y → x ≡ y
   goes_one (Ok a) (Ok b) x y f e h j n m =
       let same = ok_same a b (one (Ok a) (Ok b) f e tt tt) in
       more a f x y h (subst (λ (z : A). next z y) (sym same) j) n m

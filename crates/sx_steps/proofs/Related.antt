@@ -3,7 +3,7 @@ use Rattle.std.proofs.Common.{◌≡◌, sym, subst}
 use Rattle.std.specs.Prelude.{Result, Ok, Err}
 use Rattle.sx_steps.specs.declared.stop.Stop.{Stop}
 use Rattle.sx_steps.specs.Agree.{IsNoReadFault, AnswersBy}
-use Rattle.sx_steps.specs.Steps.{Then, Goes}
+use Rattle.sx_steps.specs.Steps.{Then, StepsGo}
 use Rattle.sx_steps.proofs.Ones.{IsOne, as_answer, equal_by}
 
 module _ (Related : Stop → Stop → Type 0) where
@@ -22,8 +22,8 @@ module _ (Related : Stop → Stop → Type 0) where
         IsNoReadFault {A = A} (Err s)
     no_fault_as x s same none = subst (λ (z : Result B Stop). IsNoReadFault z) same none
 
-    goes_as : (g k : Result A Stop) (x y : Result B Stop) → first g → first k → Goes next g x →
-        Goes next k y → IsNoReadFault x → IsNoReadFault y →
+    goes_as : (g k : Result A Stop) (x y : Result B Stop) → first g → first k → StepsGo next g x →
+        StepsGo next k y → IsNoReadFault x → IsNoReadFault y →
         AnswersBy Related (as_answer x) (as_answer y)
     goes_as (Ok a) (Ok b) x y f e h j n m =
         let same = one (Ok a) (Ok b) f e tt tt in

@@ -3,8 +3,8 @@ use Rattle.std.proofs.Common.{◌≡◌, ℕ, ◌+◌, ◌-◌, ◌≤◌, refl,
 use Rattle.std.specs.Prelude.{Result, Ok, Err, Option}
 use Rattle.sx_outside.specs.Files.{Files}
 use Rattle.sx_steps.specs.declared.stop.Stop.{Stop}
-use Rattle.sx_steps.specs.Steps.{Then, Goes, Trying, Untried, GoesOn, AndThen}
-use Rattle.sx_steps.specs.Stop.{Gives, GivesFor, OnlyReads, IsNoFault, RisesUpTo, Counts, Does}
+use Rattle.sx_steps.specs.Steps.{Then, StepsGo, Trying, Untried, GoesOn, AndThen}
+use Rattle.sx_steps.specs.Stop.{Gives, GivesFor, OnlyReads, IsNoFault, RisesUpTo, CountsTries, Does}
 use Rattle.sx_steps.specs.declared.step_error.StepError.{StepError}
 use Rattle.sx_steps.specs.declared.step_error.StepError.TheVariants as errors
 
@@ -41,7 +41,7 @@ pub record Went {A B : Type 0} (first : Result A Stop → Type 0) (next : A → 
   pub begins : first (Ok given)
   pub goes : next given (Ok result)
 
-went_by : {A B : Type 0} (first : Result A Stop → Type 0) (next : A → Result B Stop → Type 0) (result : B) (given : Result A Stop) → first given → Goes next given (Ok result) → Went first next result
+went_by : {A B : Type 0} (first : Result A Stop → Type 0) (next : A → Result B Stop → Type 0) (result : B) (given : Result A Stop) → first given → StepsGo next given (Ok result) → Went first next result
 went_by first next result (Ok given) begins goes = record { given = given; begins = begins; goes = goes }
 went_by first next result (Err stop) begins goes = absurd cc
 
@@ -87,14 +87,14 @@ made_of Walks before after rises =
     (after - before, (rises.0, rises.1, omega arith), omega arith)
 
 -- a step with the tries of its walk, whose value is about one of the step's
-pub trying_for : {X A : Type 0} (Is : X → A → Type 0) (Walks : ℕ → Type 0) (step : Result A Stop → Type 0) (e : StepError) (before after : ℕ) → GivesFor Is step (Err e) → Counts {X = X} Walks (Err e) before after →
+pub trying_for : {X A : Type 0} (Is : X → A → Type 0) (Walks : ℕ → Type 0) (step : Result A Stop → Type 0) (e : StepError) (before after : ℕ) → GivesFor Is step (Err e) → CountsTries {X = X} Walks (Err e) before after →
     (tries : ℕ) × Trying Walks step (Err e) tries × (after ≡ before + tries)
 trying_for Is Walks step errors.Memory before after gives (inl none) = (0, inl refl, omega arith)
 trying_for Is Walks step errors.Memory before after gives (inr rises) = let made = made_of Walks before after rises in (made.0, inr made.1, made.2)
 trying_for Is Walks step (errors.Stopped stop) before after gives rises = (rises.0, (gives, rises.1), rises.2)
 
 -- so of a step whose value is seen by view
-pub trying_by_view : {X A : Type 0} (view : X → A) (Walks : ℕ → Type 0) (step : Result A Stop → Type 0) (result : Result X StepError) (before after : ℕ) → Gives view step result → Counts Walks result before after → Does view (Trying Walks step) result before after
+pub trying_by_view : {X A : Type 0} (view : X → A) (Walks : ℕ → Type 0) (step : Result A Stop → Type 0) (result : Result X StepError) (before after : ℕ) → Gives view step result → CountsTries Walks result before after → Does view (Trying Walks step) result before after
 trying_by_view view Walks step (Ok x) before after gives rises = (rises.0, (gives, rises.1), rises.2)
 trying_by_view view Walks step (Err errors.Memory) before after gives (inl none) = (0, inl refl, omega arith)
 trying_by_view view Walks step (Err errors.Memory) before after gives (inr rises) = let made = made_of Walks before after rises in (made.0, inr made.1, made.2)

@@ -9,7 +9,7 @@ use Rattle.sx_steps.specs.declared.step_error.StepError.{StepError}
 use Rattle.sx_steps.specs.declared.step_error.StepError.TheVariants as errors
 use Rattle.sx_steps.specs.Held.{Held}
 use Rattle.sx_steps.specs.Refusal.{absent, read_fault}
-use Rattle.sx_steps.specs.Steps.{Then, Goes, Trying, GoesOn, AndThen}
+use Rattle.sx_steps.specs.Steps.{Then, StepsGo, Trying, GoesOn, AndThen}
 use Rattle.sx_steps.specs.Stops.{too_long, bad_rules}
 use Rattle.sx_steps.specs.TypeErrors.{IsTypeError}
 use Rattle.sx_steps.proofs.Ones.{err_same}
@@ -48,7 +48,7 @@ module _ (Q : Stop → Type 0) where
   Final {A} step = (stop : Stop) → step (Err stop) → IsTypeError stop → Q stop
 
   module _ {A B : Type 0} (first : Result A Stop → Type 0) (next : A → Result B Stop → Type 0) (begins : Final first) (goes : (given : A) → first (Ok given) → Final (next given)) where
-    goes_final : (g : Result A Stop) (stop : Stop) → first g → Goes next g (Err stop) → IsTypeError stop → Q stop
+    goes_final : (g : Result A Stop) (stop : Stop) → first g → StepsGo next g (Err stop) → IsTypeError stop → Q stop
     goes_final (Ok given) stop h k = goes given h stop k
     goes_final (Err s) stop h k = begins stop (subst (λ (x : Stop). first (Err x)) (sym (err_same stop s k)) h)
 

@@ -8,17 +8,17 @@ use Rattle.sx_steps.specs.declared.step_error.StepError.TheVariants as errors
 -- ---- steps without tries
 
 -- the next step from what was given; a stop stays
-abbrev pub Goes : {A B : Type 0} → (A → Result B Stop → Type 0) → Result A Stop → Result B Stop →
+abbrev pub StepsGo : {A B : Type 0} → (A → Result B Stop → Type 0) → Result A Stop → Result B Stop →
     Type 0
-Goes next (Ok given) result = next given result
-Goes next (Err stop) result = result ≡ Err stop
+StepsGo next (Ok given) result = next given result
+StepsGo next (Err stop) result = result ≡ Err stop
 
 -- the first step, and then the next one from what it gives
 pub record Then {A B : Type 0} (first : Result A Stop → Type 0) (next : A → Result B Stop → Type 0)
     (result : Result B Stop) : Type 0 where
   pub given : Result A Stop
   pub begins : first given
-  pub goes : Goes next given result
+  pub goes : StepsGo next given result
 
 -- ---- steps with tries, in which memory may lack
 

@@ -56,10 +56,10 @@ RisesUpTo Walks before after = (tries : ℕ) × Walks tries × (before ≤ after
 
 -- the steps rose by the tries of these walks, and where memory lacked not at all, or by at most as
 -- many
-abbrev pub Counts : {X : Type 0} → (ℕ → Type 0) → Result X StepError → ℕ → ℕ → Type 0
-Counts Walks (Ok x) before after = RisesBy Walks before after
-Counts Walks (Err errors.Memory) before after = (after ≡ before) ⊎ RisesUpTo Walks before after
-Counts Walks (Err (errors.Stopped stop)) before after = RisesBy Walks before after
+abbrev pub CountsTries : {X : Type 0} → (ℕ → Type 0) → Result X StepError → ℕ → ℕ → Type 0
+CountsTries Walks (Ok x) before after = RisesBy Walks before after
+CountsTries Walks (Err errors.Memory) before after = (after ≡ before) ⊎ RisesUpTo Walks before after
+CountsTries Walks (Err (errors.Stopped stop)) before after = RisesBy Walks before after
 
 -- what the code's step answers, seen by view
 abbrev pub seen_by : {X A : Type 0} → (X → A) → Result X StepError → Result A StepError

@@ -13,12 +13,12 @@ abbrev pub AreWholeCharacters : List ℕ → ℕ → Type 0
 AreWholeCharacters text n = (0 < n) × IsCharBoundary text n
 
 -- what stands at the front of the text
-abbrev pub IsFront : List (List ℕ) → Bool → List ℕ → Front → Type 0
-IsFront literals metas text (Skip n) = AreWholeCharacters text n × Skips text (drop n text)
-IsFront literals metas text (Token mark n) =
+abbrev pub StandsInFront : List (List ℕ) → Bool → List ℕ → Front → Type 0
+StandsInFront literals metas text (Skip n) = AreWholeCharacters text n × Skips text (drop n text)
+StandsInFront literals metas text (Token mark n) =
     AreWholeCharacters text n × Stands literals metas mark (take n text) (drop n text)
-IsFront literals metas text Open = IsOpenString text
-IsFront literals metas text Bad = IsBadToken literals metas text
+StandsInFront literals metas text Open = IsOpenString text
+StandsInFront literals metas text Bad = IsBadToken literals metas text
 
 -- the text begins with a character that is no blank, digit, quote, tilde or symbol
 pub record IsOther (text : List ℕ) : Type 0 where

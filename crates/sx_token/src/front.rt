@@ -4,7 +4,7 @@ ghost use Rattle.std.specs.Prelude.{◌≡◌, ◌≢◌, ℕ, ◌<◌, ◌≤�
 ghost use Rattle.sx_term.specs.Cutting.{is_symbol, is_blank_or_feed};
 ghost use Rattle.std.specs.Char.{is_ascii_digit};
 ghost use Rattle.sx_token.specs.Table.{IsLiteralTable};
-ghost use Rattle.sx_token.specs.Front.{IsFront, IsOther};
+ghost use Rattle.sx_token.specs.Front.{StandsInFront, IsOther};
 
 use crate::table::{Table, place_of, symbol_at};
 use sx_term::runs::{Run, first_char, is_symbol, run_len, word_len};
@@ -27,7 +27,7 @@ fn is_blank(c: char) -> bool
 
 fn string_front(table: &Table, text: &str, metas: bool) -> Front
     requires { slice_index text.now 0 ≡ 34 }
-    ensures { IsFront table.now.literals.now metas text.now result }
+    ensures { StandsInFront table.now.literals.now metas text.now result }
 {
     let (_, after) = text.split_at(1);
     let len = run_len(Run::Inside, after);
@@ -40,14 +40,14 @@ fn string_front(table: &Table, text: &str, metas: bool) -> Front
 
 fn number_front(table: &Table, text: &str, metas: bool) -> Front
     requires { IsTrue (is_ascii_digit (slice_index text.now 0)) }
-    ensures { IsFront table.now.literals.now metas text.now result }
+    ensures { StandsInFront table.now.literals.now metas text.now result }
 {
     Front::Token(Mark::Lex(LexKind::Num), run_len(Run::Digits, text))
 }
 
 fn comment_front(table: &Table, text: &str, metas: bool) -> Front
     requires { (more : List ℕ) × (text.now ≡ 47 ∷ 47 ∷ more) }
-    ensures { IsFront table.now.literals.now metas text.now result }
+    ensures { StandsInFront table.now.literals.now metas text.now result }
 {
     let (_, after) = text.split_at(2);
     Front::Skip(run_len(Run::Line, after) + 2)
@@ -55,7 +55,7 @@ fn comment_front(table: &Table, text: &str, metas: bool) -> Front
 
 fn meta_front(table: &Table, text: &str, metas: bool) -> Front
     requires { slice_index text.now 0 ≡ 126 }
-    ensures { IsFront table.now.literals.now metas text.now result }
+    ensures { StandsInFront table.now.literals.now metas text.now result }
 {
     if !metas {
         return Front::Bad;
@@ -73,7 +73,7 @@ fn symbol_front(table: &Table, text: &str, metas: bool) -> Front
     requires table { IsLiteralTable table.now.literals.now table.now }
     requires symbol { IsTrue (is_symbol (slice_index text.now 0)) }
     requires no_comment { (more : List ℕ) → text.now ≢ 47 ∷ 47 ∷ more }
-    ensures { IsFront table.now.literals.now metas text.now result }
+    ensures { StandsInFront table.now.literals.now metas text.now result }
 {
     match symbol_at(table, text) {
         Some(found) => Front::Token(Mark::Lit(found.place), found.len),
@@ -84,7 +84,7 @@ fn symbol_front(table: &Table, text: &str, metas: bool) -> Front
 fn word_front(table: &Table, text: &str, metas: bool) -> Front
     requires table { IsLiteralTable table.now.literals.now table.now }
     requires other { IsOther text.now }
-    ensures { IsFront table.now.literals.now metas text.now result }
+    ensures { StandsInFront table.now.literals.now metas text.now result }
 {
     let len = word_len(text);
     if len == 0 {
@@ -101,7 +101,7 @@ fn word_front(table: &Table, text: &str, metas: bool) -> Front
 pub(crate) fn front_of(table: &Table, text: &str, metas: bool) -> Front
     requires table { IsLiteralTable table.now.literals.now table.now }
     requires nonempty { 0 < length text.now }
-    ensures { IsFront table.now.literals.now metas text.now result }
+    ensures { StandsInFront table.now.literals.now metas text.now result }
 {
     let Some(first) = first_char(text) else {
         return Front::Bad;

@@ -13,7 +13,7 @@ use Rattle.sx_top.specs.CoreTexts.{subject_text, list_text, term_lines}
 use Rattle.sx_top.specs.ReadCore.{core_file}
 use Rattle.sx_top.specs.FindFirst.{problem_rules, IsFirstOf}
 use Rattle.sx_rules.specs.Rules.{no_hypotheses}
-use Rattle.sx_top.specs.Search.{goal_events, ComesTo, Searches}
+use Rattle.sx_top.specs.Search.{core_goal_events, SearchComesTo, Searches}
 use Rattle.sx_steps.specs.Work.{Plan}
 use Rattle.sx_top.specs.BuildCore.{core_plan, BuildsWhole, BuiltUnit}
 use Rattle.sx_steps.proofs.StepsOn.{went, went_on}
@@ -21,7 +21,7 @@ use Rattle.sx_steps.proofs.Units.{written}
 use Rattle.sx_top.proofs.Propers.{proper}
 
 -- a walk that comes to an answer found it
-pub comes_found : (file : List ℕ) (problem : Problem) (budget : ℕ) (ending : Ending) (answer : Answer) → ComesTo file problem budget ending (Ok answer) → ending ≡ found answer
+pub comes_found : (file : List ℕ) (problem : Problem) (budget : ℕ) (ending : Ending) (answer : Answer) → SearchComesTo file problem budget ending (Ok answer) → ending ≡ found answer
 comes_found file problem budget (found other) answer comes = let same : other ≡ answer = cc in ap found same
 comes_found file problem budget (stopped cause) answer comes = absurd cc
 comes_found file problem budget spent answer comes = absurd cc
@@ -30,7 +30,7 @@ comes_found file problem budget exhausted answer comes = let none = comes.2 in a
 pub searches_first : (file : List ℕ) (budget : ℕ) (problem : Problem) (answer : Answer) → AllModed (modes_of problem.forms) (problem_rules problem) → Searches file budget problem (Ok answer) → IsFirstOf problem answer
 searches_first file budget problem answer moded searches =
     found_is_first (modes_of problem.forms) (problem_rules problem) no_hypotheses moded problem.goal None budget 1 answer
-    (comes_found file problem budget (walk None budget (goal_events problem)) answer searches)
+    (comes_found file problem budget (walk None budget (core_goal_events problem)) answer searches)
 
 pub build_promise : (name : List ℕ) (budget : ℕ) (old new : Files) (plan : Plan) (tries : ℕ) → BuildsWhole name budget old (Ok plan) tries → new ≡ after plan.files old → BuiltUnit name old new plan.lines
 unfolding core_plan

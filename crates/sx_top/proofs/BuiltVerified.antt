@@ -12,7 +12,7 @@ use Rattle.sx_replay.specs.Replay.{IsWithin}
 use Rattle.sx_top.specs.CoreTexts.{subject_text, list_text, term_lines}
 use Rattle.sx_top.specs.FindFirst.{problem_rules}
 use Rattle.sx_rules.specs.Rules.{no_hypotheses}
-use Rattle.sx_top.specs.Search.{goal_events}
+use Rattle.sx_top.specs.Search.{core_goal_events}
 use Rattle.sx_top.specs.ReadCore.{core_file}
 use Rattle.sx_top.specs.BuildCore.{core_plan}
 use Rattle.sx_verify.specs.Verified.{verified_plan}
@@ -46,7 +46,7 @@ built_verified name budget files p answer reads searches few short =
     let list = order_of answer.0 in
     let read = went _ _ _ reads in
     let is = proper read.given p read.goes in
-    let at = comes_found (core_file name) p budget (walk None budget (goal_events p)) answer searches in
+    let at = comes_found (core_file name) p budget (walk None budget (core_goal_events p)) answer searches in
     let within = found_within modes rules no_hypotheses is.moded tt p.goal is.shallow None budget answer at in
     let first = searches_first (core_file name) budget p answer is.moded searches in
     let tries = few_nodes modes rules no_hypotheses p.goal None budget 1 answer at in

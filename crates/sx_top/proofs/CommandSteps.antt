@@ -19,7 +19,7 @@ use Rattle.sx_steps.proofs.StepsOn.{stops_at, untried}
 use Rattle.sx_build.specs.BuildModules.{BuildsModule}
 use Rattle.sx_verify.specs.VerifyModule.{VerifiesModule}
 use Rattle.sx_words.specs.Commands.{SpellsCommand}
-use Rattle.sx_top.specs.Commands.{IsWithin}
+use Rattle.sx_top.specs.Commands.{IsWithinBudget}
 use Rattle.sx_top.specs.Outcome.{budgets_of, audits_of, NamesFor, Runs, RunsFor}
 use Rattle.sx_top.specs.VerifyCore.{VerifiesWhole}
 
@@ -34,7 +34,7 @@ same_number : (one other : ℕ) → samples one ≡ samples other → one ≡ ot
 same_number one other is = cc
 
 within_by : (words : List (List ℕ)) (command : Meant) → SpellsCommand words command →
-    HasFew command → IsWithin command
+    HasFew command → IsWithinBudget command
 within_by words (builds of_core name tries nodes audits) spelled few = few
 within_by words (compiles name tries nodes audits) spelled few = tt
 within_by words (checks name tries nodes) spelled few = tt
@@ -47,7 +47,7 @@ within_by words (samples number) (inr h) few =
 
 -- what words spell is within the limits
 pub spelled_within : (words : List (List ℕ)) (command : Meant) → SpellsCommand words command →
-    IsWithin command
+    IsWithinBudget command
 spelled_within words command spelled =
     within_by words command spelled (spelled_few words command spelled)
 

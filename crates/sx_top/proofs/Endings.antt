@@ -18,13 +18,13 @@ use Rattle.sx_audit.specs.Meaning.{Meaning}
 use Rattle.sx_top.specs.Calls.{Call}
 use Rattle.sx_words.specs.Commands.{SpellsCommand}
 use Rattle.sx_top.specs.Course.{Seen, seen, Course, lacking, stopped, short, failed, written}
-use Rattle.sx_top.specs.Course.{answered, status_after, Begins, Leaves}
+use Rattle.sx_top.specs.Course.{answered, status_after, HoldsOfSteps, Leaves}
 use Rattle.sx_top.specs.Outcome.{budgets_of, NamesFor, RunOutcome, Runs, Promises}
 use Rattle.sx_top.specs.Performing.{Performs}
 use Rattle.sx_top.specs.Telling.{IsStopTold}
 use Rattle.sx_steps.specs.declared.stop.Stop.{Stop}
 use Rattle.sx_steps.specs.Refusal.{file_status, defect_status, status_of}
-use Rattle.sx_top.specs.Ending.{ComesTo, Ends, KeepsPromise, IsAfterRead, HasNoDefect}
+use Rattle.sx_top.specs.Ending.{StepsComeTo, Ends, KeepsPromise, IsAfterRead, HasNoDefect}
 use Rattle.sx_top.specs.Ending.{IsDoneOrShort}
 use Rattle.sx_steps.specs.declared.status.Status.{Status}
 use Rattle.sx_steps.specs.declared.status.Status.TheVariants as statuses
@@ -44,7 +44,7 @@ use Rattle.sx_top.proofs.Writes.{told_same, told_goes}
 
 -- ---- runs with a plan, and without one
 
-begins_with : (Holds : Result Plan StepError → Type 0) (result : Result Plan StepError) (course : Course) → Begins (λ other. other ≡ result) course → Holds result → Begins Holds course
+begins_with : (Holds : Result Plan StepError → Type 0) (result : Result Plan StepError) (course : Course) → HoldsOfSteps (λ other. other ≡ result) course → Holds result → HoldsOfSteps Holds course
 begins_with Holds result lacking begins holds = subst Holds (sym begins) holds
 begins_with Holds result (stopped stop answer) begins holds = subst Holds (sym begins) holds
 begins_with Holds result (short plan number) begins holds = subst Holds (sym begins) holds
@@ -53,12 +53,12 @@ begins_with Holds result (written plan answer) begins holds = subst Holds (sym b
 
 -- a run that had a plan, after reads that did not fail
 pub ends_performed : (given : Call) (plan : Plan) (status : Status) (files between files' : Option Files) (bytes bytes' : Option (List ℕ)) (reads read reads' writes wrote writes' sends sends' before after : ℕ) →
-    between ≡ files → read ≡ reads → wrote ≡ writes → ComesTo given files before after (Ok plan) → Performs plan status (seen between bytes read wrote sends) (seen files' bytes' reads' writes' sends') →
+    between ≡ files → read ≡ reads → wrote ≡ writes → StepsComeTo given files before after (Ok plan) → Performs plan status (seen between bytes read wrote sends) (seen files' bytes' reads' writes' sends') →
     Ends given status (seen files bytes reads writes sends) (seen files' bytes' reads' writes' sends') before after
 ends_performed given plan status files between files' bytes bytes' reads read reads' writes wrote writes' sends sends' before after same still kept comes performs = record {
   course = performs.course;
   is = performs.is;
-  begins = begins_with (ComesTo given files before after) (Ok plan) performs.course performs.begins comes;
+  begins = begins_with (StepsComeTo given files before after) (Ok plan) performs.course performs.begins comes;
   leaves =
       let old : seen between bytes read wrote sends ≡ seen files bytes reads writes sends = λ i. seen (same i) bytes (still i) (kept i) sends in
       subst (λ (s : Seen). Leaves performs.course s (seen files' bytes' reads' writes' sends')) old performs.leaves;
@@ -173,7 +173,7 @@ stays (written plan answer) old new leaves = told_goes _ _ old.files new.files l
 no_promise : (given : Call) (course : Course) (status : Status) (old new : Seen) → Leaves course old new → (status ≡ statuses.Done → ⊥) → Told (KeepsPromise given status old.bytes new.bytes) old.files new.files
 no_promise given course status old new leaves never = told_goes _ _ old.files new.files (stays course old new leaves) (λ before now told is done. absurd (never done))
 
-promise_by : (given : Call) (course : Course) (status : Status) (old new : Seen) (first last : ℕ) → status_after course ≡ status → Begins (ComesTo given old.files first last) course → Leaves course old new → Told (KeepsPromise given status old.bytes new.bytes) old.files new.files
+promise_by : (given : Call) (course : Course) (status : Status) (old new : Seen) (first last : ℕ) → status_after course ≡ status → HoldsOfSteps (StepsComeTo given old.files first last) course → Leaves course old new → Told (KeepsPromise given status old.bytes new.bytes) old.files new.files
 promise_by given lacking status old new first last is begins leaves = no_promise given lacking status old new leaves (λ done. let at : statuses.NoMemory ≡ statuses.Done = is ∙ done in cc)
 promise_by given (stopped stop answer) status old new first last is begins leaves = no_promise given (stopped stop answer) status old new leaves (λ done. answered_done stop answer (is ∙ done))
 promise_by given (short plan number) status old new first last is begins leaves = no_promise given (short plan number) status old new leaves (λ done. let at : statuses.NoMemory ≡ statuses.Done = is ∙ done in cc)
@@ -277,7 +277,7 @@ reads_by (written plan answer) status old new is leaves less = no_rise old.reads
 pub read_forces : (given : Call) (status : Status) (old new : Seen) (first last : ℕ) → Ends given status old new first last → old.reads < new.reads → IsAfterRead status old.sends new.sends
 read_forces given status old new first last ends less = reads_by ends.course status old new ends.is ends.leaves less
 
-complete_by : (given : Call) (course : Course) (status : Status) (old new : Seen) (first last : ℕ) (files : Files) → status_after course ≡ status → Begins (ComesTo given old.files first last) course → Leaves course old new → old.files ≡ Some files → HasNoDefect given files
+complete_by : (given : Call) (course : Course) (status : Status) (old new : Seen) (first last : ℕ) (files : Files) → status_after course ≡ status → HoldsOfSteps (StepsComeTo given old.files first last) course → Leaves course old new → old.files ≡ Some files → HasNoDefect given files
     → (Rose old.reads new.reads → ⊥) → (Rose old.writes new.writes → ⊥) → (Rose old.sends new.sends → ⊥) → IsDoneOrShort status
 complete_by given lacking status old new first last files is begins leaves told none no_read no_write no_send = inr (sym is)
 complete_by given (stopped stop answer) status old new first last files is begins leaves told none no_read no_write no_send = absurd (no_read (let b = begins files told in leaves.reads.rose (none stop b.0 b.1)))

@@ -21,7 +21,7 @@ use Rattle.sx_rules.specs.RuleNames.{AreNames, AreNamesDistinct}
 use Rattle.sx_rules.specs.Views.{NamedRule}
 use Rattle.sx_rules.specs.ListText.{IsEntry, entry_line, list_lines, StatesList}
 use Rattle.sx_rules.proofs.ListLaws.{list_stated, list_round}
-use Rattle.sx_top.specs.CoreTexts.{core_rule_name, entry_text, entry_lines, list_text}
+use Rattle.sx_top.specs.CoreTexts.{core_rule_name, core_entry_text, entry_lines, list_text}
 
 -- ---- entries
 
@@ -91,7 +91,7 @@ name_is [] (suc r) = refl
 name_is (x ∷ rules) zero = refl
 name_is (x ∷ rules) (suc r) = name_is rules r
 
-entry_is : (rules : List NamedRule) (e : Entry) → entry_text rules e ≡ entry_line (names_of rules) (entry_again e)
+entry_is : (rules : List NamedRule) (e : Entry) → core_entry_text rules e ≡ entry_line (names_of rules) (entry_again e)
 entry_is rules (of_rule r) = name_is rules r
 entry_is rules (of_given n) = refl
 

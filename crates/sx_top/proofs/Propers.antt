@@ -14,7 +14,7 @@ use Rattle.sx_rules.specs.Writable.{HaveTexts, PremisesHaveTexts, RulesHaveTexts
 use Rattle.sx_rules.specs.Derivations.{AreShallow}
 use Rattle.sx_core.specs.Problem.{Problem}
 use Rattle.sx_core.specs.File.{CoreFile, SortRow, PremiseRow, if_line, not_line, RuleRows}
-use Rattle.sx_core.specs.Stated.{AreReadable, ArePremises, AreRules, StatesProblem}
+use Rattle.sx_core.specs.Stated.{AreReadable, AreCorePremises, AreCoreRules, StatesProblem}
 use Rattle.sx_core.specs.CoreRead.{IsCoreAnswer}
 use Rattle.sx_top.specs.Terms.{AreTerms}
 use Rattle.sx_top.specs.Proper.{IsProper}
@@ -47,7 +47,7 @@ readable_shallow (t ∷ ts) are = (are.1, readable_shallow ts are.2)
 texts_as : (ts us : List Tree) → ts ≡ us → AreReadable us → HaveTexts ts
 texts_as ts us same are = subst HaveTexts (sym same) (readable_texts us are)
 
-premises_texts : (forms : List FormData) (rows : List PremiseRow) (ps : List Premise) → ArePremises forms rows ps → PremisesHaveTexts ps
+premises_texts : (forms : List FormData) (rows : List PremiseRow) (ps : List Premise) → AreCorePremises forms rows ps → PremisesHaveTexts ps
 premises_texts forms [] [] are = tt
 premises_texts forms [] (p ∷ ps) are = absurd are
 premises_texts forms (row ∷ rows) [] are = tt
@@ -56,7 +56,7 @@ premises_texts forms (if_line row ∷ rows) (apart t u ∷ ps) are = absurd are
 premises_texts forms (not_line left right ∷ rows) (holds j ∷ ps) are = absurd are
 premises_texts forms (not_line left right ∷ rows) (apart t u ∷ ps) are = premises_texts forms rows ps are.3
 
-rules_texts : (rows : List SortRow) (forms : List FormData) (lines : List RuleRows) (rs : List NamedRule) → AreRules rows forms lines rs → RulesHaveTexts (map (λ r. r.rule) rs)
+rules_texts : (rows : List SortRow) (forms : List FormData) (lines : List RuleRows) (rs : List NamedRule) → AreCoreRules rows forms lines rs → RulesHaveTexts (map (λ r. r.rule) rs)
 rules_texts rows forms [] [] are = tt
 rules_texts rows forms [] (r ∷ rs) are = absurd are
 rules_texts rows forms (l ∷ ls) [] are = tt
@@ -64,7 +64,7 @@ rules_texts rows forms (l ∷ ls) (r ∷ rs) are =
     let one = are.0 in
     ((premises_texts forms l.premises r.rule.premises one.premises, texts_as r.rule.conclusion.places l.conclusion.terms one.conclusion.places one.conclusion.readable), rules_texts rows forms ls rs are.1)
 
-rules_names : (rows : List SortRow) (forms : List FormData) (lines : List RuleRows) (rs : List NamedRule) → AreRules rows forms lines rs → AreNames (map (λ r. r.name) rs)
+rules_names : (rows : List SortRow) (forms : List FormData) (lines : List RuleRows) (rs : List NamedRule) → AreCoreRules rows forms lines rs → AreNames (map (λ r. r.name) rs)
 rules_names rows forms [] [] are = tt
 rules_names rows forms [] (r ∷ rs) are = absurd are
 rules_names rows forms (l ∷ ls) [] are = tt

@@ -12,7 +12,7 @@ use Rattle.sx_core.specs.Problem.{Problem}
 use Rattle.sx_core.specs.CoreRead.{IsCoreAnswer}
 use Rattle.sx_core.specs.File.{CoreFile, words_text, judgement_text}
 use Rattle.sx_core.specs.Table.{Row, row_text, declaration_row, rule_rows, rows_of}
-use Rattle.sx_top.specs.CoreTexts.{roles_of, subjects, subject_text, term_lines}
+use Rattle.sx_top.specs.CoreTexts.{form_roles, subjects, subject_text, term_lines}
 use Rattle.sx_verify.proofs.ShortTexts.{AreShort, lines_short, kept_short}
 
 subjects_short : (roles : List Role) (terms : List Tree) → length (term_lines (subjects roles terms)) ≤ length (words_text (map core terms))
@@ -46,7 +46,7 @@ subject_short bytes p answer =
     let lines = subst (λ (l : List (List ℕ)). AreShort (length bytes) l) stated.1 (kept_short (length bytes) (lines_from 1 bytes) (lines_short 1 bytes)) in
     let line = goal_short (length bytes) file lines in
     let terms = words_text (map core file.goal.terms) in
-    let short = subjects_short (roles_of p.forms p.goal.form) p.goal.terms in
+    let short = subjects_short (form_roles p.forms p.goal.form) p.goal.terms in
     let same : length (words_text (map core p.goal.terms)) ≡ length terms = ap (λ (ts : List Tree). length (words_text (map core ts))) goal.terms in
     let e = length-append (codes "goal") (32 ∷ file.goal.form ++ terms) in
     let f = length-append file.goal.form terms in

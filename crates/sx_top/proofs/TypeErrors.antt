@@ -50,8 +50,8 @@ use Rattle.sx_audit.specs.Meaning.{Meaning}
 use Rattle.sx_top.specs.Calls.{Call}
 use Rattle.sx_top.specs.Outcome.{budgets_of, audits_of, NamesFor, Runs, RunsFor, RunOutcome}
 use Rattle.sx_top.proofs.Misnamed.{misnamed}
-use Rattle.sx_top.specs.ReadCore.{core_file, rule_names, Reads}
-use Rattle.sx_top.specs.Search.{goal_events, passed, ComesTo, Searches, HasWalked}
+use Rattle.sx_top.specs.ReadCore.{core_file, problem_rule_names, ReadsCore}
+use Rattle.sx_top.specs.Search.{core_goal_events, passed, SearchComesTo, Searches, HasCoreWalked}
 use Rattle.sx_top.specs.VerifyCore.{ReplaysProblem, VerifiesOutputs, VerifiesCoreEntries}
 use Rattle.sx_top.specs.VerifyCore.{VerifiesCoreList, VerifiesCoreSubject, VerifiesWhole}
 use Rattle.sx_top.specs.Written.{Equals, Compares}
@@ -78,7 +78,7 @@ module _ (Q : Stop → Type 0) where
 
   -- ---- files
 
-  reads_final : (file : List ℕ) (files : Files) → Final Q (Reads file files)
+  reads_final : (file : List ℕ) (files : Files) → Final Q (ReadsCore file files)
   reads_final file files =
       then_final Q (Held most_bytes file files) (λ bytes. Lower (core_stop file) (IsCoreAnswer bytes)) (held_final Q most_bytes file files)
       (λ bytes held stop h. on_stop Q (core_stop file h.0) stop (no_core file h.0) h.2)
@@ -115,7 +115,7 @@ module _ (Q : Stop → Type 0) where
 
     list_final : (p : Problem) → Final Q (VerifiesCoreList name files p)
     list_final p =
-        then_final Q (ReadsEntries (list_file name) (rule_names p) files) (VerifiesCoreEntries name files p) (reads_entries_final (list_file name) (rule_names p) files)
+        then_final Q (ReadsEntries (list_file name) (problem_rule_names p) files) (VerifiesCoreEntries name files p) (reads_entries_final (list_file name) (problem_rule_names p) files)
         (λ list read. replay_final p list)
 
     subject_final : (p : Problem) → Final Q (VerifiesCoreSubject name files p)
@@ -124,7 +124,7 @@ module _ (Q : Stop → Type 0) where
         (compares_final (base_file name) (subject_text p.forms p.goal) files) (λ done held. list_final p)
 
     verifies_final : Final Q (VerifiesWhole name files)
-    verifies_final = then_final Q (Reads (core_file name) files) (VerifiesCoreSubject name files) (reads_final (core_file name) files) (λ p read. subject_final p)
+    verifies_final = then_final Q (ReadsCore (core_file name) files) (VerifiesCoreSubject name files) (reads_final (core_file name) files) (λ p read. subject_final p)
 
 -- ---- `build --core`
 
@@ -134,7 +134,7 @@ no_limit file (passes_terms depth) error = error
 no_limit file (passes_size size) error = error
 
 -- a walk comes to a type error only at the end of its events
-comes_final : (file : List ℕ) (p : Problem) (budget : ℕ) (ending : Ending) (stop : Stop) → ComesTo file p budget ending (Err stop) → IsTypeError stop → ending ≡ exhausted
+comes_final : (file : List ℕ) (p : Problem) (budget : ℕ) (ending : Ending) (stop : Stop) → SearchComesTo file p budget ending (Err stop) → IsTypeError stop → ending ≡ exhausted
 comes_final file p budget (found answer) stop comes error = absurd (ok_no_err answer stop (sym comes))
 comes_final file p budget (stopped cause) stop comes error = absurd (no_limit file cause (subst IsTypeError (err_same stop (passed file cause) comes) error))
 comes_final file p budget spent stop comes error = absurd (subst IsTypeError (err_same stop (tries_spent file budget) comes) error)
@@ -142,26 +142,26 @@ comes_final file p budget exhausted stop comes error = refl
 
 searches_final : (file : List ℕ) (budget : ℕ) (p : Problem) → AllModed (modes_of p.forms) (problem_rules p) → Final (λ (stop : Stop). IsUnderivable (modes_of p.forms) (problem_rules p) no_hypotheses p.goal None) (Searches file budget p)
 searches_final file budget p moded stop comes error =
-    exhausted_means_none (modes_of p.forms) (problem_rules p) no_hypotheses moded p.goal None budget 1 (comes_final file p budget (walk None budget (goal_events p)) stop comes error)
+    exhausted_means_none (modes_of p.forms) (problem_rules p) no_hypotheses moded p.goal None budget 1 (comes_final file p budget (walk None budget (core_goal_events p)) stop comes error)
 
-read_moded : (file : List ℕ) (files : Files) (p : Problem) → Reads file files (Ok p) → AllModed (modes_of p.forms) (problem_rules p)
+read_moded : (file : List ℕ) (files : Files) (p : Problem) → ReadsCore file files (Ok p) → AllModed (modes_of p.forms) (problem_rules p)
 read_moded file files p read = let at = went _ _ _ read in (proper at.given p at.goes).moded
 
 module _ (name : List ℕ) (budget : ℕ) (files : Files) where
   abbrev Q : Stop → Type 0
   Q stop = HasNoDerivation name files
 
-  goal_final : (p : Problem) → Reads (core_file name) files (Ok p) → FinalTrying Q (BuildsGoal name (core_file name) budget p)
+  goal_final : (p : Problem) → ReadsCore (core_file name) files (Ok p) → FinalTrying Q (BuildsGoal name (core_file name) budget p)
   goal_final p read =
-      and_then_final Q (Trying (HasWalked budget p) (Searches (core_file name) budget p)) (λ answer. Untried (λ result. result ≡ Ok (core_plan name p answer)))
-      (trying_final Q (HasWalked budget p) (Searches (core_file name) budget p)
+      and_then_final Q (Trying (HasCoreWalked budget p) (Searches (core_file name) budget p)) (λ answer. Untried (λ result. result ≡ Ok (core_plan name p answer)))
+      (trying_final Q (HasCoreWalked budget p) (Searches (core_file name) budget p)
       (λ stop h error. record { problem = p; reads = read; none = searches_final (core_file name) budget p (read_moded (core_file name) files p read) stop h error }))
       (λ answer before first. trying_final Q NoTries (λ result. result ≡ Ok (core_plan name p answer)) (λ stop h. absurd (ok_no_err (core_plan name p answer) stop (sym h))))
 
   builds_final : FinalTrying Q (BuildsWhole name budget files)
   builds_final =
-      and_then_final Q (Untried (Reads (core_file name) files)) (BuildsGoal name (core_file name) budget)
-      (trying_final Q NoTries (Reads (core_file name) files) (reads_final Q (core_file name) files))
+      and_then_final Q (Untried (ReadsCore (core_file name) files)) (BuildsGoal name (core_file name) budget)
+      (trying_final Q NoTries (ReadsCore (core_file name) files) (reads_final Q (core_file name) files))
       (λ p before read. goal_final p read.0)
 
 -- ---- commands

@@ -23,9 +23,9 @@ use Rattle.sx_term.specs.Limits.{most_bytes}
 use Rattle.sx_steps.specs.Lower.{Lower}
 use Rattle.sx_top.specs.LowerStops.{core_stop}
 use Rattle.sx_top.specs.Proper.{IsProper}
-use Rattle.sx_top.specs.ReadCore.{core_file, rule_names, Reads}
+use Rattle.sx_top.specs.ReadCore.{core_file, problem_rule_names, ReadsCore}
 use Rattle.sx_steps.specs.Unit.{base_file, list_file, interface_file}
-use Rattle.sx_top.specs.Search.{Searches, HasWalked}
+use Rattle.sx_top.specs.Search.{Searches, HasCoreWalked}
 use Rattle.sx_top.specs.Written.{Compares}
 use Rattle.sx_top.specs.BuildCore.{core_plan, BuildsGoal, BuildsWhole}
 use Rattle.sx_top.specs.VerifyCore.{ReplaysProblem, VerifiesOutputs, VerifiesCoreEntries}
@@ -76,7 +76,7 @@ module _ (name : List ℕ) (files : Files) where
 
     verify_list_one : IsOne (VerifiesCoreList name files p)
     verify_list_one =
-        then_one (ReadsEntries (list_file name) (rule_names p) files) (VerifiesCoreEntries name files p) (list_one (list_file name) (rule_names p)
+        then_one (ReadsEntries (list_file name) (problem_rule_names p) files) (VerifiesCoreEntries name files p) (list_one (list_file name) (problem_rule_names p)
         (record { named = is_proper.names; distinct = is_proper.distinct }) files)
         (λ list read. replay_one list)
 
@@ -87,8 +87,8 @@ module _ (name : List ℕ) (files : Files) where
 
     goal_one : (budget : ℕ) → IsOneBy ◌≡◌ (BuildsGoal name (core_file name) budget p)
     goal_one budget =
-        and_then_by ◌≡◌ (Trying (HasWalked budget p) (Searches (core_file name) budget p)) (λ answer. Untried (λ result. result ≡ Ok (core_plan name p answer)))
-        (trying_one (HasWalked budget p) (Searches (core_file name) budget p) (λ m n h k. h ∙ sym k) (searches_one (core_file name) budget p is_proper.moded))
+        and_then_by ◌≡◌ (Trying (HasCoreWalked budget p) (Searches (core_file name) budget p)) (λ answer. Untried (λ result. result ≡ Ok (core_plan name p answer)))
+        (trying_one (HasCoreWalked budget p) (Searches (core_file name) budget p) (λ m n h k. h ∙ sym k) (searches_one (core_file name) budget p is_proper.moded))
         (λ answer before found. trying_one NoTries (λ result. result ≡ Ok (core_plan name p answer)) no_tries_one (λ x y h k n m. h ∙ sym k))
 
 -- ---- commands
@@ -100,22 +100,22 @@ commands_one words (Err s) (Ok b) h k n m = absurd (no_misfit words b h.0 k h.1)
 commands_one words (Err s) (Err t) h k n m = ap Err (h.2 ∙ ap bad_word (one_misfit words h.0 k.0 h.1 k.1) ∙ sym k.2)
 
 module _ (core_one : (bytes : List ℕ) (a b : Result Problem CoreFileError) → IsCoreAnswer bytes a → IsCoreAnswer bytes b → (a ≢ Err core_error.Memory) → (b ≢ Err core_error.Memory) → a ≡ b) (headers : OneHeaderAnswer) where
-  reads_one : (file : List ℕ) (files : Files) → IsOne (Reads file files)
+  reads_one : (file : List ℕ) (files : Files) → IsOne (ReadsCore file files)
   reads_one file files =
       then_one (Held most_bytes file files) (λ bytes. Lower (core_stop file) (IsCoreAnswer bytes)) (held_one most_bytes file files)
       (λ bytes held. lower_but (core_stop file) (IsCoreAnswer bytes) core_error.Memory refl (core_one bytes))
 
-  read_proper : (file : List ℕ) (files : Files) (p : Problem) → Reads file files (Ok p) → IsProper p
+  read_proper : (file : List ℕ) (files : Files) (p : Problem) → ReadsCore file files (Ok p) → IsProper p
   read_proper file files p read = let at = went _ _ _ read in proper at.given p at.goes
 
   builds_one : (name : List ℕ) (budget : ℕ) (files : Files) → IsOneBy ◌≡◌ (BuildsWhole name budget files)
   builds_one name budget files =
-      and_then_by ◌≡◌ (Untried (Reads (core_file name) files)) (BuildsGoal name (core_file name) budget) (trying_one NoTries (Reads (core_file name) files) no_tries_one (reads_one (core_file name) files))
+      and_then_by ◌≡◌ (Untried (ReadsCore (core_file name) files)) (BuildsGoal name (core_file name) budget) (trying_one NoTries (ReadsCore (core_file name) files) no_tries_one (reads_one (core_file name) files))
       (λ p before read. goal_one name files p (read_proper (core_file name) files p read.0) budget)
 
   verifies_one : (name : List ℕ) (files : Files) → IsOne (VerifiesWhole name files)
   verifies_one name files =
-      then_one (Reads (core_file name) files) (VerifiesCoreSubject name files) (reads_one (core_file name) files)
+      then_one (ReadsCore (core_file name) files) (VerifiesCoreSubject name files) (reads_one (core_file name) files)
       (λ p read. subject_one name files p (read_proper (core_file name) files p read))
 
   runs_one : (command : Meant) (named : List Meaning) (files : Files) → IsOfCore command → IsOneBy ◌≡◌ (Runs command named files)

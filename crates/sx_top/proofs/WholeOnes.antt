@@ -15,7 +15,7 @@ use Rattle.sx_top.specs.FindFirst.{problem_rules}
 use Rattle.sx_rules.specs.Rules.{no_hypotheses}
 use Rattle.sx_steps.specs.Held.{Held}
 use Rattle.sx_term.specs.Limits.{most_bytes}
-use Rattle.sx_top.specs.Search.{goal_events, ComesTo, Searches}
+use Rattle.sx_top.specs.Search.{core_goal_events, SearchComesTo, Searches}
 use Rattle.sx_top.specs.Written.{Equals, Compares}
 use Rattle.sx_steps.proofs.Ones.{IsOne, then_one, held_one}
 
@@ -33,7 +33,7 @@ compares_one file text files = then_one (Held most_bytes file files) (Equals fil
 
 -- ---- the search
 
-comes_one : (file : List ℕ) (problem : Problem) (budget : ℕ) (ending : Ending) → AllModed (modes_of problem.forms) (problem_rules problem) → (x y : Result Answer Stop) → ComesTo file problem budget ending x → ComesTo file problem budget ending y → x ≡ y
+comes_one : (file : List ℕ) (problem : Problem) (budget : ℕ) (ending : Ending) → AllModed (modes_of problem.forms) (problem_rules problem) → (x y : Result Answer Stop) → SearchComesTo file problem budget ending x → SearchComesTo file problem budget ending y → x ≡ y
 comes_one file problem budget (found answer) moded x y h k = h ∙ sym k
 comes_one file problem budget (stopped cause) moded x y h k = h ∙ sym k
 comes_one file problem budget spent moded x y h k = h ∙ sym k
@@ -42,4 +42,4 @@ comes_one file problem budget exhausted moded x y h k =
     h.2 ∙ ap (λ (blame : Blame). Err (underivable file problem blame)) same ∙ sym k.2
 
 pub searches_one : (file : List ℕ) (budget : ℕ) (problem : Problem) → AllModed (modes_of problem.forms) (problem_rules problem) → IsOne (Searches file budget problem)
-searches_one file budget problem moded x y h k n m = comes_one file problem budget (walk None budget (goal_events problem)) moded x y h k
+searches_one file budget problem moded x y h k n m = comes_one file problem budget (walk None budget (core_goal_events problem)) moded x y h k

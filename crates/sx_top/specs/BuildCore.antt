@@ -9,10 +9,10 @@ use Rattle.sx_core.specs.CoreRead.{IsCoreAnswer}
 use Rattle.sx_top.specs.CoreTexts.{subject_text, list_text, term_lines}
 use Rattle.sx_steps.specs.declared.step_error.StepError.{StepError}
 use Rattle.sx_steps.specs.Steps.{Trying, Untried, AndThen}
-use Rattle.sx_top.specs.ReadCore.{core_file, Reads}
+use Rattle.sx_top.specs.ReadCore.{core_file, ReadsCore}
 use Rattle.sx_steps.specs.Unit.{base_file, list_file, interface_file, built_line, built_plan}
 use Rattle.sx_top.specs.FindFirst.{IsFirstOf}
-use Rattle.sx_top.specs.Search.{Searches, HasWalked}
+use Rattle.sx_top.specs.Search.{Searches, HasCoreWalked}
 use Rattle.sx_steps.specs.Work.{Plan}
 
 -- the three files and the line
@@ -24,13 +24,13 @@ core_plan name problem answer =
 -- the first derivation of the problem's goal, and then the three files and the line
 abbrev pub BuildsGoal : List ℕ → List ℕ → ℕ → Problem → Result Plan StepError → ℕ → Type 0
 BuildsGoal name file budget problem =
-    AndThen (Trying (HasWalked budget problem) (Searches file budget problem))
+    AndThen (Trying (HasCoreWalked budget problem) (Searches file budget problem))
     (λ answer. Untried (λ result. result ≡ Ok (core_plan name problem answer)))
 
 -- the steps of the command, with the name of its file
 abbrev pub BuildsFrom : List ℕ → List ℕ → ℕ → Files → Result Plan StepError → ℕ → Type 0
 BuildsFrom name file budget files =
-    AndThen (Untried (Reads file files)) (BuildsGoal name file budget)
+    AndThen (Untried (ReadsCore file files)) (BuildsGoal name file budget)
 
 -- the steps of the command, with so many tries to spend
 abbrev pub BuildsWhole : List ℕ → ℕ → Files → Result Plan StepError → ℕ → Type 0

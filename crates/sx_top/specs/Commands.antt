@@ -12,9 +12,9 @@ Commands words (Ok command) = SpellsCommand words command
 Commands words (Err stop) = (place : ℕ) × IsWordMisfit words place × (stop ≡ bad_word place)
 
 -- a build has at most 1,000,000 tries to spend, and a sample from 1 to 300 names
-abbrev pub IsWithin : Meant → Type 0
-IsWithin (builds of_core name tries nodes audits) = tries ≤ most_budget
-IsWithin (checks name tries nodes) = Unit {0}
-IsWithin (compiles name tries nodes audits) = Unit {0}
-IsWithin (verifies of_core name) = Unit {0}
-IsWithin (samples number) = (1 ≤ number) × (number ≤ 300)
+abbrev pub IsWithinBudget : Meant → Type 0
+IsWithinBudget (builds of_core name tries nodes audits) = tries ≤ most_budget
+IsWithinBudget (checks name tries nodes) = Unit {0}
+IsWithinBudget (compiles name tries nodes audits) = Unit {0}
+IsWithinBudget (verifies of_core name) = Unit {0}
+IsWithinBudget (samples number) = (1 ≤ number) × (number ≤ 300)

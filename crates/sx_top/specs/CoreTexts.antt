@@ -10,8 +10,8 @@ use Rattle.sx_rules.specs.Modes.{Goal}
 use Rattle.sx_rules.specs.Orders.{Entry, of_given, of_rule}
 
 -- the roles of a form's places
-abbrev pub roles_of : List FormData → ℕ → List Role
-roles_of forms number = map (λ place. place.role) (places_at forms number)
+abbrev pub form_roles : List FormData → ℕ → List Role
+form_roles forms number = map (λ place. place.role) (places_at forms number)
 
 abbrev pub form_name_or_none : Option FormData → List ℕ
 form_name_or_none None = []
@@ -37,7 +37,7 @@ term_lines (term ∷ terms) = core term ++ 10 ∷ term_lines terms
 
 -- the core text of the goal's subject, on a line
 abbrev pub subject_text : List FormData → Goal → List ℕ
-subject_text forms goal = term_lines (subjects (roles_of forms goal.form) goal.terms)
+subject_text forms goal = term_lines (subjects (form_roles forms goal.form) goal.terms)
 
 abbrev pub rule_name_or_none : Option NamedRule → List ℕ
 rule_name_or_none None = []
@@ -48,14 +48,14 @@ abbrev pub core_rule_name : List NamedRule → ℕ → List ℕ
 core_rule_name rules number = rule_name_or_none (slice_get rules number)
 
 -- a rule's name, or `given` and the number of the given, counted from 1
-abbrev pub entry_text : List NamedRule → Entry → List ℕ
-entry_text rules (of_rule number) = core_rule_name rules number
-entry_text rules (of_given number) = codes "given " ++ decimal (number + 1)
+abbrev pub core_entry_text : List NamedRule → Entry → List ℕ
+core_entry_text rules (of_rule number) = core_rule_name rules number
+core_entry_text rules (of_given number) = codes "given " ++ decimal (number + 1)
 
 -- each entry on a line
 abbrev pub entry_lines : List NamedRule → List Entry → List ℕ
 entry_lines rules [] = []
-entry_lines rules (entry ∷ entries) = entry_text rules entry ++ 10 ∷ entry_lines rules entries
+entry_lines rules (entry ∷ entries) = core_entry_text rules entry ++ 10 ∷ entry_lines rules entries
 
 -- the text of a list
 abbrev pub list_text : List NamedRule → List Entry → List ℕ

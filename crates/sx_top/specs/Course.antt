@@ -56,12 +56,12 @@ status_after (failed plan number answer) = statuses.WriteFault
 status_after (written plan answer) = answered statuses.Done answer
 
 -- this holds of what the steps came to
-abbrev pub Begins : (Result Plan StepError → Type 0) → Course → Type 0
-Begins Holds lacking = Holds (Err errors.Memory)
-Begins Holds (stopped stop answer) = Holds (Err (errors.Stopped stop))
-Begins Holds (short plan number) = Holds (Ok plan)
-Begins Holds (failed plan number answer) = Holds (Ok plan)
-Begins Holds (written plan answer) = Holds (Ok plan)
+abbrev pub HoldsOfSteps : (Result Plan StepError → Type 0) → Course → Type 0
+HoldsOfSteps Holds lacking = Holds (Err errors.Memory)
+HoldsOfSteps Holds (stopped stop answer) = Holds (Err (errors.Stopped stop))
+HoldsOfSteps Holds (short plan number) = Holds (Ok plan)
+HoldsOfSteps Holds (failed plan number answer) = Holds (Ok plan)
+HoldsOfSteps Holds (written plan answer) = Holds (Ok plan)
 
 -- ---- what is left
 
@@ -98,7 +98,7 @@ name_at (file ∷ files) (suc number) = name_at files number
 
 -- the files before this number were written, this one may hold anything, and all others are as
 -- before; the count of write faults rose
-pub record HasFailed (plan : Plan) (number : ℕ) (answer : WriteAnswer)
+pub record HasWriteFailed (plan : Plan) (number : ℕ) (answer : WriteAnswer)
     (old new : Seen) : Type 0 where
   pub below : number < length plan.files
   pub files : Told (λ before now.
@@ -121,5 +121,5 @@ abbrev pub Leaves : Course → Seen → Seen → Type 0
 Leaves lacking old new = new ≡ old
 Leaves (stopped stop answer) old new = WasStopped stop answer old new
 Leaves (short plan number) old new = WasShort plan number old new
-Leaves (failed plan number answer) old new = HasFailed plan number answer old new
+Leaves (failed plan number answer) old new = HasWriteFailed plan number answer old new
 Leaves (written plan answer) old new = HasWritten plan answer old new

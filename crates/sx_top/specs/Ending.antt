@@ -12,15 +12,15 @@ use Rattle.sx_audit.specs.Meaning.{Meaning}
 use Rattle.sx_top.specs.Calls.{Call}
 use Rattle.sx_top.specs.Outcome.{NamesFor, RunOutcome, Promises}
 use Rattle.sx_words.specs.Commands.{SpellsCommand}
-use Rattle.sx_top.specs.Course.{Seen, Course, status_after, Begins, Leaves}
+use Rattle.sx_top.specs.Course.{Seen, Course, status_after, HoldsOfSteps, Leaves}
 use Rattle.sx_words.specs.Commands.{Meant}
 use Rattle.sx_steps.specs.declared.status.Status.{Status}
 use Rattle.sx_steps.specs.declared.status.Status.TheVariants as statuses
 
 -- by the words and the files, where these are told, the steps come to this, and the tries that they
 -- make were counted
-abbrev pub ComesTo : Call → Option Files → ℕ → ℕ → Result Plan StepError → Type 0
-ComesTo c told before after result =
+abbrev pub StepsComeTo : Call → Option Files → ℕ → ℕ → Result Plan StepError → Type 0
+StepsComeTo c told before after result =
     WhereTold told (λ files. (tries : ℕ) × RunOutcome c files result tries ×
     (after ≡ before + tries))
 
@@ -29,7 +29,7 @@ pub record Ends (c : Call) (status : Status) (old new : Seen)
     (before after : ℕ) : Type 0 where
   pub course : Course
   pub is : status_after course ≡ status
-  pub begins : Begins (ComesTo c old.files before after) course
+  pub begins : HoldsOfSteps (StepsComeTo c old.files before after) course
   pub leaves : Leaves course old new
 
 -- the command that the words are keeps its promise, with lines that the sink got where it tells

@@ -12,24 +12,24 @@ use Rattle.sx_steps.specs.declared.step_error.StepError.TheVariants as errors
 use Rattle.sx_steps.specs.Agree.{IsSure, AnswersBy}
 use Rattle.sx_steps.specs.TypeErrors.{IsTypeError}
 use Rattle.sx_steps.specs.Work.{Plan}
-use Rattle.sx_build.specs.Laws.{SameButShown, IsTurnOf, given_at}
-use Rattle.sx_check.specs.Laws.{SameButLines, HasUnsoundRule}
-use Rattle.sx_verify.specs.Laws.{SameButShown as VerifiesSame}
+use Rattle.sx_build.specs.Laws.{BuildsAlikeButShown, IsTurnOf, given_at}
+use Rattle.sx_check.specs.Laws.{SameButLines, ReachesUnsoundRule}
+use Rattle.sx_verify.specs.Laws.{VerifiesAlikeButShown as VerifiesSame}
 use Rattle.sx_compile.specs.Laws.{HasNoType as UnitHasNoType}
 use Rattle.sx_compile.specs.Laws.{HasUnsoundRule as UnitHasUnsoundRule}
 use Rattle.sx_compile.specs.Found.{IsModuleFound, given_from}
-use Rattle.sx_compile.specs.Laws.{SameButShown as CompilesSame}
+use Rattle.sx_compile.specs.Laws.{CompilesAlikeButShown as CompilesSame}
 use Rattle.sx_sample.specs.Holding.{sample_files}
 use Rattle.sx_sampling.specs.SampleSteps.{sample_budgets}
-use Rattle.sx_sampling.specs.Found.{IsSampleFound, given_from as given_from_sample}
-use Rattle.sx_sampling.specs.Laws.{SameButShown as SamplesSame}
+use Rattle.sx_sampling.specs.Found.{IsSampleFound, sample_given as given_from_sample}
+use Rattle.sx_sampling.specs.Laws.{SamplesAlikeButShown as SamplesSame}
 use Rattle.sx_audit.specs.Meaning.{Meaning}
 use Rattle.sx_top.specs.Calls.{Call}
 use Rattle.sx_words.specs.Commands.{SpellsCommand}
 use Rattle.sx_top.specs.FindFirst.{problem_rules}
 use Rattle.sx_rules.specs.Rules.{no_hypotheses}
 use Rattle.sx_top.specs.Outcome.{budgets_of, NamesFor, RunOutcome}
-use Rattle.sx_top.specs.ReadCore.{core_file, Reads}
+use Rattle.sx_top.specs.ReadCore.{core_file, ReadsCore}
 
 -- ---- one outcome
 
@@ -56,7 +56,7 @@ OneCoreOutcome =
 -- two
 abbrev pub SameFor : Meant → List Meaning → Files → Stop → Stop → Type 0
 SameFor (builds false name tries nodes audits) named files s t =
-    SameButShown name (budgets_of tries nodes) named files s t
+    BuildsAlikeButShown name (budgets_of tries nodes) named files s t
 SameFor (compiles name tries nodes audits) named files s t =
     CompilesSame name (budgets_of tries nodes) files s t
 SameFor (checks name tries nodes) named files s t =
@@ -85,7 +85,7 @@ OneOutcome =
 -- the core file states a goal that has no derivation by its rules, of whatever depth and size
 pub record HasNoDerivation (name : List ℕ) (files : Files) : Type 0 where
   pub problem : Problem
-  pub reads : Reads (core_file name) files (Ok problem)
+  pub reads : ReadsCore (core_file name) files (Ok problem)
   pub none : IsUnderivable (modes_of problem.forms) (problem_rules problem) no_hypotheses
       problem.goal None
 
@@ -118,7 +118,7 @@ IsUntypedCommand (builds false name tries nodes audits) named files stop =
 IsUntypedCommand (compiles name tries nodes audits) named files stop =
     CompilesUntyped name (budgets_of tries nodes) files stop
 IsUntypedCommand (checks name tries nodes) named files stop =
-    HasUnsoundRule name (budgets_of tries nodes) files stop
+    ReachesUnsoundRule name (budgets_of tries nodes) files stop
 IsUntypedCommand (samples number) named files stop = SampleUntyped number stop
 IsUntypedCommand (verifies of_core name) named files stop = ⊥
 

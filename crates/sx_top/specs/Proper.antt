@@ -17,7 +17,7 @@ use Rattle.sx_derive.specs.declared.derive_error.DeriveError.TheVariants.{TooDee
 use Rattle.sx_derive.specs.declared.listed.Listed.{Listed}
 use Rattle.sx_top.specs.FindFirst.{problem_rules}
 use Rattle.sx_rules.specs.Rules.{no_hypotheses}
-use Rattle.sx_top.specs.ReadCore.{rule_names}
+use Rattle.sx_top.specs.ReadCore.{problem_rule_names}
 use Rattle.sx_top.specs.Terms.{AreTerms}
 use Rattle.sx_rules.specs.Limits.{most_levels}
 
@@ -25,14 +25,14 @@ use Rattle.sx_rules.specs.Limits.{most_levels}
 -- those of the goal are no deeper than 1,000.
 pub record IsProper (problem : Problem) : Type 0 where
   pub moded : AllModed (modes_of problem.forms) (problem_rules problem)
-  pub names : AreNames (rule_names problem)
-  pub distinct : AreNamesDistinct (rule_names problem)
+  pub names : AreNames (problem_rule_names problem)
+  pub distinct : AreNamesDistinct (problem_rule_names problem)
   pub rules : RulesHaveTexts (problem_rules problem)
   pub texts : HaveTexts problem.goal.terms
   pub shallow : AreShallow problem.goal.terms
 
 -- the answer derives the goal, is no higher than 3,000, and its outputs can be written
-pub record IsGiven (problem : Problem) (answer : Answer) : Type 0 where
+pub record IsWritableAnswer (problem : Problem) (answer : Answer) : Type 0 where
   pub derives : DerivesGoal (modes_of problem.forms) (problem_rules problem) no_hypotheses
       problem.goal answer
   pub height : height_of answer.0 ≤ most_levels
@@ -41,7 +41,7 @@ pub record IsGiven (problem : Problem) (answer : Answer) : Type 0 where
 -- the list is that of such an answer
 pub record ListsGiven (problem : Problem) (listed : Listed) (answer : Answer) : Type 0 where
   pub lists : Lists listed answer
-  pub given : IsGiven problem answer
+  pub given : IsWritableAnswer problem answer
 
 -- the terms of a stuck goal can be written
 abbrev pub HasTerms : DeriveError → Type 0

@@ -15,10 +15,10 @@ abbrev pub core_file : List ℕ → List ℕ
 core_file name = name ++ codes ".core"
 
 -- the names of a problem's rules
-abbrev pub rule_names : Problem → List (List ℕ)
-rule_names problem = map (λ r. r.name) problem.rules
+abbrev pub problem_rule_names : Problem → List (List ℕ)
+problem_rule_names problem = map (λ r. r.name) problem.rules
 
 -- the bytes of the file, and then the problem that they state
-abbrev pub Reads : List ℕ → Files → Result Problem Stop → Type 0
-Reads file files = Then (Held most_bytes file files)
+abbrev pub ReadsCore : List ℕ → Files → Result Problem Stop → Type 0
+ReadsCore file files = Then (Held most_bytes file files)
     (λ bytes. Lower (core_stop file) (IsCoreAnswer bytes))

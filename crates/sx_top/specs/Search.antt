@@ -15,14 +15,14 @@ use Rattle.sx_steps.specs.Stops.{tries_spent, depth_spent, too_deep, too_big}
 use Rattle.sx_rules.specs.Limits.{most_levels}
 
 -- the events of the problem's goal, without hypotheses
-abbrev pub goal_events : Problem → List (Event Answer)
-goal_events problem =
+abbrev pub core_goal_events : Problem → List (Event Answer)
+core_goal_events problem =
     events (modes_of problem.forms) (problem_rules problem) no_hypotheses problem.goal
     1
 
 -- the stuck goal of the problem's goal
-abbrev pub IsStuckGoal : Problem → Blame → Type 0
-IsStuckGoal problem blame =
+abbrev pub IsCoreStuckGoal : Problem → Blame → Type 0
+IsCoreStuckGoal problem blame =
     IsStuck (modes_of problem.forms) (subjects_in problem.forms)
     (problem_rules problem) no_hypotheses most_levels problem.goal [] blame
 
@@ -33,23 +33,24 @@ passed file (passes_terms depth) = too_deep file (min depth (2 ^ 64 - 1))
 passed file (passes_size size) = too_big file (min size (2 ^ 64 - 1))
 
 -- what the ending of the walk comes to: what it found, or why it found nothing
-abbrev pub ComesTo : List ℕ → Problem → ℕ → Ending → Result Answer Stop → Type 0
-ComesTo file problem budget (found answer) result = result ≡ Ok answer
-ComesTo file problem budget (stopped cause) result = result ≡ Err (passed file cause)
-ComesTo file problem budget spent result = result ≡ Err (tries_spent file budget)
-ComesTo file problem budget exhausted result = (blame : Blame) × IsStuckGoal problem blame ×
+abbrev pub SearchComesTo : List ℕ → Problem → ℕ → Ending → Result Answer Stop → Type 0
+SearchComesTo file problem budget (found answer) result = result ≡ Ok answer
+SearchComesTo file problem budget (stopped cause) result = result ≡ Err (passed file cause)
+SearchComesTo file problem budget spent result = result ≡ Err (tries_spent file budget)
+SearchComesTo file problem budget exhausted result = (blame : Blame)
+    × IsCoreStuckGoal problem blame ×
     (result ≡ Err (underivable file problem blame))
 
 -- the walk of the problem's goal, with so many tries to spend
 abbrev pub Searches : List ℕ → ℕ → Problem → Result Answer Stop → Type 0
 Searches file budget problem result =
-    ComesTo file problem budget (walk None budget (goal_events problem)) result
+    SearchComesTo file problem budget (walk None budget (core_goal_events problem)) result
 
 -- the walk makes so many tries
-abbrev pub HasWalked : ℕ → Problem → ℕ → Type 0
-HasWalked budget problem tries = tries ≡ tries_of None budget (goal_events problem)
+abbrev pub HasCoreWalked : ℕ → Problem → ℕ → Type 0
+HasCoreWalked budget problem tries = tries ≡ tries_of None budget (core_goal_events problem)
 
 -- a walk makes no more tries than it may spend
 abbrev pub WalksAreWithin : Type 0
-WalksAreWithin = (budget : ℕ) (problem : Problem) (tries : ℕ) → HasWalked budget problem tries →
+WalksAreWithin = (budget : ℕ) (problem : Problem) (tries : ℕ) → HasCoreWalked budget problem tries →
     tries ≤ budget

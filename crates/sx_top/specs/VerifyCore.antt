@@ -17,7 +17,7 @@ use Rattle.sx_steps.specs.Steps.{Then}
 use Rattle.sx_steps.specs.Lower.{Lower}
 use Rattle.sx_verify.specs.Lists.{replay_stop, ReadsEntries}
 use Rattle.sx_verify.specs.Verified.{verified_line, verified_plan}
-use Rattle.sx_top.specs.ReadCore.{core_file, rule_names, Reads}
+use Rattle.sx_top.specs.ReadCore.{core_file, problem_rule_names, ReadsCore}
 use Rattle.sx_steps.specs.Unit.{base_file, list_file, interface_file}
 use Rattle.sx_top.specs.Written.{Compares}
 use Rattle.sx_top.specs.FindFirst.{problem_rules}
@@ -45,7 +45,7 @@ VerifiesCoreEntries name files problem list =
 -- the list is read, replayed, and then the outputs are compared
 abbrev pub VerifiesCoreList : List ℕ → Files → Problem → Result Plan Stop → Type 0
 VerifiesCoreList name files problem =
-    Then (ReadsEntries (list_file name) (rule_names problem) files)
+    Then (ReadsEntries (list_file name) (problem_rule_names problem) files)
     (VerifiesCoreEntries name files problem)
 
 -- the subject is compared, and then the list is verified
@@ -56,7 +56,7 @@ VerifiesCoreSubject name files problem =
 
 -- the file, then its subject, its list and its outputs
 abbrev pub VerifiesWhole : List ℕ → Files → Result Plan Stop → Type 0
-VerifiesWhole name files = Then (Reads (core_file name) files) (VerifiesCoreSubject name files)
+VerifiesWhole name files = Then (ReadsCore (core_file name) files) (VerifiesCoreSubject name files)
 
 -- NAME.base is the text of the goal's subject, the list of NAME.der is that of a derivation of the
 -- goal, and NAME.int has the texts of its outputs. All files are as before, and the line tells the
@@ -71,7 +71,8 @@ pub record VerifiedUnit (name : List ℕ) (old new : Files) (lines : List ℕ) :
   pub stated : IsCoreAnswer bytes (Ok problem)
   pub base : old (base_file name) ≡ Some (subject_text problem.forms problem.goal)
   pub listed : old (list_file name) ≡ Some list_bytes
-  pub states_list : StatesList (rule_names problem) (line_texts (lines_from 1 list_bytes)) list
+  pub states_list : StatesList (problem_rule_names problem) (line_texts (lines_from 1 list_bytes))
+      list
   pub derives : DerivesGoal (modes_of problem.forms) (problem_rules problem) no_hypotheses
       problem.goal answer
   pub in_order : order_of answer.0 ≡ entries list

@@ -12,7 +12,7 @@ use Rattle.sx_derive.specs.Walk.{events}
 use Rattle.sx_derive.specs.Search.{found, walk}
 use Rattle.sx_replay.specs.Fronts.{whole}
 use Rattle.sx_replay.specs.Replay.{IsWithin}
-use Rattle.sx_top.specs.ReadCore.{core_file, Reads}
+use Rattle.sx_top.specs.ReadCore.{core_file, ReadsCore}
 use Rattle.sx_top.specs.Search.{Searches}
 use Rattle.sx_top.specs.CoreTexts.{term_lines}
 use Rattle.sx_top.specs.BuildCore.{core_plan}
@@ -36,7 +36,7 @@ FoundIsWithin =
 abbrev pub BuiltIsVerified : Type 0
 BuiltIsVerified =
     (name : List ℕ) (budget : ℕ) (files : Files) (problem : Problem) (answer : Answer) →
-    Reads (core_file name) files (Ok problem) →
+    ReadsCore (core_file name) files (Ok problem) →
     Searches (core_file name) budget problem (Ok answer) →
     budget ≤ most_budget → length (term_lines answer.1) ≤ most_bytes →
     VerifiesWhole name (after ((core_plan name problem answer).files) files)

@@ -5,7 +5,7 @@ ghost use Rattle.sx_outside.specs.Told.{WhereTold};
 ghost use Rattle.sx_words.specs.View.{audit_view, command_view};
 ghost use Rattle.sx_build.specs.BuildModules.{BuildsModule};
 ghost use Rattle.sx_top.specs.Calls.{call};
-ghost use Rattle.sx_top.specs.Commands.{IsWithin};
+ghost use Rattle.sx_top.specs.Commands.{IsWithinBudget};
 ghost use Rattle.sx_top.specs.Outcome as spec;
 ghost use Rattle.sx_steps.specs.Stop.{OnlyReads, Does};
 ghost use Rattle.sx_steps.specs.Work.{plan_of};
@@ -75,7 +75,7 @@ fn run_command<S: Shelf, L: Ledger>(
     shelf: &mut S,
     steps: &mut Steps<L>,
 ) -> Result<Work, StepError>
-    requires { IsWithin (command_view command.now) }
+    requires { IsWithinBudget (command_view command.now) }
     ensures step { WhereTold (S.content shelf.old) (λ files. Does plan_of
         (spec.Runs (command_view command.now) (map (λ b. meaning b) named.old.items) files) result
         steps.old steps.new) }
@@ -135,7 +135,7 @@ fn run_named<S: Shelf, L: Ledger>(
     shelf: &mut S,
     steps: &mut Steps<L>,
 ) -> Result<Work, StepError>
-    requires { IsWithin (command_view command.now) }
+    requires { IsWithinBudget (command_view command.now) }
     ensures step { WhereTold (S.content shelf.old) (λ files. Does plan_of
         (spec.RunsFor (map (λ b. meaning b) handed.items) files (command_view command.now)) result
         steps.old steps.new) }

@@ -7,7 +7,7 @@ ghost use Rattle.sx_core.specs.CoreRead.{IsCoreAnswer};
 ghost use Rattle.sx_steps.specs.Lower.{Lower};
 ghost use Rattle.sx_top.specs.LowerStops.{core_stop};
 ghost use Rattle.sx_top.specs.Proper.{IsProper};
-ghost use Rattle.sx_top.specs.ReadCore.{Reads};
+ghost use Rattle.sx_top.specs.ReadCore.{ReadsCore};
 ghost use Rattle.sx_steps.specs.Stop.{Gives, OnlyReads, IsNoFault};
 ghost use Rattle.sx_term.specs.Limits.{most_bytes};
 
@@ -38,7 +38,7 @@ pub fn read_problem<S: Shelf>(
     shelf: &mut S,
 ) -> Result<CoreProblem, StepError>
     ensures step { WhereTold (S.content shelf.old)
-        (λ files. Gives problem (Reads file.now files) result) }
+        (λ files. Gives problem (ReadsCore file.now files) result) }
     ensures proper { IfOk result (λ p. IsProper (problem p)) }
     ensures reads { OnlyReads (S.content shelf.old) (S.content shelf.new)
         (S.read_faults shelf.old) (S.read_faults shelf.new)

@@ -3,11 +3,11 @@
 ghost use Rattle.std.specs.Prelude.{◌≡◌, ◌<◌, ◌^◌, Some, IfOk, length};
 ghost use Rattle.sx_core.specs.Problem.{problem as problem_data};
 ghost use Rattle.sx_rules.specs.Views.{hypotheses};
-ghost use Rattle.sx_steps.specs.Stop.{RisesWithin, GivesFor, IsNoFault, Counts};
+ghost use Rattle.sx_steps.specs.Stop.{RisesWithin, GivesFor, IsNoFault, CountsTries};
 ghost use Rattle.sx_rules.specs.Rules.{no_hypotheses};
 ghost use Rattle.sx_top.specs.LowerStops.{derive_stop};
 ghost use Rattle.sx_top.specs.Proper.{IsProper, ListsGiven, HasTerms};
-ghost use Rattle.sx_top.specs.Search.{Searches, HasWalked};
+ghost use Rattle.sx_top.specs.Search.{Searches, HasCoreWalked};
 
 use crate::goal_stops::stuck_goal;
 use std::alloc::Global;
@@ -65,7 +65,7 @@ pub fn find_first<L: Ledger>(
     ensures step { GivesFor (ListsGiven (problem_data problem.now))
         (Searches file.now budget (problem_data problem.now)) result }
     ensures no_fault { IsNoFault result }
-    ensures tries { Counts (HasWalked budget (problem_data problem.now)) result steps.old
+    ensures tries { CountsTries (HasCoreWalked budget (problem_data problem.now)) result steps.old
         steps.new }
     ensures most { RisesWithin budget steps.old steps.new }
 {

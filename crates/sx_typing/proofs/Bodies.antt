@@ -18,7 +18,7 @@ use Rattle.sx_earley.specs.Tokens.{plain_tokens}
 use Rattle.sx_earley.specs.Unknown.{HaveStems}
 use Rattle.sx_earley.specs.Completed.{sort_number}
 use Rattle.sx_earley.proofs.NoMetas.{no_metas, cut_has_stems}
-use Rattle.sx_forest.specs.Names.{IsMetavariable, IsMarked, AreMarked, names_in, names_of, AddsEach}
+use Rattle.sx_forest.specs.Names.{IsMetavariable, IsMarked, AreMarked, reading_names, names_of, AddsEach}
 use Rattle.sx_forest.proofs.Fits.{readings_marked}
 use Rattle.sx_notation.proofs.TextReading.{as_many_tokens}
 use Rattle.sx_typing.specs.Body.{IsCut, ReadsAs}
@@ -39,7 +39,7 @@ no_variable (t ∷ ts) (suc n) all h = no_variable ts n all.1 h
 
 module _ (ts : List Token) (all : AllByRecursion IsPlain ts) where
   mutual
-    no_names : (r : Reading) → IsMarked ts r → names_in ts r ≡ []
+    no_names : (r : Reading) → IsMarked ts r → reading_names ts r ≡ []
     no_names (branch label kids from to) h = no_names_of kids h
     no_names (bracket inner from to) h = no_names inner h
     no_names (leaf token) h = refl
@@ -69,14 +69,14 @@ module _ (p : Parts) (text : Text) (ts : List Token) (cut : IsCut p text ts) whe
     is_marked = readings_marked (numbered p) [] ts (sort_number sort) 0 0
         (length (plain_tokens [] ts)) r answer.1.0
 
-    pub has_no_names : names_in ts r ≡ []
+    pub has_no_names : reading_names ts r ≡ []
     has_no_names = no_names ts plain r is_marked
 
-    pub reads_as : (new : List Text) (t : Tree) → AddsEach [] (names_in ts r) new →
+    pub reads_as : (new : List Text) (t : Tree) → AddsEach [] (reading_names ts r) new →
         t ≡ term_of (plain_tokens [] ts) (new ++ []) r → ReadsAs p sort text ts r t
     reads_as new t names is = record {
       cut = cut;
       answer = answer;
       term = is ∙ ap (λ l. term_of (plain_tokens [] ts) l r)
-          (append-nil new ∙ nothing_added (names_in ts r) new has_no_names names);
+          (append-nil new ∙ nothing_added (reading_names ts r) new has_no_names names);
     }

@@ -23,7 +23,7 @@ use Rattle.sx_rules.specs.Views.{places_or_none, is_out, is_sub}
 use Rattle.sx_rules.specs.Sets.{rules_in}
 use Rattle.sx_arena.specs.Views.{rules_of}
 use Rattle.sx_notation.specs.Language.{sort_when, sorts_with}
-use Rattle.sx_typing.specs.Outcomes.{nameless, LeadsTo}
+use Rattle.sx_typing.specs.Outcomes.{nameless, LeadsToPart}
 use Rattle.sx_typing.specs.MainGoals.{input_at, main_terms, main_goal, MainGoalsFit}
 use Rattle.sx_typing.specs.MainGoals.{MainGoalsHaveLexemes, MainGoalsAreShallow, PartsHavePlaces}
 
@@ -124,7 +124,7 @@ module _ (shapes : List Shape) (forms : List FormData) (vars : List Sort) (numbe
 
   main_goal_leads : (sort : Sort) (environment subject : Tree) →
       sorts_with Sub form.places ≡ sort ∷ [] →
-      LeadsTo forms subject [] (main_goal forms number environment subject)
+      LeadsToPart forms subject [] (main_goal forms number environment subject)
   main_goal_leads sort environment subject subs = (
     subject,
     refl,

@@ -28,12 +28,12 @@ use Rattle.sx_typing.specs.declared.module_error.ModuleError.TheVariants.{DepthS
 use Rattle.sx_typing.specs.declared.module_error.ModuleError.TheVariants.{TooBig, RewriteSpent}
 use Rattle.sx_typing.specs.declared.module_error.ModuleError.TheVariants.{RewriteDeep, Print}
 use Rattle.sx_typing.specs.declared.module_error.ModuleError.TheVariants.{Captured}
-use Rattle.sx_typing.specs.Alike.{HasThree, AreAlike, SameBody, SameTyping, OneTyping}
+use Rattle.sx_typing.specs.Alike.{HasThree, AreTypingsAlike, SameBody, SameTyping, OneTyping}
 use Rattle.sx_typing.specs.Body.{IsCut, HasDefect}
-use Rattle.sx_typing.specs.Goals.{dialect_rules, goal_with, goal_events, IsTyped}
+use Rattle.sx_typing.specs.Goals.{dialect_rules, goal_with, source_events, IsSubjectTyped}
 use Rattle.sx_rules.specs.Rules.{no_hypotheses}
 use Rattle.sx_typing.specs.Refused.{IsSpot, defect_place, unread_place, told_goal, IsStuckGoal}
-use Rattle.sx_typing.specs.Refused.{IsStuckAt, HasBody, HasTyping, IsBadSource, HasWalked}
+use Rattle.sx_typing.specs.Refused.{IsStuckAt, HasReadBody, HasTyping, IsBadSource, HasWalked}
 use Rattle.sx_typing.specs.BodySource.{BodySource, main_sort}
 use Rattle.sx_typing.proofs.OneAnswer.{body_one, defect_one, unread_one}
 use Rattle.sx_typing.proofs.OneBody.{one_cut, defect_or_cut}
@@ -70,7 +70,7 @@ module _ (s : BodySource) where
         (length s.header.body) why
     at : IsSpot s (unread_place why) line column
 
-  uncut_one : (e d : ModuleError) → IsUncut e → IsUncut d → AreAlike s e d
+  uncut_one : (e d : ModuleError) → IsUncut e → IsUncut d → AreTypingsAlike s e d
   uncut_one e d h k =
       let same = defect_one s.dialect.parts s.header.body h.defect k.defect h.has k.has in
       let there = subst (λ (x : TokenError). IsSpot s (defect_place x) h.line h.column) same h.at in
@@ -84,7 +84,7 @@ module _ (s : BodySource) where
       e ≡ Read line column u → d ≡ Read row place v →
       IsSpot s (unread_place u) line column → IsSpot s (unread_place v) row place →
       (u ≡ v) ⊎ (ShowTwo u v × HasThree s.dialect.parts (main_sort s.dialect.language Sub)
-      s.header.body) → AreAlike s e d
+      s.header.body) → AreTypingsAlike s e d
   reads_alike u v e d line column row place h k at other (inl same) =
       let there = subst (λ (x : Unread). IsSpot s (unread_place x) line column) same at in
       inl (h ∙ (λ i. Read ((there.0 ∙ sym other.0) i) ((there.1 ∙ sym other.1) i) (same i)) ∙ sym k)
@@ -104,13 +104,13 @@ module _ (s : BodySource) where
         three = three;
       })
 
-  unreads_one : (e d : ModuleError) → IsUnread e → IsUnread d → AreAlike s e d
+  unreads_one : (e d : ModuleError) → IsUnread e → IsUnread d → AreTypingsAlike s e d
   unreads_one e d h k =
       reads_alike h.why k.why e d h.line h.column k.line k.column h.is k.is h.at k.at
       (unread_one s.dialect.parts (main_sort s.dialect.language Sub) s.header.body
       (length s.header.body) h.tokens k.tokens h.why k.why h.cut k.cut h.unread k.unread)
 
-  pub same_body : (b c : HasBody s) → SameBody s b c
+  pub same_body : (b c : HasReadBody s) → SameBody s b c
   same_body b c =
       let same =
       body_one s.dialect.parts (main_sort s.dialect.language Sub) s.header.body b.tokens c.tokens
@@ -120,13 +120,13 @@ module _ (s : BodySource) where
   abbrev IsUnbodied : ModuleError → Type 0
   IsUnbodied e = IsUncut e ⊎ IsUnread e
 
-  unbodied_one : (e d : ModuleError) → IsUnbodied e → IsUnbodied d → AreAlike s e d
+  unbodied_one : (e d : ModuleError) → IsUnbodied e → IsUnbodied d → AreTypingsAlike s e d
   unbodied_one e d (inl h) (inl k) = uncut_one e d h k
   unbodied_one e d (inl h) (inr k) = absurd (uncut_unread e d h k)
   unbodied_one e d (inr h) (inl k) = absurd (uncut_unread d e k h)
   unbodied_one e d (inr h) (inr k) = unreads_one e d h k
 
-  unbodied_none : (e : ModuleError) → IsUnbodied e → HasBody s → ⊥
+  unbodied_none : (e : ModuleError) → IsUnbodied e → HasReadBody s → ⊥
   unbodied_none e (inl h) b = defect_or_cut s.dialect.parts s.header.body h.defect b.tokens h.has
       b.read.cut
   unbodied_none e (inr h) b =
@@ -190,12 +190,12 @@ module _ (s : BodySource) where
 
     -- the body is read, and the walk of its goal tells the refusal
     record IsRefused (e : ModuleError) : Type 0 where
-      body : HasBody s
+      body : HasReadBody s
       tells : Tells body.tokens body.reading body.subject
-          (walk None tries (goal_events s body.subject)) e
+          (walk None tries (source_events s body.subject)) e
 
-    told_by : (e : ModuleError) (b : HasBody s) (x : Ending) →
-        walk None tries (goal_events s b.subject) ≡ x → Tells b.tokens b.reading b.subject x e →
+    told_by : (e : ModuleError) (b : HasReadBody s) (x : Ending) →
+        walk None tries (source_events s b.subject) ≡ x → Tells b.tokens b.reading b.subject x e →
         (e ≡ Memory) ⊎ IsUnbodied e ⊎ IsRefused e
     told_by e b x ends h =
         inr (inr (record {
@@ -254,9 +254,9 @@ module _ (s : BodySource) where
     refusals (Captured word) h = absurd h
 
     abbrev TellsOf : List Token → Reading → Tree → ModuleError → Type 0
-    TellsOf ts r subject e = Tells ts r subject (walk None tries (goal_events s subject)) e
+    TellsOf ts r subject e = Tells ts r subject (walk None tries (source_events s subject)) e
 
-    tells_there : (e : ModuleError) (b c : HasBody s) → TellsOf b.tokens b.reading b.subject e →
+    tells_there : (e : ModuleError) (b c : HasReadBody s) → TellsOf b.tokens b.reading b.subject e →
         TellsOf c.tokens c.reading c.subject e
     tells_there e b c h =
         let same = same_body b c in
@@ -267,7 +267,7 @@ module _ (s : BodySource) where
     refused_one : AllModed (modes_of s.dialect.language.forms) (dialect_rules s.dialect) →
         (e d : ModuleError) → (e ≡ Memory) ⊎ IsUnbodied e ⊎ IsRefused e →
         (d ≡ Memory) ⊎ IsUnbodied d ⊎ IsRefused d →
-        e ≢ Memory → d ≢ Memory → AreAlike s e d
+        e ≢ Memory → d ≢ Memory → AreTypingsAlike s e d
     refused_one moded e d (inl h) k n m = absurd (n h)
     refused_one moded e d (inr h) (inl k) n m = absurd (m k)
     refused_one moded e d (inr (inl h)) (inr (inl k)) n m = unbodied_one e d h k
@@ -275,7 +275,7 @@ module _ (s : BodySource) where
     refused_one moded e d (inr (inr h)) (inr (inl k)) n m = absurd (unbodied_none d k h.body)
     refused_one moded e d (inr (inr h)) (inr (inr k)) n m =
         inl (tells_one moded k.body.tokens k.body.reading k.body.subject
-        (walk None tries (goal_events s k.body.subject)) e d
+        (walk None tries (source_events s k.body.subject)) e d
         (tells_there e h.body k.body h.tells) k.tells)
 
     either_one : (t : HasTyping s tries) (e : ModuleError) →
@@ -290,7 +290,7 @@ module _ (s : BodySource) where
     found_one : (t u : HasTyping s tries) → SameTyping s tries t u
     found_one t u =
         let same = same_body t.body u.body in
-        let here = subst (λ (x : Tree). IsTyped s tries x t.output t.answer) same.subject t.typed in
+        let here = subst (λ (x : Tree). IsSubjectTyped s tries x t.output t.answer) same.subject t.typed in
         let answers = answer_same t.answer u.answer (sym here.finds ∙ u.typed.finds) in
         record {
           body = same;
@@ -301,7 +301,7 @@ module _ (s : BodySource) where
 
     counted_one : (made other : ℕ) → HasWalked s tries made → HasWalked s tries other → made ≡ other
     counted_one made other (inl h) (inl k) =
-        h.1 ∙ ap (λ (t : Tree). tries_of None tries (goal_events s t)) (same_body h.0 k.0).subject
+        h.1 ∙ ap (λ (t : Tree). tries_of None tries (source_events s t)) (same_body h.0 k.0).subject
         ∙ sym k.1
     counted_one made other (inl h) (inr k) = absurd (k.0 h.0)
     counted_one made other (inr h) (inl k) = absurd (h.0 k.0)

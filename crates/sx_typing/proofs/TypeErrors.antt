@@ -22,11 +22,11 @@ use Rattle.sx_typing.specs.declared.module_error.ModuleError.{ModuleError}
 use Rattle.sx_typing.specs.Body.{IsCut}
 use Rattle.sx_typing.specs.Dialects.{DialectData, IsDialect}
 use Rattle.sx_typing.specs.Outcomes.{IsBlameIn}
-use Rattle.sx_typing.specs.Refused.{HasBody, IsStuckGoal, IsBadSource, telling_in}
+use Rattle.sx_typing.specs.Refused.{HasReadBody, IsStuckGoal, IsBadSource, telling_in}
 use Rattle.sx_typing.specs.BodySource.{BodySource, bytes_before}
 use Rattle.sx_typing.specs.Spots.{line_at, column_at}
-use Rattle.sx_typing.specs.TypeErrors.{IsTypeError}
-use Rattle.sx_typing.specs.Goals.{goal_events}
+use Rattle.sx_typing.specs.TypeErrors.{TellsTypeError}
+use Rattle.sx_typing.specs.Goals.{source_events}
 
 -- tokens begin within the text
 cuts_within : {literals : List Text} {metas : Bool} {size : ℕ} {text rest : Text}
@@ -67,11 +67,11 @@ can_tell d top blame is grammar b shallow =
     (record { form = b.form; is = b.is; sorted = b.sorted; got = b.got }) shallow
 
 -- so the refusal is one of the source
-pub is_type_error : (s : BodySource) (tries before size : ℕ) (b : HasBody s) (blame : Blame)
+pub is_type_error : (s : BodySource) (tries before size : ℕ) (b : HasReadBody s) (blame : Blame)
     (e : ModuleError) →
     before ≡ bytes_before s → size ≡ length s.header.body →
-    walk None tries (goal_events s b.subject) ≡ exhausted → IsStuckGoal s b.subject blame →
-    IsTypeError s.dialect s.bytes before size b.tokens b.reading blame e → IsBadSource s tries e
+    walk None tries (source_events s b.subject) ≡ exhausted → IsStuckGoal s b.subject blame →
+    TellsTypeError s.dialect s.bytes before size b.tokens b.reading blame e → IsBadSource s tries e
 is_type_error s tries before size b blame e at many ends stuck t =
     subst (IsBadSource s tries) (sym t.is) (
       b,

@@ -38,7 +38,7 @@ use Rattle.sx_rewrite.specs.Stored.{signature_of}
 use Rattle.sx_rewrite.proofs.FitTerms.{found_can_be_rewritten}
 use Rattle.sx_typing.specs.declared.typed.Typed.{Typed}
 use Rattle.sx_typing.specs.Dialects.{DialectData, IsDialect}
-use Rattle.sx_typing.specs.Goals.{goal_with, goal_events, IsTypedBy}
+use Rattle.sx_typing.specs.Goals.{goal_with, source_events, IsTypedBy}
 use Rattle.sx_typing.specs.MainGoals.{main_goal}
 use Rattle.sx_typing.specs.Outcomes.{nameless}
 use Rattle.sx_rules.specs.Rules.{no_hypotheses}
@@ -165,7 +165,7 @@ module _ (s : BodySource) (is : IsDialect s.dialect) (subject : Tree)
       subject (goal_with s subject)
   source_goal = goal_for d is s.environment subject he hs
 
-  pub found_good : (tries : ℕ) (a : Answer) → walk None tries (goal_events s subject) ≡ found a →
+  pub found_good : (tries : ℕ) (a : Answer) → walk None tries (source_events s subject) ≡ found a →
       IsGoodAnswer s subject a
   found_good tries a finds = record {
     output = one.0;
@@ -213,7 +213,7 @@ pub one_listed : (l : Listed) (a : Answer) (t : Tree) → Lists l a → a.1 ≡ 
 one_listed l a t lists one = one_length l.outputs.items a.1 t lists.outputs one
 
 pub typed_by : (s : BodySource) (tries : ℕ) (subject : Tree) (l : Listed) (a : Answer) (t : Typed) →
-    walk None tries (goal_events s subject) ≡ found a → Lists l a →
+    walk None tries (source_events s subject) ≡ found a → Lists l a →
     goal_of t.goal ≡ goal_with s subject → t.list ≡ l.entries → l.outputs.items ≡ t.output ∷ [] →
     IsGoodAnswer s subject a → IsTypedBy s tries subject t
 typed_by s tries subject l a t finds lists asked same outputs good =

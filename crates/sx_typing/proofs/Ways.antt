@@ -15,9 +15,9 @@ use Rattle.sx_rules.specs.Discipline.{times_in, times_in_kids, times_among, one_
 use Rattle.sx_rules.specs.Views.{FormData, modes_of, subjects_in, places_at, is_out, is_sub}
 use Rattle.sx_rules.proofs.Moded.{inputs-map, outputs-map}
 use Rattle.sx_arena.proofs.Sameness.{nat_same}
-use Rattle.sx_derive.specs.Stuck.{here_when, first_place, place_in, place_in_kids, longer_path}
+use Rattle.sx_derive.specs.Stuck.{here_when, first_place, stuck_place_in, place_in_kids, longer_path}
 use Rattle.sx_derive.specs.Stuck.{path_on, path_of}
-use Rattle.sx_typing.specs.Outcomes.{goal_subjects, LeadsTo}
+use Rattle.sx_typing.specs.Outcomes.{goal_subjects, LeadsToPart}
 
 -- ---- parts of terms
 
@@ -83,7 +83,7 @@ at_hole v w place true same e =
 at_hole v w place false same e = cc
 
 mutual
-  at_place : (v : ℕ) (t : Tree) (place : List ℕ) → place_in v t ≡ Some place →
+  at_place : (v : ℕ) (t : Tree) (place : List ℕ) → stuck_place_in v t ≡ Some place →
       part_at t place ≡ Some (hole v)
   at_place v (node label ts) place e =
       let x = at_place_among v 0 ts place e in
@@ -96,7 +96,7 @@ mutual
       IsAmongAt v i ts place
   at_place_among v i none place e = cc
   at_place_among v i (t ▹ ts) place e =
-      at_first v i t ts place (place_in v t) (at_place v t) (at_place_among v (suc i) ts place) e
+      at_first v i t ts place (stuck_place_in v t) (at_place v t) (at_place_among v (suc i) ts place) e
 
 -- a variable without a place stands nowhere
 no_first : (i : ℕ) (o later : Option (List ℕ)) → first_place i o later ≡ None →
@@ -109,7 +109,7 @@ no_hole true e = cc
 no_hole false e = refl
 
 mutual
-  no_place : (v : ℕ) (t : Tree) → place_in v t ≡ None → times_in v t ≡ 0
+  no_place : (v : ℕ) (t : Tree) → stuck_place_in v t ≡ None → times_in v t ≡ 0
   no_place v (node label ts) e = no_place_among v 0 ts e
   no_place v (lexeme kind text) e = refl
   no_place v (hole w) e = no_hole (nat_eq v w) e
@@ -117,17 +117,17 @@ mutual
   no_place_among : (v i : ℕ) (ts : Trees) → place_in_kids v i ts ≡ None → times_in_kids v ts ≡ 0
   no_place_among v i none e = refl
   no_place_among v i (t ▹ ts) e =
-      let x = no_first i (place_in v t) (place_in_kids v (suc i) ts) e in
+      let x = no_first i (stuck_place_in v t) (place_in_kids v (suc i) ts) e in
       let a = no_place v t x.0 in
       let b = no_place_among v (suc i) ts x.1 in omega arith
 
 -- a variable that stands in a term has a place there
 some_place : (v : ℕ) (t : Tree) → 0 < times_in v t →
-    (place : List ℕ) × (place_in v t ≡ Some place) × (part_at t place ≡ Some (hole v))
-some_place v t h = go (place_in v t) refl
+    (place : List ℕ) × (stuck_place_in v t ≡ Some place) × (part_at t place ≡ Some (hole v))
+some_place v t h = go (stuck_place_in v t) refl
   where
-    go : (o : Option (List ℕ)) → place_in v t ≡ o →
-        (place : List ℕ) × (place_in v t ≡ Some place) × (part_at t place ≡ Some (hole v))
+    go : (o : Option (List ℕ)) → stuck_place_in v t ≡ o →
+        (place : List ℕ) × (stuck_place_in v t ≡ Some place) × (part_at t place ≡ Some (hole v))
     go None e = let x = no_place v t e in absurd (omega arith)
     go (Some place) e = (place, e, at_place v t place e)
 
@@ -186,7 +186,7 @@ module _ (forms : List FormData) (s : ℕ → Tree) where
         outputs_of (subjects_in forms) j ≡ hole v ∷ [] → (part : Tree) →
         part_at top path ≡ Some part →
         (goal_subjects forms goal ≡ []) ⊎ (goal_subjects forms goal ≡ part ∷ []) →
-        LeadsTo forms top (path_of (subjects_in forms) path rule j)
+        LeadsToPart forms top (path_of (subjects_in forms) path rule j)
         (goal_of (modes_of forms) (judgement_instance s j))
     bare_leads v [] is same once var part at some = absurd (omega arith)
     bare_leads v (t ∷ u ∷ us) is same once var part at (inl e) =
@@ -210,8 +210,8 @@ module _ (forms : List FormData) (s : ℕ → Tree) where
 
     pub premise_leads : (before : List Judgement) → rule.conclusion.form ≡ goal.form →
         map (instance s) (inputs_of (modes_of forms) rule.conclusion) ≡ goal.terms →
-        IsBareSubject (subjects_in forms) rule.conclusion before j → LeadsTo forms top path goal →
-        LeadsTo forms top (path_of (subjects_in forms) path rule j)
+        IsBareSubject (subjects_in forms) rule.conclusion before j → LeadsToPart forms top path goal →
+        LeadsToPart forms top (path_of (subjects_in forms) path rule j)
         (goal_of (modes_of forms) (judgement_instance s j))
     premise_leads before of_form terms (inl no_subject) (part, at, some) = (
       part,

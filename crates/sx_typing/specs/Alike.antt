@@ -14,7 +14,7 @@ use Rattle.sx_typing.specs.declared.module_error.ModuleError.{ModuleError}
 use Rattle.sx_typing.specs.declared.module_error.ModuleError.TheVariants.{Memory, Read}
 use Rattle.sx_typing.specs.Body.{IsCut}
 use Rattle.sx_typing.specs.Goals.{dialect_rules}
-use Rattle.sx_typing.specs.Refused.{HasBody, HasTyping, HasWalked, IsBadSource}
+use Rattle.sx_typing.specs.Refused.{HasReadBody, HasTyping, HasWalked, IsBadSource}
 use Rattle.sx_typing.specs.BodySource.{BodySource, main_sort}
 
 -- the text has more than two readings as the sort
@@ -38,11 +38,11 @@ pub record ReadOthers (s : BodySource) (e d : ModuleError) : Type 0 where
   pub three : BodyHasThree s
 
 -- the same refusal, but for the two readings that it shows of a text with more than two
-abbrev pub AreAlike : BodySource → ModuleError → ModuleError → Type 0
-AreAlike s e d = (e ≡ d) ⊎ ReadOthers s e d
+abbrev pub AreTypingsAlike : BodySource → ModuleError → ModuleError → Type 0
+AreTypingsAlike s e d = (e ≡ d) ⊎ ReadOthers s e d
 
 -- the same tokens, the same reading and the same term
-pub record SameBody (s : BodySource) (b c : HasBody s) : Type 0 where
+pub record SameBody (s : BodySource) (b c : HasReadBody s) : Type 0 where
   pub tokens : b.tokens ≡ c.tokens
   pub reading : b.reading ≡ c.reading
   pub subject : b.subject ≡ c.subject
@@ -57,12 +57,13 @@ pub record SameTyping (s : BodySource) (tries : ℕ) (t u : HasTyping s tries) :
 -- so many tries. Two readings that a refusal shows are the same two in the same order, that of
 -- their tree texts by bytes, unless the text has more than two. Out of memory is free.
 pub record OneTyping : Type 0 where
-  pub read : (s : BodySource) (b c : HasBody s) → SameBody s b c
+  pub read : (s : BodySource) (b c : HasReadBody s) → SameBody s b c
   pub found : (s : BodySource) (tries : ℕ) (t u : HasTyping s tries) → SameTyping s tries t u
   pub either : (s : BodySource) (tries : ℕ) (t : HasTyping s tries) (e : ModuleError) →
       IsBadSource s tries e → e ≡ Memory
   pub refused : (s : BodySource) (tries : ℕ) (e d : ModuleError) →
       AllModed (modes_of s.dialect.language.forms) (dialect_rules s.dialect) →
-      IsBadSource s tries e → IsBadSource s tries d → e ≢ Memory → d ≢ Memory → AreAlike s e d
+      IsBadSource s tries e → IsBadSource s tries d → e ≢ Memory → d ≢ Memory →
+      AreTypingsAlike s e d
   pub counted : (s : BodySource) (tries made other : ℕ) → HasWalked s tries made →
       HasWalked s tries other → made ≡ other

@@ -38,8 +38,8 @@ goal_with s subject =
     main_goal s.dialect.language.forms s.dialect.language.main.form s.environment subject
 
 -- the events of the walk of that goal
-abbrev pub goal_events : BodySource → (subject : Tree) → List (Event Answer)
-goal_events s subject = events (modes_of s.dialect.language.forms) (dialect_rules s.dialect)
+abbrev pub source_events : BodySource → (subject : Tree) → List (Event Answer)
+source_events s subject = events (modes_of s.dialect.language.forms) (dialect_rules s.dialect)
     no_hypotheses (goal_with s subject) 1
 
 -- the body has only this reading, whose term is the subject
@@ -48,9 +48,10 @@ IsBody s ts r subject = ReadsAs s.dialect.parts (main_sort s.dialect.language Su
     r subject
 
 -- the walk of its goal, with so many tries to spend, finds this answer, whose output is this one
-pub record IsTyped (s : BodySource) (tries : ℕ) (subject output : Tree) (answer : Answer) : Type 0
+pub record IsSubjectTyped (s : BodySource) (tries : ℕ) (subject output : Tree)
+    (answer : Answer) : Type 0
   where
-    pub finds : walk None tries (goal_events s subject) ≡ found answer
+    pub finds : walk None tries (source_events s subject) ≡ found answer
     pub gives : answer.1 ≡ output ∷ []
 
 -- The goal is that of the subject, the list is that of the answer that its walk finds, and the
@@ -58,7 +59,7 @@ pub record IsTyped (s : BodySource) (tries : ℕ) (subject output : Tree) (answe
 pub record IsTypedBy (s : BodySource) (tries : ℕ) (subject : Tree) (t : Typed) : Type 0 where
   pub goal_is : goal_of t.goal ≡ goal_with s subject
   pub answer : Answer
-  pub typed : IsTyped s tries subject (tree t.output) answer
+  pub typed : IsSubjectTyped s tries subject (tree t.output) answer
   pub list : entries t.list.items ≡ order_of answer.0
   pub good : IsTermFor s.dialect Out (tree t.output)
   pub derives : DerivesGoal (modes_of s.dialect.language.forms) (accepted_rules s.dialect.set)
@@ -81,6 +82,6 @@ abbrev pub TypingsAreFirst : Type 0
 TypingsAreFirst =
     (s : BodySource) (tries : ℕ) (subject output : Tree) (answer : Answer) →
     AllModed (modes_of s.dialect.language.forms) (dialect_rules s.dialect) →
-    IsTyped s tries subject output answer →
+    IsSubjectTyped s tries subject output answer →
     IsFirst (modes_of s.dialect.language.forms) (dialect_rules s.dialect) no_hypotheses
     (goal_with s subject) None answer

@@ -10,7 +10,7 @@ use Rattle.sx_rules.specs.Good.{IsRuleSet}
 use Rattle.sx_rules.specs.Sets.{forms_in, rules_in}
 use Rattle.sx_rules.specs.Views.{NamedRule, subjects_in}
 use Rattle.sx_directives.specs.declared.rows.FormLine.{FormLine}
-use Rattle.sx_rewrite.specs.Extensions.{Extension, FitsRules, with_table, without_extensions}
+use Rattle.sx_rewrite.specs.Extensions.{StoredExtension, FitsRules, with_table, without_extensions}
 use Rattle.sx_rewrite.specs.Extensions.{extended as grown}
 use Rattle.sx_rewrite.specs.Kinds.{HaveSortsFor}
 use Rattle.sx_rewrite.specs.Sound.{AreSoundBy}
@@ -46,7 +46,7 @@ pub record Added : Type 0 where
   pub lines : List Line
   pub by_rules : Parts
   pub rules : List NamedRule
-  pub extension : Extension
+  pub extension : StoredExtension
 
 -- the dialect with the extension after it
 abbrev pub with_added : DialectData → Added → DialectData
@@ -60,7 +60,7 @@ with_added d x = record {
 
 -- The extension fits the dialect and is sound after it, all rules are a rule set, and the lexemes
 -- of its rules, of their bodies and of the plain table are tokens and no literals of the language.
-pub record IsAddedTo (d : DialectData) (x : Added) : Type 0 where
+pub record IsAddedToDialect (d : DialectData) (x : Added) : Type 0 where
   pub read_by : (lines : List FormLine) → d.rule_parts ≡ rule_parts d.parts lines →
       x.by_rules ≡ rule_parts (extended d.parts x.lines) lines
   pub rules_are : map (λ r. r.rule) x.rules ≡ map (λ e. e.rule) x.extension.rules
@@ -77,5 +77,5 @@ pub record IsAddedTo (d : DialectData) (x : Added) : Type 0 where
 
 -- a dialect stays one with such an extension
 abbrev pub DialectsGrow : Type 0
-DialectsGrow = (d : DialectData) (x : Added) → IsDialect d → IsAddedTo d x →
+DialectsGrow = (d : DialectData) (x : Added) → IsDialect d → IsAddedToDialect d x →
     IsDialect (with_added d x)

@@ -17,7 +17,7 @@ use Rattle.sx_rules.specs.Modes.{outputs, Goal}
 use Rattle.sx_rules.specs.Sorts.{GoalIsSorted}
 use Rattle.sx_rules.specs.Views.{FormData, modes_of, sorts_of, places_at}
 use Rattle.sx_notation.specs.Language.{sorts_with}
-use Rattle.sx_typing.specs.Outcomes.{LeadsTo}
+use Rattle.sx_typing.specs.Outcomes.{LeadsToPart}
 use Rattle.sx_term.specs.Limits.{most_depth}
 
 -- the term that stands at a place with this role, where it is no output
@@ -47,7 +47,7 @@ MainGoalsFit =
     HasSort shapes vars environment input → HasSort shapes vars subject sort →
     GoalIsSorted shapes (sorts_of forms) (modes_of forms) vars
     (main_goal forms number environment subject)
-    × LeadsTo forms subject [] (main_goal forms number environment subject)
+    × LeadsToPart forms subject [] (main_goal forms number environment subject)
     × ((outs : List Tree) → HaveSorts shapes vars outs
     (outputs (modes_of forms number) (sorts_of forms number)) → (t : Tree) × (outs ≡ t ∷ []) ×
     HasSort shapes vars t output)

@@ -46,8 +46,8 @@ goal_subjects forms goal =
     outputs (inputs (modes_of forms goal.form) (subjects_in forms goal.form)) goal.terms
 
 -- the path leads to a part of the term, and this is the goal's subject, unless the goal has none
-abbrev pub LeadsTo : List FormData → Tree → List ℕ → Goal → Type 0
-LeadsTo forms top path goal = (part : Tree) × (part_at top path ≡ Some part) ×
+abbrev pub LeadsToPart : List FormData → Tree → List ℕ → Goal → Type 0
+LeadsToPart forms top path goal = (part : Tree) × (part_at top path ≡ Some part) ×
     ((goal_subjects forms goal ≡ []) ⊎ (goal_subjects forms goal ≡ part ∷ []))
 
 -- the stuck goal is of one of the forms, it and the outputs got are well sorted, and its path leads
@@ -59,7 +59,7 @@ pub record IsBlameIn (shapes : List Shape) (forms : List FormData) (vars : List 
   pub sorted : GoalIsSorted shapes (sorts_of forms) (modes_of forms) vars blame.goal
   pub got : GotIsSorted shapes vars blame.reason
       (outputs (modes_of forms blame.goal.form) (sorts_of forms blame.goal.form))
-  pub leads : LeadsTo forms top blame.path blame.goal
+  pub leads : LeadsToPart forms top blame.path blame.goal
 
 -- so it is of the stuck goal of a goal for which this holds
 abbrev pub StuckGoalsFit : Type 0
@@ -69,7 +69,8 @@ StuckGoalsFit =
     (vars : List Sort) (top : Tree) (levels : ℕ) (goal : Goal) (form : FormData) (path : List ℕ)
     (blame : Blame) →
     slice_get forms goal.form ≡ Some form →
-    GoalIsSorted shapes (sorts_of forms) (modes_of forms) vars goal → LeadsTo forms top path goal →
+    GoalIsSorted shapes (sorts_of forms) (modes_of forms) vars goal →
+    LeadsToPart forms top path goal →
     IsStuck (modes_of forms) (subjects_in forms) (nameless rules) no_hypotheses levels goal path
     blame →
     IsBlameIn shapes forms vars top blame

@@ -28,7 +28,7 @@ use Rattle.sx_typing.specs.declared.module_error.ModuleError.TheVariants.{Rewrit
 use Rattle.sx_typing.specs.declared.module_error.ModuleError.TheVariants.{Captured}
 use Rattle.sx_typing.specs.Body.{IsCut, HasDefect}
 use Rattle.sx_typing.specs.Dialects.{DialectData}
-use Rattle.sx_typing.specs.Goals.{dialect_rules, goal_with, goal_events, IsBody, IsTyped}
+use Rattle.sx_typing.specs.Goals.{dialect_rules, goal_with, source_events, IsBody, IsSubjectTyped}
 use Rattle.sx_rules.specs.Rules.{no_hypotheses}
 use Rattle.sx_typing.specs.BodySource.{BodySource, main_sort, bytes_before}
 use Rattle.sx_typing.specs.Spots.{line_at, column_at}
@@ -77,7 +77,7 @@ IsStuckAt ts r blame s line column = (number : ℕ) × (place_at r blame.path �
 -- ---- all of it
 
 -- the body has only one reading
-pub record HasBody (s : BodySource) : Type 0 where
+pub record HasReadBody (s : BodySource) : Type 0 where
   pub tokens : List Token
   pub reading : Reading
   pub subject : Tree
@@ -85,10 +85,10 @@ pub record HasBody (s : BodySource) : Type 0 where
 
 -- and its goal has an answer
 pub record HasTyping (s : BodySource) (tries : ℕ) : Type 0 where
-  pub body : HasBody s
+  pub body : HasReadBody s
   pub output : Tree
   pub answer : Answer
-  pub typed : IsTyped s tries body.subject output answer
+  pub typed : IsSubjectTyped s tries body.subject output answer
 
 -- each refusal of a body, with the conditions of those before it; out of memory is free
 abbrev pub IsBadSource : BodySource → (tries : ℕ) → ModuleError → Type 0
@@ -100,19 +100,19 @@ IsBadSource s tries (Read line column u) =
     IsUnreadAs s.dialect.parts [] (main_sort s.dialect.language Sub) ts (length s.header.body) u)
     × IsSpot s (unread_place u) line column
 IsBadSource s tries (TypeError line column text) =
-    (b : HasBody s) × (walk None tries (goal_events s b.subject) ≡ exhausted)
+    (b : HasReadBody s) × (walk None tries (source_events s b.subject) ≡ exhausted)
     × ((blame : Blame) × IsStuckGoal s b.subject blame ×
     IsStuckAt b.tokens b.reading blame s line column ×
     (text ≡ told_goal s.dialect blame.goal blame.reason))
-IsBadSource s tries (BudgetSpent n) = (b : HasBody s) ×
-    (walk None tries (goal_events s b.subject) ≡ spent) × (n ≡ tries)
-IsBadSource s tries DepthSpent = (b : HasBody s) ×
-    (walk None tries (goal_events s b.subject) ≡ stopped depth_spent)
-IsBadSource s tries (TooDeep n) = (b : HasBody s) × (depth : ℕ) ×
-    (walk None tries (goal_events s b.subject) ≡ stopped (passes_depth depth)) ×
+IsBadSource s tries (BudgetSpent n) = (b : HasReadBody s) ×
+    (walk None tries (source_events s b.subject) ≡ spent) × (n ≡ tries)
+IsBadSource s tries DepthSpent = (b : HasReadBody s) ×
+    (walk None tries (source_events s b.subject) ≡ stopped depth_spent)
+IsBadSource s tries (TooDeep n) = (b : HasReadBody s) × (depth : ℕ) ×
+    (walk None tries (source_events s b.subject) ≡ stopped (passes_depth depth)) ×
     (n ≡ min depth (2 ^ 64 - 1))
-IsBadSource s tries (TooBig n) = (b : HasBody s) × (size : ℕ) ×
-    (walk None tries (goal_events s b.subject) ≡ stopped (passes_size size)) ×
+IsBadSource s tries (TooBig n) = (b : HasReadBody s) × (size : ℕ) ×
+    (walk None tries (source_events s b.subject) ≡ stopped (passes_size size)) ×
     (n ≡ min size (2 ^ 64 - 1))
 IsBadSource s tries (RewriteSpent n) = ⊥
 IsBadSource s tries RewriteDeep = ⊥
@@ -124,7 +124,7 @@ IsBadSource s tries (Captured word) = ⊥
 -- the body has only one reading, and the goal with its term has no derivation, of whatever depth
 -- and size
 abbrev pub IsUntyped : BodySource → Type 0
-IsUntyped s = (b : HasBody s) ×
+IsUntyped s = (b : HasReadBody s) ×
     IsUnderivable (modes_of s.dialect.language.forms) (dialect_rules s.dialect) no_hypotheses
     (goal_with s b.subject) None
 
@@ -144,5 +144,6 @@ SourceTypeErrorsAreFinal =
 
 -- the walk of the source's goal makes so many tries; where the body is not read there is no walk
 abbrev pub HasWalked : BodySource → (tries made : ℕ) → Type 0
-HasWalked s tries made = ((b : HasBody s) × (made ≡ tries_of None tries (goal_events s b.subject)))
-    ⊎ ((HasBody s → ⊥) × (made ≡ 0))
+HasWalked s tries made = ((b : HasReadBody s) × (made
+    ≡ tries_of None tries (source_events s b.subject)))
+    ⊎ ((HasReadBody s → ⊥) × (made ≡ 0))

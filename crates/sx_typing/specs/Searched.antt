@@ -17,7 +17,7 @@ use Rattle.sx_derive.specs.Search.{found, exhausted, walk}
 use Rattle.sx_derive.specs.Stuck.{Blame, IsStuck}
 use Rattle.sx_derive.specs.BlameTerms.{BlameIsShallow}
 use Rattle.sx_notation.specs.Language.{RuleHasLexemes}
-use Rattle.sx_typing.specs.Outcomes.{nameless, LeadsTo, IsBlameIn}
+use Rattle.sx_typing.specs.Outcomes.{nameless, LeadsToPart, IsBlameIn}
 use Rattle.sx_rules.specs.Rules.{no_hypotheses}
 use Rattle.sx_rules.specs.Limits.{most_levels}
 
@@ -30,7 +30,7 @@ pub record IsGoalFor (literals : List Text) (shapes : List Shape) (forms : List 
   pub sorted : GoalIsSorted shapes (sorts_of forms) (modes_of forms) vars goal
   pub lexemes : AllByRecursion (HasLexemes literals) goal.terms
   pub shallow : AreShallow goal.terms
-  pub leads : LeadsTo forms top [] goal
+  pub leads : LeadsToPart forms top [] goal
 
 -- the outputs are well sorted and no deeper than 1,000, and their lexemes are tokens
 pub record AreOutputsFor (literals : List Text) (shapes : List Shape) (forms : List FormData)

@@ -19,7 +19,7 @@ IsPartPlace ts r path size place = (number : ℕ) × (place_at r path ≡ Some n
 
 -- the refusal of a file that ends with a body of so many bytes: where the part begins that the
 -- stuck goal speaks of, and the text
-pub record IsTypeError (d : DialectData) (file : List ℕ) (before size : ℕ) (ts : List Token)
+pub record TellsTypeError (d : DialectData) (file : List ℕ) (before size : ℕ) (ts : List Token)
     (r : Reading) (blame : Blame) (e : ModuleError) : Type 0 where
   pub line : ℕ
   pub column : ℕ

@@ -8,15 +8,15 @@ ghost use Rattle.sx_forest.specs.Readings.{plain_reading};
 ghost use Rattle.sx_notation.specs.Language.{language_data, sorts_with};
 ghost use Rattle.sx_typing.specs.declared.module_error.ModuleError.TheVariants.{Memory};
 ghost use Rattle.sx_typing.specs.Goals.{IsBody};
-ghost use Rattle.sx_typing.specs.Refused.{HasBody, IsBadSource};
+ghost use Rattle.sx_typing.specs.Refused.{HasReadBody, IsBadSource};
 ghost use Rattle.sx_typing.specs.BodySource.{source_of, CanType, IsTermFor, main_sort, only_sort};
 ghost use Rattle.sx_typing.specs.Unread.{IsUnreadText};
 
 use crate::body::Body;
 use crate::body_source::BodySource;
+use crate::module_error::ModuleError;
 use crate::places::{body_of, body_spot, defect_place, unread_place};
 use crate::text_reading::read_body_text;
-use crate::module_error::ModuleError;
 use crate::unread_text::UnreadText;
 use std::alloc::Global;
 use sx_notation::Language;
@@ -54,7 +54,7 @@ fn refusal(source: &BodySource, error: UnreadText) -> ModuleError
         (main_sort (source_of source.now).dialect.language Sub) (source_of source.now).header.body
         error }
     ensures bad { (tries : ℕ) → IsBadSource (source_of source.now) tries result }
-    ensures none { (result ≡ Memory) ⊎ (HasBody (source_of source.now) → ⊥) }
+    ensures none { (result ≡ Memory) ⊎ (HasReadBody (source_of source.now) → ⊥) }
 {
     match error {
         UnreadText::Memory => ModuleError::Memory,
@@ -90,7 +90,7 @@ pub fn read_source(alloc: Global, source: &BodySource) -> Result<Body, ModuleErr
     ensures good { IfOk result (λ b. IsTermFor (source_of source.now).dialect Sub (tree b.term)) }
     // The refusal is the one that is due, and the body has not one reading.
     ensures refused { IfErr result (λ e. (tries : ℕ) → IsBadSource (source_of source.now) tries e) }
-    ensures none { IfErr result (λ e. (e ≡ Memory) ⊎ (HasBody (source_of source.now) → ⊥)) }
+    ensures none { IfErr result (λ e. (e ≡ Memory) ⊎ (HasReadBody (source_of source.now) → ⊥)) }
 {
     let dialect = &source.dialect;
     let sort = main_sort(dialect.language, Role::Sub);

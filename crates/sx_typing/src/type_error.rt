@@ -15,12 +15,12 @@ ghost use Rattle.sx_typing.specs.Body.{IsCut};
 ghost use Rattle.sx_typing.specs.Dialects.{IsDialectOf, dialect_of};
 ghost use Rattle.sx_typing.specs.Outcomes.{IsBlameIn};
 ghost use Rattle.sx_typing.specs.Refused as refused;
-ghost use Rattle.sx_typing.specs.TypeErrors.{IsPartPlace, IsTypeError};
+ghost use Rattle.sx_typing.specs.TypeErrors.{IsPartPlace, TellsTypeError};
 
 use crate::body::Body;
 use crate::dialect::Dialect;
-use crate::spots::spot_of;
 use crate::module_error::ModuleError;
+use crate::spots::spot_of;
 use std::alloc::Global;
 use sx_derive::Blame;
 use sx_forest::{Reading, place_of};
@@ -80,7 +80,7 @@ pub(crate) fn type_error(
         (term_of (plain_tokens [] body.now.tokens.items) [] (plain_reading body.now.reading))
         (blame_of blame.now) }
     requires shallow { BlameIsShallow (blame_of blame.now) }
-    ensures { IfOk result (IsTypeError (dialect_of dialect.now) file.now before
+    ensures { IfOk result (TellsTypeError (dialect_of dialect.now) file.now before
         (length file.now - before) body.now.tokens.items (plain_reading body.now.reading)
         (blame_of blame.now)) }
 {

@@ -12,17 +12,18 @@ ghost use Rattle.sx_derive.specs.Search.{tries_of};
 ghost use Rattle.sx_forest.specs.Readings.{plain_reading};
 ghost use Rattle.sx_typing.specs.declared.module_error.ModuleError.TheVariants.{Memory};
 ghost use Rattle.sx_typing.specs.Goals as known;
-ghost use Rattle.sx_typing.specs.Goals.{goal_events, IsBody, IsFoundBy, AreTriesCounted, IsTypedBy};
+ghost use Rattle.sx_typing.specs.Goals.{source_events, IsBody, IsFoundBy, AreTriesCounted};
+ghost use Rattle.sx_typing.specs.Goals.{IsTypedBy};
 ghost use Rattle.sx_typing.specs.Refused.{IsBadSource, IsTypingFinal};
 ghost use Rattle.sx_typing.specs.BodySource.{source_of, CanType, IsTermFor};
 
 use crate::body::Body;
 use crate::body_source::BodySource;
+use crate::module_error::ModuleError;
 use crate::places::body_of;
 use crate::searching::{find_derivation, main_goal};
 use crate::type_error::type_error;
 use crate::typed::Typed;
-use crate::module_error::ModuleError;
 use std::alloc::Global;
 use std::sync::ledger::Ledger;
 use sx_derive::{Blame, DeriveError, Listed};
@@ -110,7 +111,7 @@ fn search<L: Ledger>(
     requires shallow { AreShallow (goal_of goal.now).terms }
     ensures answer { IsFoundBy (source_of source.now) tries (tree body.now.term) result }
     ensures steps { AreCounted
-        (tries_of None tries (goal_events (source_of source.now) (tree body.now.term)))
+        (tries_of None tries (source_events (source_of source.now) (tree body.now.term)))
         steps.old steps.new result }
 {
     let rules = source.dialect.rules();
@@ -141,7 +142,7 @@ pub fn type_source<L: Ledger>(
     ensures untyped { IfErr result (IsTypingFinal (source_of source.now)) }
     // The steps rise by the tries of the goal's walk.
     ensures tries { AreTriesCounted (tries_of None tries
-        (goal_events (source_of source.now) (tree body.now.term))) steps.old steps.new result }
+        (source_events (source_of source.now) (tree body.now.term))) steps.old steps.new result }
     ensures most { steps.new ≤ steps.old + tries }
 {
     let language = source.dialect.language;

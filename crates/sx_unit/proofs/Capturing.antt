@@ -13,7 +13,7 @@ use Rattle.sx_term.proofs.Kids.{trees, tree-at_node, trees-drop, trees-drop_all}
 use Rattle.sx_grammar.specs.Grammar.{Text}
 use Rattle.sx_print.specs.Cut.{HasLexemes, HaveLexemes}
 use Rattle.sx_interface.specs.FreeNames.{AreFree, IsFirstIn}
-use Rattle.sx_unit.specs.Captured.{names_in, names_among, IsFree, IsCaptured}
+use Rattle.sx_unit.specs.Captured.{names_standing_in, names_among, IsFree, IsCaptured}
 
 contains_from : (texts : List Text) (i : ℕ) (text : Text) → slice_get texts i ≡ Some text →
     Contains texts text
@@ -58,7 +58,7 @@ module _ (literals : List Text) where
   none_before kids = record { front = []; is = refl; free = tt }
 
   names_drop : (kids : List Term) (i : ℕ) (kid : Term) → i < length kids → kid ≡ get_or kids i kid →
-      names_among (trees (drop i kids)) ≡ names_in (tree kid) ++ names_among
+      names_among (trees (drop i kids)) ≡ names_standing_in (tree kid) ++ names_among
       (trees (drop (i + 1) kids))
   names_drop kids i kid lt at = ap names_among (trees-drop kids i kid lt at)
 
@@ -66,16 +66,16 @@ module _ (literals : List Text) where
       kid ≡ get_or kids i kid → FreeBefore kids i → IsFree literals (tree kid) →
       FreeBefore kids (i + 1)
   free_on kids i kid lt at b f = record {
-    front = b.front ++ names_in (tree kid);
+    front = b.front ++ names_standing_in (tree kid);
     is = b.is ∙ ap (λ (l : List Text). b.front ++ l) (names_drop kids i kid lt at)
-        ∙ sym (append_assoc b.front (names_in (tree kid))
+        ∙ sym (append_assoc b.front (names_standing_in (tree kid))
         (names_among (trees (drop (i + 1) kids))));
-    free = free_both b.front (names_in (tree kid)) b.free f;
+    free = free_both b.front (names_standing_in (tree kid)) b.free f;
   }
 
   module _ (t : Term) (label : ℕ) (kids : Vec Term Global) (is : t ≡ Node label kids) where
-    names_are : names_in (tree t) ≡ names_among (trees kids.items)
-    names_are = ap names_in (tree-at_node t label kids is)
+    names_are : names_standing_in (tree t) ≡ names_among (trees kids.items)
+    names_are = ap names_standing_in (tree-at_node t label kids is)
 
     pub first_here : (ts : List Term) (i : ℕ) (kid : Term) (word : Text) → ts ≡ kids.items →
         i < length ts → kid ≡ get_or ts i kid → FreeBefore ts i → IsCaptured literals (tree kid)
@@ -83,11 +83,11 @@ module _ (literals : List Text) where
         IsCaptured literals (tree t) word
     first_here ts i kid word same lt at b h =
         let all : names_among (trees ts) ≡ b.front ++
-        (names_in (tree kid) ++ names_among (trees (drop (i + 1) ts))) = b.is
+        (names_standing_in (tree kid) ++ names_among (trees (drop (i + 1) ts))) = b.is
         ∙ ap (λ (l : List Text). b.front ++ l) (names_drop ts i kid lt at) in
         let there = first_behind b.front
-        (names_in (tree kid) ++ names_among (trees (drop (i + 1) ts))) word b.free
-        (first_before (names_in (tree kid)) (names_among (trees (drop (i + 1) ts))) word h) in
+        (names_standing_in (tree kid) ++ names_among (trees (drop (i + 1) ts))) word b.free
+        (first_before (names_standing_in (tree kid)) (names_among (trees (drop (i + 1) ts))) word h) in
         subst (λ (l : List Text). IsFirstIn literals l word)
         (sym (names_are ∙ sym (ap (λ (l : List Term). names_among (trees l)) same) ∙ all)) there
 
@@ -139,6 +139,6 @@ module _ (few many : List Text) where
         HaveLexemes many ts
     all_free_lexemes none h f = tt
     all_free_lexemes (t ▹ ts) h f = (
-      free_lexemes t h.0 (left_free many (names_in t) (names_among ts) f),
-      all_free_lexemes ts h.1 (right_free many (names_in t) (names_among ts) f),
+      free_lexemes t h.0 (left_free many (names_standing_in t) (names_among ts) f),
+      all_free_lexemes ts h.1 (right_free many (names_standing_in t) (names_among ts) f),
     )

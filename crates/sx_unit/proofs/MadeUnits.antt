@@ -23,8 +23,8 @@ use Rattle.sx_extcheck.specs.declared.budgets.Budgets.{Budgets}
 use Rattle.sx_typing.specs.declared.typed.Typed.{Typed}
 use Rattle.sx_typing.specs.Dialects.{IsDialect}
 use Rattle.sx_typing.specs.BodySource.{BodySource, IsTermFor}
-use Rattle.sx_typing.specs.Goals.{dialect_rules, goal_events, IsBody, AreTriesCounted, IsTypedBy}
-use Rattle.sx_typing.specs.Refused.{HasBody, HasTyping, HasWalked, IsBadSource}
+use Rattle.sx_typing.specs.Goals.{dialect_rules, source_events, IsBody, AreTriesCounted, IsTypedBy}
+use Rattle.sx_typing.specs.Refused.{HasReadBody, HasTyping, HasWalked, IsBadSource}
 use Rattle.sx_unit.specs.declared.compiled.Compiled.{Compiled}
 use Rattle.sx_unit.specs.declared.lowering.Lowering.{Lowering}
 use Rattle.sx_typing.specs.declared.module_error.ModuleError.{ModuleError}
@@ -204,16 +204,16 @@ module _ (m : ModuleData) (b : Budgets) where
   passed_counted first last (Err e) P h f = f e h
 
   -- where the body is refused there are none
-  pub unread_counted : (e : ModuleError) (at : ℕ) → (e ≡ Memory) ⊎ (HasBody m.source → ⊥) →
+  pub unread_counted : (e : ModuleError) (at : ℕ) → (e ≡ Memory) ⊎ (HasReadBody m.source → ⊥) →
       IsCounted m b (Err e) at at
   unread_counted e at (inl memory) =
       subst (λ (x : ModuleError). IsCounted m b (Err x) at at) (sym memory)
       (omega arith, inl refl)
   unread_counted e at (inr none) = all_counted 0 at at (inr (none, refl)) (omega arith) (Err e)
 
-  module _ (body : HasBody m.source) where
+  module _ (body : HasReadBody m.source) where
     abbrev made : ℕ
-    made = tries_of None b.tries (goal_events m.source body.subject)
+    made = tries_of None b.tries (source_events m.source body.subject)
 
     walked : HasWalked m.source b.tries made
     walked = inl (body, refl)

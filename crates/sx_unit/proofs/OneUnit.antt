@@ -11,7 +11,7 @@ use Rattle.sx_rules.specs.Views.{modes_of, subjects_in}
 use Rattle.sx_rules.proofs.Refusals.{good_moded}
 use Rattle.sx_rewrite.specs.declared.rewrite_error.RewriteError.{RewriteError}
 use Rattle.sx_rewrite.specs.declared.rewrite_error.RewriteError.TheVariants as rewrite
-use Rattle.sx_rewrite.specs.Rewriting.{Refusal, Rewritten, IsRewritten, spent, deep, too_deep}
+use Rattle.sx_rewrite.specs.Rewriting.{RewriteRefusal, Rewritten, IsRewritten, spent, deep, too_deep}
 use Rattle.sx_rewrite.specs.Rewriting.{too_big}
 use Rattle.sx_rewrite.specs.Stored.{signature_of}
 use Rattle.sx_rewrite.proofs.Rewriting.{rewriting_is_unique}
@@ -28,7 +28,7 @@ use Rattle.sx_typing.specs.declared.module_error.ModuleError.TheVariants.{TypeEr
 use Rattle.sx_typing.specs.declared.module_error.ModuleError.TheVariants.{DepthSpent, TooDeep, TooBig}
 use Rattle.sx_typing.specs.declared.module_error.ModuleError.TheVariants.{RewriteSpent, RewriteDeep}
 use Rattle.sx_typing.specs.declared.module_error.ModuleError.TheVariants.{Print, Captured}
-use Rattle.sx_unit.specs.Alike.{ShowOthers, AreAlike, OneUnit}
+use Rattle.sx_unit.specs.Alike.{ShowOthers, AreUnitsAlike, OneUnit}
 use Rattle.sx_unit.specs.Errors.{of_rewrite}
 use Rattle.sx_unit.specs.Modules.{ModuleData}
 use Rattle.sx_unit.specs.PrintedParts.{PrintedData}
@@ -40,34 +40,34 @@ use Rattle.sx_unit.proofs.OneWriting.{unwritten_one, written_none, written_one}
 same_head : {A : Type 0} (x y : A) → x ∷ [] ≡ y ∷ [] → x ≡ y
 same_head x y e = cc
 
-abbrev rewritten_to : Rewritten → Result Rewritten Refusal
+abbrev rewritten_to : Rewritten → Result Rewritten RewriteRefusal
 rewritten_to x = Ok x
 
-abbrev refused_with : Refusal → Result Rewritten Refusal
+abbrev refused_with : RewriteRefusal → Result Rewritten RewriteRefusal
 refused_with x = Err x
 
 ok_same : (x y : Rewritten) → rewritten_to x ≡ rewritten_to y → x ≡ y
 ok_same x y e = cc
 
-err_same : (x y : Refusal) → refused_with x ≡ refused_with y → x ≡ y
+err_same : (x y : RewriteRefusal) → refused_with x ≡ refused_with y → x ≡ y
 err_same x y e = cc
 
-ok_or_err : (x : Rewritten) (y : Refusal) → rewritten_to x ≡ refused_with y → ⊥
+ok_or_err : (x : Rewritten) (y : RewriteRefusal) → rewritten_to x ≡ refused_with y → ⊥
 ok_or_err x y e = cc
 
 -- what a refusal of rewriting tells
-abbrev told : ℕ → Refusal → RewriteError
+abbrev told : ℕ → RewriteRefusal → RewriteError
 told budget spent = rewrite.RewriteSpent budget
 told budget deep = rewrite.RewriteDeep
 told budget (too_deep n) = rewrite.TooDeep n
 told budget (too_big n) = rewrite.TooBig n
 
 module _ (m : ModuleData) (b : Budgets) (dialect : IsDialect m.source.dialect) where
-  abbrev Rewrites : Proof → Result Rewritten Refusal → Type 0
+  abbrev Rewrites : Proof → Result Rewritten RewriteRefusal → Type 0
   Rewrites p r = IsRewritten m.source.dialect.set (subjects_in m.source.dialect.language.forms)
       no_hypotheses p b.nodes r
 
-  rewrites_one : (p : Proof) (r s : Result Rewritten Refusal) → Rewrites p r → Rewrites p s → r ≡ s
+  rewrites_one : (p : Proof) (r s : Result Rewritten RewriteRefusal) → Rewrites p r → Rewrites p s → r ≡ s
   rewrites_one p r s h k =
       rewriting_is_unique (signature_of m.source.dialect.language.forms)
       (shapes_of m.source.dialect.language.parts) (shapes_of m.source.dialect.parts)
@@ -82,7 +82,7 @@ module _ (m : ModuleData) (b : Budgets) (dialect : IsDialect m.source.dialect) w
 
   record IsUnrewritten (e : ModuleError) : Type 0 where
     typing : HasTyping m.source b.tries
-    refusal : Refusal
+    refusal : RewriteRefusal
     is : e ≡ of_rewrite (told b.nodes refusal)
     rewrites : Rewrites typing.answer.0 (Err refusal)
 
@@ -97,7 +97,7 @@ module _ (m : ModuleData) (b : Budgets) (dialect : IsDialect m.source.dialect) w
   read_case : (e : ModuleError) → e ≢ Memory → IsBadSource m.source b.tries e → Cases e
   read_case e not h = inr (inl (record { not = not; bad = h }))
 
-  rewrite_case : (refusal : Refusal) (t : HasTyping m.source b.tries) →
+  rewrite_case : (refusal : RewriteRefusal) (t : HasTyping m.source b.tries) →
       Rewrites t.answer.0 (Err refusal) → Cases (of_rewrite (told b.nodes refusal))
   rewrite_case refusal t h = inr
       (inr (inl (record { typing = t; refusal = refusal; is = refl; rewrites = h })))
@@ -126,7 +126,7 @@ module _ (m : ModuleData) (b : Budgets) (dialect : IsDialect m.source.dialect) w
   same_answer : (t u : HasTyping m.source b.tries) → t.answer ≡ u.answer
   same_answer t u = (one_typing.found m.source b.tries t u).answer
 
-  rewrites_same : (t u : HasTyping m.source b.tries) (r s : Result Rewritten Refusal) →
+  rewrites_same : (t u : HasTyping m.source b.tries) (r s : Result Rewritten RewriteRefusal) →
       Rewrites t.answer.0 r → Rewrites u.answer.0 s → r ≡ s
   rewrites_same t u r s h k = rewrites_one u.answer.0 r s
       (subst (λ (a : Answer). Rewrites a.0 r) (same_answer t u) h) k
@@ -156,12 +156,12 @@ module _ (m : ModuleData) (b : Budgets) (dialect : IsDialect m.source.dialect) w
 
   -- ---- refusals
 
-  reads_alike : (e d : ModuleError) → typed.AreAlike m.source e d → AreAlike m b e d
+  reads_alike : (e d : ModuleError) → typed.AreTypingsAlike m.source e d → AreUnitsAlike m b e d
   reads_alike e d (inl same) = inl same
   reads_alike e d (inr others) = inr (inl others)
 
   puts_alike : (l : HasLowering m b) (e d : ModuleError) → (e ≡ d) ⊎ ShowOthers m l.terms e d →
-      AreAlike m b e d
+      AreUnitsAlike m b e d
   puts_alike l e d (inl same) = inl same
   puts_alike l e d (inr show) = inr (inr (l, show))
 
@@ -178,24 +178,24 @@ module _ (m : ModuleData) (b : Budgets) (dialect : IsDialect m.source.dialect) w
   moded = good_moded (shapes_of m.source.dialect.parts) m.source.dialect.language.forms []
       m.source.dialect.rules dialect.rule_set.1
 
-  reads_one : (e d : ModuleError) → IsUnread e → IsUnread d → AreAlike m b e d
+  reads_one : (e d : ModuleError) → IsUnread e → IsUnread d → AreUnitsAlike m b e d
   reads_one e d h k =
       reads_alike e d (one_typing.refused m.source b.tries e d moded h.bad k.bad h.not k.not)
 
-  rewrites_alike : (e d : ModuleError) → IsUnrewritten e → IsUnrewritten d → AreAlike m b e d
+  rewrites_alike : (e d : ModuleError) → IsUnrewritten e → IsUnrewritten d → AreUnitsAlike m b e d
   rewrites_alike e d h k =
       let same = err_same h.refusal k.refusal (rewrites_same h.typing k.typing (Err h.refusal)
       (Err k.refusal) h.rewrites k.rewrites) in
-      inl (h.is ∙ ap (λ (r : Refusal). of_rewrite (told b.nodes r)) same ∙ sym k.is)
+      inl (h.is ∙ ap (λ (r : RewriteRefusal). of_rewrite (told b.nodes r)) same ∙ sym k.is)
 
-  puts_one : (e d : ModuleError) → IsUnput e → IsUnput d → AreAlike m b e d
+  puts_one : (e d : ModuleError) → IsUnput e → IsUnput d → AreUnitsAlike m b e d
   puts_one e d h k =
       puts_alike k.lowering e d
       (unwritten_one m k.lowering.terms e d h.not k.not
       (subst (λ (t : PrintedData). IsUnwritten m t e) (same_terms h.lowering k.lowering)
       h.unwritten) k.unwritten)
 
-  refused_one : (e d : ModuleError) → Cases e → Cases d → e ≢ Memory → d ≢ Memory → AreAlike m b e d
+  refused_one : (e d : ModuleError) → Cases e → Cases d → e ≢ Memory → d ≢ Memory → AreUnitsAlike m b e d
   refused_one e d (inl h) k n o = absurd (n h)
   refused_one e d (inr h) (inl k) n o = absurd (o k)
   refused_one e d (inr (inl h)) (inr (inl k)) n o = reads_one e d h k

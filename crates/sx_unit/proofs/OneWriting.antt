@@ -12,9 +12,9 @@ use Rattle.sx_typing.specs.declared.module_error.ModuleError.TheVariants.{DepthS
 use Rattle.sx_typing.specs.declared.module_error.ModuleError.TheVariants.{RewriteSpent, RewriteDeep}
 use Rattle.sx_typing.specs.declared.module_error.ModuleError.TheVariants.{Print, Captured}
 use Rattle.sx_unit.specs.Alike.{PartHasThree, ShowOthers}
-use Rattle.sx_unit.specs.Captured.{names_in}
+use Rattle.sx_unit.specs.Captured.{names_standing_in}
 use Rattle.sx_unit.specs.Modules.{ModuleData}
-use Rattle.sx_unit.specs.PrintedParts.{PrintedData, part_grammar_of, part_sort_of, term_of}
+use Rattle.sx_unit.specs.PrintedParts.{PrintedData, part_grammar_of, part_sort_of, part_term}
 use Rattle.sx_unit.specs.Texts.{derivation_text}
 use Rattle.sx_unit.specs.Written.{UnitData, shown_of, file_size, IsBadPart, IsGoodPart, IsPartDue}
 use Rattle.sx_unit.specs.Written.{HasCaptured, IsWritten, IsUnwritten}
@@ -80,13 +80,13 @@ module _ (m : ModuleData) (t : PrintedData) where
   same_part part e d h k =
       defects_alike part h.defect k.defect e d h.due h.is k.is
       (defect_one (part_grammar_of m.source.dialect part) (part_sort_of m.source.dialect part)
-      (file_size m t part) (shown_of m t part) (term_of t part) h.defect k.defect h.bad k.bad)
+      (file_size m t part) (shown_of m t part) (part_term t part) h.defect k.defect h.bad k.bad)
 
   -- a part that can be written is not refused
   part_none : (part : PrintedPart) (e : ModuleError) → IsUnprinted part e → IsGoodPart m t part → ⊥
   part_none part e h g =
       defect_none (part_grammar_of m.source.dialect part) (part_sort_of m.source.dialect part)
-      (file_size m t part) (shown_of m t part) (term_of t part) h.defect g.short h.bad g.read
+      (file_size m t part) (shown_of m t part) (part_term t part) h.defect g.short h.bad g.read
 
   parts_one : (part more : PrintedPart) (e d : ModuleError) → IsUnprinted part e →
       IsUnprinted more d → IsOne e d
@@ -104,12 +104,12 @@ module _ (m : ModuleData) (t : PrintedData) where
   part_or_name : (part : PrintedPart) (e d : ModuleError) → IsUnprinted part e → IsUnnamed d → ⊥
   part_or_name Body e d h k = part_none Body e h k.body
   part_or_name Signature e d h k = part_none Signature e h k.signature
-  part_or_name Stated e d h k = first_none (literals_of m.source.dialect.parts) (names_in t.stated)
+  part_or_name Stated e d h k = first_none (literals_of m.source.dialect.parts) (names_standing_in t.stated)
       k.word k.captured h.due.2
 
   names_one : (e d : ModuleError) → IsUnnamed e → IsUnnamed d → e ≡ d
   names_one e d h k =
-      h.is ∙ ap Captured (first_one (literals_of m.source.dialect.parts) (names_in t.stated) h.word
+      h.is ∙ ap Captured (first_one (literals_of m.source.dialect.parts) (names_standing_in t.stated) h.word
       k.word h.captured k.captured) ∙ sym k.is
 
   cases_one : (e d : ModuleError) → Cases e → Cases d → IsOne e d
@@ -131,7 +131,7 @@ module _ (m : ModuleData) (t : PrintedData) where
 
   cases_none : (e : ModuleError) (q : Proof) (u : UnitData) → Cases e → IsWritten m t q u → ⊥
   cases_none e q u (inl h) w = part_none h.0 e h.1 (written_part h.0 q u w)
-  cases_none e q u (inr h) w = first_none (literals_of m.source.dialect.parts) (names_in t.stated)
+  cases_none e q u (inr h) w = first_none (literals_of m.source.dialect.parts) (names_standing_in t.stated)
       h.word h.captured w.names_free
 
   pub written_none : (e : ModuleError) (q : Proof) (u : UnitData) → e ≢ Memory → IsUnwritten m t e →

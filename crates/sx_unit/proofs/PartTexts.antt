@@ -14,7 +14,7 @@ use Rattle.sx_typing.specs.declared.module_error.ModuleError.{ModuleError}
 use Rattle.sx_unit.specs.declared.print_check.PrintRefusal.TheVariants.{Memory, Defect}
 use Rattle.sx_unit.specs.Modules.{ModuleData}
 use Rattle.sx_unit.specs.PartRefused.{IsPartRefusal}
-use Rattle.sx_unit.specs.PrintedParts.{PrintedData, part_grammar_of, part_sort_of, term_of}
+use Rattle.sx_unit.specs.PrintedParts.{PrintedData, part_grammar_of, part_sort_of, part_term}
 use Rattle.sx_unit.specs.Texts.{base_bytes}
 use Rattle.sx_unit.specs.Unprinted.{IsUnprintable, IsPrintable}
 use Rattle.sx_unit.specs.Written.{shown_of, file_size, IsGoodPart, IsPartDue, IsUnwritten}
@@ -28,20 +28,20 @@ module _ (m : ModuleData) (t : PrintedData) (part : PrintedPart) (size : ℕ) (s
   abbrev sort : Sort
   sort = part_sort_of m.source.dialect part
 
-  pub good_part : IsPrintable p sort size shown (term_of t part) → IsGoodPart m t part
+  pub good_part : IsPrintable p sort size shown (part_term t part) → IsGoodPart m t part
   good_part h =
-      subst (λ (text : List ℕ). IsPrintable p sort (file_size m t part) text (term_of t part))
+      subst (λ (text : List ℕ). IsPrintable p sort (file_size m t part) text (part_term t part))
       shown_is
-      (subst (λ (n : ℕ). IsPrintable p sort n shown (term_of t part)) size_is h)
+      (subst (λ (n : ℕ). IsPrintable p sort n shown (part_term t part)) size_is h)
 
   pub bad_part : (e : ModuleError) → IsPartDue m t part → IsPartRefusal m.source.dialect part size shown
-      (term_of t part) e → IsUnwritten m t e
+      (part_term t part) e → IsUnwritten m t e
   bad_part e due (Memory, is, bad) = subst (IsUnwritten m t) (sym is) tt
   bad_part e due (Defect defect, is, bad) = subst (IsUnwritten m t) (sym is) (
     due,
-    subst (λ (text : List ℕ). IsUnprintable p sort (file_size m t part) text (term_of t part)
+    subst (λ (text : List ℕ). IsUnprintable p sort (file_size m t part) text (part_term t part)
         defect) shown_is
-        (subst (λ (n : ℕ). IsUnprintable p sort n shown (term_of t part) defect) size_is bad),
+        (subst (λ (n : ℕ). IsUnprintable p sort n shown (part_term t part) defect) size_is bad),
   )
 
 -- ---- the printed texts stand in their files

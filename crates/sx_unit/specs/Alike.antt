@@ -40,8 +40,8 @@ abbrev pub PrintOthers : ModuleData → Budgets → ModuleError → ModuleError 
 PrintOthers m b e d = (l : HasLowering m b) × ShowOthers m l.terms e d
 
 -- the same refusal, but for the two readings that it shows of a text with more than two
-abbrev pub AreAlike : ModuleData → Budgets → ModuleError → ModuleError → Type 0
-AreAlike m b e d = (e ≡ d) ⊎ ReadOthers m.source e d ⊎ PrintOthers m b e d
+abbrev pub AreUnitsAlike : ModuleData → Budgets → ModuleError → ModuleError → Type 0
+AreUnitsAlike m b e d = (e ≡ d) ⊎ ReadOthers m.source e d ⊎ PrintOthers m b e d
 
 -- A module in a dialect has one unit, or one refusal, and its walk makes so many tries. Two
 -- readings that a refusal shows are the same two in the same order, that of their tree texts by
@@ -52,6 +52,6 @@ pub record OneUnit : Type 0 where
   pub either : (m : ModuleData) (b : Budgets) (u : UnitData) (e : ModuleError) →
       IsDialect m.source.dialect → IsUnitMade m b u → IsBadModule m b e → e ≡ Memory
   pub refused : (m : ModuleData) (b : Budgets) (e d : ModuleError) → IsDialect m.source.dialect →
-      IsBadModule m b e → IsBadModule m b d → e ≢ Memory → d ≢ Memory → AreAlike m b e d
+      IsBadModule m b e → IsBadModule m b d → e ≢ Memory → d ≢ Memory → AreUnitsAlike m b e d
   pub counted : (m : ModuleData) (tries made other : ℕ) → HasWalked m.source tries made →
       HasWalked m.source tries other → made ≡ other

@@ -14,20 +14,20 @@ lexeme_name Str text = []
 
 abbrev mutual
   -- the names that stand in a term, in preorder
-  pub names_in : Tree → List Text
-  names_in (node label kids) = names_among kids
-  names_in (lexeme kind text) = lexeme_name kind text
-  names_in (hole v) = []
+  pub names_standing_in : Tree → List Text
+  names_standing_in (node label kids) = names_among kids
+  names_standing_in (lexeme kind text) = lexeme_name kind text
+  names_standing_in (hole v) = []
 
   -- those of one term after the other
   pub names_among : Trees → List Text
   names_among none = []
-  names_among (t ▹ ts) = names_in t ++ names_among ts
+  names_among (t ▹ ts) = names_standing_in t ++ names_among ts
 
 -- none of the names in the term is
 abbrev pub IsFree : List Text → Tree → Type 0
-IsFree literals t = AreFree literals (names_in t)
+IsFree literals t = AreFree literals (names_standing_in t)
 
 -- it is the first of the names in the term
 abbrev pub IsCaptured : List Text → Tree → (word : Text) → Type 0
-IsCaptured literals t word = IsFirstIn literals (names_in t) word
+IsCaptured literals t word = IsFirstIn literals (names_standing_in t) word

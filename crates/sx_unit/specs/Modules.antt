@@ -1,6 +1,6 @@
 -- What a module is compiled from.
 use Rattle.std.specs.Prelude.{ℕ, List, map}
-use Rattle.sx_interface.specs.Interfaces.{Mark}
+use Rattle.sx_interface.specs.Interfaces.{MarkData}
 use Rattle.sx_interface.specs.InterfaceView.{mark_view}
 use Rattle.sx_typing.specs.BodySource.{BodySource, source_of}
 use Rattle.sx_interface.specs.declared.import.Import.{Import}
@@ -11,11 +11,11 @@ use Rattle.sx_unit.specs.declared.module_source.ModuleSource.{ModuleSource}
 pub record ModuleData : Type 0 where
   pub source : BodySource
   pub digest : List ℕ
-  pub uses : List Mark
-  pub imports : List Mark
+  pub uses : List MarkData
+  pub imports : List MarkData
 
 -- an import as its row in an interface: its name, and the digest of its file
-abbrev pub mark : Import → Mark
+abbrev pub mark : Import → MarkData
 mark i = record { name = i.interface.module; digest = i.digest.bytes }
 
 -- the view of what a module is compiled from

@@ -26,10 +26,10 @@ printed_of t =
     }
 
 -- the term of a part
-abbrev pub term_of : PrintedData → PrintedPart → Tree
-term_of t Body = t.subject
-term_of t Signature = t.signature
-term_of t Stated = t.stated
+abbrev pub part_term : PrintedData → PrintedPart → Tree
+part_term t Body = t.subject
+part_term t Signature = t.signature
+part_term t Stated = t.stated
 
 -- the grammar by which it is printed: the language's, and for the stated signature the dialect's
 abbrev pub part_grammar_of : DialectData → PrintedPart → Parts

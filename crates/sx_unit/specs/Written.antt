@@ -15,7 +15,7 @@ use Rattle.sx_typing.specs.declared.module_error.ModuleError.{ModuleError}
 use Rattle.sx_typing.specs.declared.module_error.ModuleError.TheVariants.{Memory, Print, Captured}
 use Rattle.sx_unit.specs.Captured.{IsCaptured, IsFree}
 use Rattle.sx_unit.specs.Modules.{ModuleData}
-use Rattle.sx_unit.specs.PrintedParts.{PrintedData, part_grammar_of, part_sort_of, term_of}
+use Rattle.sx_unit.specs.PrintedParts.{PrintedData, part_grammar_of, part_sort_of, part_term}
 use Rattle.sx_unit.specs.Texts.{printed, print_text, print_line, base_text, interface_text}
 use Rattle.sx_unit.specs.Texts.{derivation_text}
 use Rattle.sx_unit.specs.Unprinted.{IsUnprintable, IsPrintable}
@@ -39,13 +39,13 @@ file_size m t Stated = length (interface_text m t)
 abbrev pub IsBadPart : ModuleData → PrintedData → PrintedPart → PrintDefect → Type 0
 IsBadPart m t part defect =
     IsUnprintable (part_grammar_of m.source.dialect part) (part_sort_of m.source.dialect part)
-    (file_size m t part) (shown_of m t part) (term_of t part) defect
+    (file_size m t part) (shown_of m t part) (part_term t part) defect
 
 -- it can be written
 abbrev pub IsGoodPart : ModuleData → PrintedData → PrintedPart → Type 0
 IsGoodPart m t part =
     IsPrintable (part_grammar_of m.source.dialect part) (part_sort_of m.source.dialect part)
-    (file_size m t part) (shown_of m t part) (term_of t part)
+    (file_size m t part) (shown_of m t part) (part_term t part)
 
 -- no name in the stated signature is a literal of the dialect
 abbrev pub HasFreeNames : ModuleData → PrintedData → Type 0

@@ -8,7 +8,7 @@ ghost use Rattle.sx_grammar.specs.Numbered.{symbol};
 ghost use Rattle.sx_grammar.specs.Parts.{numbered};
 ghost use Rattle.sx_grammar.specs.Print.{print, print_symbols, print_each, in_brackets, Fits};
 ghost use Rattle.sx_grammar.specs.Tables.{literals_of};
-ghost use Rattle.sx_print.specs.Printed.{IsBuilt, AreBuilt, brackets_below, parts_in};
+ghost use Rattle.sx_print.specs.Printed.{HasProductions, HaveProductions, brackets_below, parts_in};
 ghost use Rattle.sx_unit.specs.Texts.{printed};
 ghost use Rattle.sx_term.specs.Limits.{most_depth};
 
@@ -36,7 +36,7 @@ fn count_brackets(grammar: &Grammar, production: &NumberedProduction, least: u8)
 #[cycle(count)]
 fn count_at(grammar: &Grammar, term: &Term, least: u8) -> u64
     requires depth { depth_of (tree term.now) ≤ most_depth }
-    requires built { IsBuilt (numbered grammar.now.parts) 0 (tree term.now) }
+    requires built { HasProductions (numbered grammar.now.parts) 0 (tree term.now) }
     ensures { (place : Stem) →
         result ≡ min (length (print (numbered grammar.now.parts) [] (tree term.now) place least))
         (2 ^ 64 - 1) }
@@ -58,7 +58,7 @@ fn count_symbols(grammar: &Grammar, symbols: &[NumberedSymbol], kids: &[Term]) -
     requires depth { greatest_depth (forest (map tree kids.now)) ≤ most_depth }
     requires many { parts_in (map (symbol (literals_of grammar.now.parts)) symbols.now) ≡ length
         kids.now }
-    requires built { AreBuilt (numbered grammar.now.parts) 0 (forest (map tree kids.now)) }
+    requires built { HaveProductions (numbered grammar.now.parts) 0 (forest (map tree kids.now)) }
     ensures { result ≡ min
         (length (print_symbols (map (symbol (literals_of grammar.now.parts)) symbols.now)
         (print_each (numbered grammar.now.parts) [] (forest (map tree kids.now)))))

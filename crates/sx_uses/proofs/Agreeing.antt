@@ -15,8 +15,8 @@ use Rattle.sx_steps.proofs.Ones.{IsOne, as_answer, then_one, held_one, ok_same, 
 use Rattle.sx_steps.proofs.Ones.{ok_no_err, some_same, none_some}
 use Rattle.sx_walking.specs.Laws.{AnswerAlike}
 use Rattle.sx_walking.proofs.Agreeing.{reaches_alike, answers_alike}
-use Rattle.sx_uses.specs.ExtensionFile.{Extension, extension_file, uses_of}
-use Rattle.sx_uses.specs.ReadExtension.{extension_header_stop, HasHeader, HasNoHeader}
+use Rattle.sx_uses.specs.ExtensionFile.{Extension, extension_file, used_names}
+use Rattle.sx_uses.specs.ReadExtension.{extension_header_stop, HasExtensionHeader, HasNoHeader}
 use Rattle.sx_uses.specs.ReadExtension.{StatesExtension}
 use Rattle.sx_uses.specs.ReadExtension.{ReadsFile, IsFor, ReadsExtension}
 use Rattle.sx_uses.specs.ReadUses.{ReadsUses}
@@ -34,7 +34,7 @@ module _ (one_header_answer : OneHeaderAnswer) (name bytes : List ℕ) where
   a_header : (h : HeaderData) → ◌≢◌ {A = Result HeaderData OutlineError} (Ok h) (Err Memory)
   a_header h same = ok_no_err h Memory same
 
-  same_header : (x y : Extension) → HasHeader name bytes x → HasHeader name bytes y → x ≡ y
+  same_header : (x y : Extension) → HasExtensionHeader name bytes x → HasExtensionHeader name bytes y → x ≡ y
   same_header x y h k =
       let head = ok_same x.header y.header
       (one_header_answer name bytes (Ok x.header) (Ok y.header) h.states k.states
@@ -42,7 +42,7 @@ module _ (one_header_answer : OneHeaderAnswer) (name bytes : List ℕ) where
       let same = h.same ∙ sym k.same in
       λ i. record { bytes = same i; header = head i }
 
-  no_header : (x : Extension) (stop : Stop) → HasHeader name bytes x →
+  no_header : (x : Extension) (stop : Stop) → HasExtensionHeader name bytes x →
       HasNoHeader name bytes stop → ⊥
   no_header x stop h k = ok_no_err x.header k.error
       (one_header_answer name bytes (Ok x.header) (Err k.error) h.states k.refused
@@ -87,10 +87,10 @@ pub uses_by : OneHeaderAnswer → (file language : List ℕ) (roots : List Name)
     ReadsUses file language roots files y → IsNoReadFault x → IsNoReadFault y →
     AnswersBy AnswerAlike (as_answer x) (as_answer y)
 uses_by one file language roots files x y h k n m =
-    reaches_alike uses_of (ReadsExtension language files) (extension_one one language files) file
+    reaches_alike used_names (ReadsExtension language files) (extension_one one language files) file
     roots x y h k n m
 
 pub uses_one : OneHeaderAnswer → UsesAgree
 uses_one one file language roots files x y h k n m =
-    answers_alike uses_of (ReadsExtension language files) (extension_one one language files) file
+    answers_alike used_names (ReadsExtension language files) (extension_one one language files) file
     roots x y h k n m

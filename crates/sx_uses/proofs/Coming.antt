@@ -7,7 +7,7 @@ use Rattle.sx_steps.specs.Held.{Held}
 use Rattle.sx_term.specs.Limits.{most_bytes}
 use Rattle.sx_steps.proofs.StepsOn.{went}
 use Rattle.sx_walking.proofs.Coming.{reached_first}
-use Rattle.sx_uses.specs.ExtensionFile.{Extension, extension_file, uses_of}
+use Rattle.sx_uses.specs.ExtensionFile.{Extension, extension_file, used_names}
 use Rattle.sx_uses.specs.ExtensionKind.{extension_name}
 use Rattle.sx_uses.specs.ReadExtension.{StatesExtension, ReadsFile, IsFor, ReadsExtension}
 use Rattle.sx_uses.specs.Laws.{UsesComeFirst}
@@ -25,5 +25,5 @@ read_named language files name x reads =
 
 pub come_first : UsesComeFirst
 come_first file language roots files xs reads =
-    reached_first extension_name uses_of (ReadsExtension language files) (read_named language files) file
+    reached_first extension_name used_names (ReadsExtension language files) (read_named language files) file
     roots xs reads

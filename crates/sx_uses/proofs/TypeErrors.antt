@@ -9,7 +9,7 @@ use Rattle.sx_steps.specs.declared.stop.Stop.{Stop}
 use Rattle.sx_steps.proofs.TypeErrors.{OnTypeError, on_stop, no_type_error, Final, then_final}
 use Rattle.sx_steps.proofs.TypeErrors.{held_final}
 use Rattle.sx_walking.proofs.TypeErrors.{reaches_final}
-use Rattle.sx_uses.specs.ExtensionFile.{extension_file, uses_of}
+use Rattle.sx_uses.specs.ExtensionFile.{extension_file, used_names}
 use Rattle.sx_uses.specs.ReadExtension.{extension_header_stop, wrong_language, StatesExtension}
 use Rattle.sx_uses.specs.ReadExtension.{ReadsFile}
 use Rattle.sx_uses.specs.ReadExtension.{IsFor, ReadsExtension}
@@ -42,5 +42,5 @@ module _ (Q : Stop → Type 0) where
   pub uses_final : (file language : List ℕ) (files : Files) (roots : List (List ℕ)) →
       Final Q (ReadsUses file language roots files)
   uses_final file language files roots =
-      reaches_final Q uses_of (ReadsExtension language files) (visits_final language files) file
+      reaches_final Q used_names (ReadsExtension language files) (visits_final language files) file
       roots

@@ -4,14 +4,14 @@ use Rattle.std.specs.Prelude.{Result, Ok, Err}
 use Rattle.std.proofs.lemmas.Slice.Eq.{bytes_eq-Decides}
 use Rattle.sx_outside.specs.Files.{Files}
 use Rattle.sx_imports.specs.Walk.{Name}
-use Rattle.sx_steps.specs.Steps.{Goes}
+use Rattle.sx_steps.specs.Steps.{StepsGo}
 use Rattle.sx_steps.specs.Stop.{Gives}
 use Rattle.sx_steps.specs.declared.stop.Stop.{Stop}
 use Rattle.sx_steps.specs.declared.step_error.StepError.{StepError}
 use Rattle.sx_walking.specs.Kinds.{FileFits, Visits, ReachesBy}
 use Rattle.sx_walking.proofs.Reaching.{gives_as}
 use Rattle.sx_walking.proofs.Tables.{unlike}
-use Rattle.sx_uses.specs.ExtensionFile.{Extension, uses_of}
+use Rattle.sx_uses.specs.ExtensionFile.{Extension, used_names}
 use Rattle.sx_uses.specs.ExtensionKind.{extensions_for}
 use Rattle.sx_uses.specs.ReadExtension.{IsFor, ReadsExtension}
 use Rattle.sx_uses.specs.ReadUses.{ReadsUses}
@@ -23,7 +23,7 @@ module _ (language : List ℕ) where
   for_as name given (Err stop) h = (unlike given.header.language language h.0, h.1)
 
   goes_as : (name : Name) (given r : Result Extension Stop) →
-      Goes (FileFits (extensions_for language) name) given r → Goes (IsFor language name) given r
+      StepsGo (FileFits (extensions_for language) name) given r → StepsGo (IsFor language name) given r
   goes_as name (Ok x) r h = for_as name x r h
   goes_as name (Err stop) r h = h
 
@@ -40,5 +40,5 @@ module _ (language : List ℕ) where
       Gives view (ReachesBy (extensions_for language) file roots files) r →
       Gives view (ReadsUses file language roots files) r
   uses_as view file roots files r h =
-      gives_as uses_of (Visits (extensions_for language) files) (ReadsExtension language files)
+      gives_as used_names (Visits (extensions_for language) files) (ReadsExtension language files)
       (reads_as files) file view roots r h

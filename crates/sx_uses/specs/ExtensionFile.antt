@@ -22,8 +22,8 @@ abbrev pub extension_file : List ℕ → List ℕ
 extension_file name = name ++ codes ".ext"
 
 -- the names of the extensions that it uses, in order
-abbrev pub uses_of : Extension → List (List ℕ)
-uses_of x = x.header.uses
+abbrev pub used_names : Extension → List (List ℕ)
+used_names x = x.header.uses
 
 -- the bytes are no more than a file may have, and state the header under the name that it has
 pub record IsHeaderStated (x : Extension) : Type 0 where

@@ -9,7 +9,7 @@ use Rattle.sx_steps.specs.Stop.{Gives}
 use Rattle.sx_walking.specs.Laws.{ComesAfter}
 pub use Rattle.sx_walking.specs.Laws.{AnswerAlike}
 use Rattle.sx_uses.specs.ExtensionKind.{extension_name}
-use Rattle.sx_uses.specs.ExtensionFile.{Extension, uses_of}
+use Rattle.sx_uses.specs.ExtensionFile.{Extension, used_names}
 use Rattle.sx_uses.specs.ReadExtension.{ReadsFile, ReadsExtension}
 use Rattle.sx_uses.specs.ReadUses.{ReadsUses}
 
@@ -35,11 +35,11 @@ use_names xs = map (λ x. x.header.name) xs
 
 -- the extension stands after all that it uses, and none of its name stands before it
 abbrev pub StandsAfterUses : (before : List Extension) → Extension → Type 0
-StandsAfterUses = ComesAfter extension_name uses_of
+StandsAfterUses = ComesAfter extension_name used_names
 
 -- each of these was read from its file and is written for the language
-abbrev pub AreRead : (language : List ℕ) → Files → List Extension → Type 0
-AreRead language files xs =
+abbrev pub AreExtensionsRead : (language : List ℕ) → Files → List Extension → Type 0
+AreExtensionsRead language files xs =
     AllByRecursion (λ x. ReadsExtension language files x.header.name (Ok x)) xs
 
 -- each extension that was read stands after all that it uses, and the roots are among them
@@ -47,7 +47,7 @@ abbrev pub UsesComeFirst : Type 0
 UsesComeFirst = (file language : List ℕ) (roots : List (List ℕ)) (files : Files)
     (xs : List Extension) → ReadsUses file language roots files (Ok xs) →
     ((before after : List Extension) (x : Extension) → xs ≡ before ++ x ∷ after →
-    StandsAfterUses before x) × AreRead language files xs ×
+    StandsAfterUses before x) × AreExtensionsRead language files xs ×
     ((name : List ℕ) → Contains roots name → Contains (use_names xs) name)
 
 -- of what is reached from one root, the root comes last

@@ -31,7 +31,7 @@ wrong_language file language =
 -- ---- steps
 
 -- the bytes state the header of the extension with this name
-pub record HasHeader (name bytes : List ℕ) (x : Extension) : Type 0 where
+pub record HasExtensionHeader (name bytes : List ℕ) (x : Extension) : Type 0 where
   pub same : x.bytes ≡ bytes
   pub states : IsHeaderAnswer name bytes (Ok x.header)
 
@@ -43,7 +43,7 @@ pub record HasNoHeader (name bytes : List ℕ) (stop : Stop) : Type 0 where
 
 -- the header that the bytes state, or its refusal
 abbrev pub StatesExtension : List ℕ → List ℕ → Result Extension Stop → Type 0
-StatesExtension name bytes (Ok x) = HasHeader name bytes x
+StatesExtension name bytes (Ok x) = HasExtensionHeader name bytes x
 StatesExtension name bytes (Err stop) = HasNoHeader name bytes stop
 
 -- the header in the file of the extension with this name

@@ -2,7 +2,7 @@
 use Rattle.std.specs.Prelude.{ℕ, List, Result}
 use Rattle.sx_outside.specs.Files.{Files}
 use Rattle.sx_steps.specs.declared.stop.Stop.{Stop}
-use Rattle.sx_uses.specs.ExtensionFile.{Extension, uses_of}
+use Rattle.sx_uses.specs.ExtensionFile.{Extension, used_names}
 use Rattle.sx_uses.specs.ReadExtension.{ReadsExtension}
 use Rattle.sx_walking.specs.Reached.{Reaches}
 
@@ -11,4 +11,4 @@ use Rattle.sx_walking.specs.Reached.{Reaches}
 abbrev pub ReadsUses : (file language : List ℕ) → (roots : List (List ℕ)) → Files →
     Result (List Extension) Stop → Type 0
 ReadsUses file language roots files =
-    Reaches uses_of (ReadsExtension language files) file roots
+    Reaches used_names (ReadsExtension language files) file roots

@@ -40,9 +40,9 @@ use Rattle.sx_importing.specs.Laws.{SameButRows}
 use Rattle.sx_importing.specs.MakeEnvironment.{SeesImports}
 use Rattle.sx_importing.proofs.EachLoops.{is_given}
 use Rattle.sx_importing.proofs.OneImports.{keeps_digest_one, keeps_text_one, sees}
-use Rattle.sx_verify.specs.Ground.{seen_in, source_in, ReadsBody}
+use Rattle.sx_verify.specs.Ground.{seen_alone, source_in, ReadsBody}
 use Rattle.sx_verify.specs.KeptImports.{ReadsAllKept}
-use Rattle.sx_verify.specs.Laws.{SameButShown, VerifiesAgree}
+use Rattle.sx_verify.specs.Laws.{VerifiesAlikeButShown, VerifiesAgree}
 use Rattle.sx_verify.specs.Lists.{ReadsEntries}
 use Rattle.sx_verify.specs.Replays.{ReplaysMainGoal, main_goal_in}
 use Rattle.sx_verify.specs.Verified.{verified_plan}
@@ -58,7 +58,7 @@ use Rattle.sx_verify.proofs.Promise.{are_written, holds}
 module _ (environments : OneEnvironment) (dialects : ExtendedIsDialect) (name : List ℕ)
     (files : Files) where
   abbrev Related : Stop → Stop → Type 0
-  Related = SameButShown name files
+  Related = VerifiesAlikeButShown name files
 
   one : {A : Type 0} (step : Result A Stop → Type 0) →
       ((x y : Result A Stop) → step x → step y → IsNoReadFault x → IsNoReadFault y → x ≡ y) →
@@ -138,7 +138,7 @@ module _ (environments : OneEnvironment) (dialects : ExtendedIsDialect) (name : 
           (λ list listed. entries_as goal list)
 
       -- the body
-      module _ (environment : Tree) (around : IsEnvironment (seen_in own l) its environment) where
+      module _ (environment : Tree) (around : IsEnvironment (seen_alone own l) its environment) where
         of_body : (x y : Stop) →
             SameButBody (source_in l w.base environment) (base_file name) x y → Related x y
         of_body x y (inl e) = inl e
@@ -168,14 +168,14 @@ module _ (environments : OneEnvironment) (dialects : ExtendedIsDialect) (name : 
             (λ subject body. list_as (main_goal_in l.language environment subject))
 
       -- the environment
-      of_import : (x y : Stop) → SameButRows (seen_in own l) its x y → Related x y
+      of_import : (x y : Stop) → SameButRows (seen_alone own l) its x y → Related x y
       of_import x y (inl e) = inl e
       of_import x y (inr (show, of)) = inr (show, inr (inl (record { from = from; of = of })))
 
-      sees_as : IsOneAs Related (SeesImports (base_file name) (seen_in own l) its)
+      sees_as : IsOneAs Related (SeesImports (base_file name) (seen_alone own l) its)
       sees_as x y h k n m =
-          answers_so (SameButRows (seen_in own l) its) Related of_import (as_answer x)
-          (as_answer y) (sees environments (base_file name) (seen_in own l) its x y h k)
+          answers_so (SameButRows (seen_alone own l) its) Related of_import (as_answer x)
+          (as_answer y) (sees environments (base_file name) (seen_alone own l) its x y h k)
 
       names_as : IsOneAs Related (spec.VerifiesNames name files w its l)
       names_as =
@@ -184,7 +184,7 @@ module _ (environments : OneEnvironment) (dialects : ExtendedIsDialect) (name : 
           (λ done. spec.VerifiesOver name files w l its)
           (one (HasFreeImports (base_file name) literals w.base)
           (free_imports_one (base_file name) literals w.base))
-          (λ done free. then_as Related (SeesImports (base_file name) (seen_in own l) its)
+          (λ done free. then_as Related (SeesImports (base_file name) (seen_alone own l) its)
           (spec.VerifiesBody name files w l) sees_as
           (λ environment made. body_as environment made.0))
 
@@ -218,5 +218,5 @@ module _ (environments : OneEnvironment) (dialects : ExtendedIsDialect) (name : 
 
 pub verifies_by : OneEnvironment → ExtendedIsDialect → VerifiesAgree
 verifies_by environments dialects name files =
-    trying_by (SameButShown name files) NoTries (VerifiesModule name files) no_tries_one
+    trying_by (VerifiesAlikeButShown name files) NoTries (VerifiesModule name files) no_tries_one
     (module_as environments dialects name files)

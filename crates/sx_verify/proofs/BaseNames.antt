@@ -6,7 +6,7 @@ use Rattle.std.proofs.lemmas.List.{length-map}
 use Rattle.std.proofs.lemmas.Option.{slice_get-map, slice_get_past, slice_get_read}
 use Rattle.sx_interface.specs.declared.interfaces.ImportMark.{ImportMark}
 use Rattle.sx_interface.specs.Headers.{HeaderParts}
-use Rattle.sx_interface.specs.Interfaces.{InterfaceParts, Mark}
+use Rattle.sx_interface.specs.Interfaces.{InterfaceParts, MarkData}
 use Rattle.sx_interface.specs.InterfaceView.{mark_view}
 use Rattle.sx_verify.specs.BaseFits.{mark_names, IsOtherName, IsFirstNumber, IsBaseOf, IsMisfit}
 
@@ -65,9 +65,9 @@ module _ (marks : List ImportMark) where
   due = mark_names (map mark_view marks)
 
   due_of : (i : ℕ) (x : Option ImportMark) → slice_get marks i ≡ x →
-      slice_get due i ≡ option_map (λ (m : Mark). m.name) (option_map mark_view x)
-  due_of i x e = slice_get-map (λ (m : Mark). m.name) (map mark_view marks) i
-      ∙ ap (option_map (λ (m : Mark). m.name))
+      slice_get due i ≡ option_map (λ (m : MarkData). m.name) (option_map mark_view x)
+  due_of i x e = slice_get-map (λ (m : MarkData). m.name) (map mark_view marks) i
+      ∙ ap (option_map (λ (m : MarkData). m.name))
       (slice_get-map mark_view marks i ∙ ap (option_map mark_view) e)
 
   pub due_at : (i : ℕ) (m : ImportMark) → slice_get marks i ≡ Some m → slice_get due i ≡ Some m.name
@@ -94,7 +94,7 @@ module _ (marks : List ImportMark) where
     none_at at same = none_some name (sym (due_none i at) ∙ sym same ∙ name_at)
 
   due_length : length due ≡ length marks
-  due_length = length-map (map mark_view marks) (λ (m : Mark). m.name) ∙ length-map marks mark_view
+  due_length = length-map (map mark_view marks) (λ (m : MarkData). m.name) ∙ length-map marks mark_view
 
   -- past the names an import is missing
   pub missing : (names : List (List ℕ)) → length names < length marks →

@@ -22,7 +22,7 @@ use Rattle.sx_outline.specs.declared.outline_error.OutlineError.{OutlineError}
 use Rattle.sx_outline.specs.declared.outline_error.OutlineError.TheVariants.{Notation}
 use Rattle.sx_outline.specs.Declarations.{Declared}
 use Rattle.sx_outline.specs.Known.{kept_lines}
-use Rattle.sx_outline.specs.Outcomes.{IsOutcome}
+use Rattle.sx_outline.specs.Outcomes.{IsReadingOutcome}
 use Rattle.sx_outline.specs.Outlined.{OutlineData, IsEnd, outline}
 use Rattle.sx_outline.specs.Stages.{Stage, at_start, at_declarations, at_body, at_plains, at_rules}
 use Rattle.sx_outline.specs.Stages.{at_premises, at_conclusion, at_end, RuleData, Numbered, State}
@@ -133,7 +133,7 @@ module _ (known : Declared) (name : List ℕ) (o : OutlineData) where
   no_fail A number kind e = absurd cc
 
   outline_named : (s : State) (lines : Lines) →
-      IsOutcome files.Language known name s lines Ends Fails → IsNamed s → AreNamed o.rules
+      IsReadingOutcome files.Language known name s lines Ends Fails → IsNamed s → AreNamed o.rules
   outline_named s (over end) h k = subst AreNamed h.1.rules k.1
   outline_named s (line number text rest more) (inl (t, step, later)) k =
       outline_named t more later

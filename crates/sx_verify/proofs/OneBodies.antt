@@ -12,9 +12,9 @@ use Rattle.sx_rules.specs.Modes.{AllModed}
 use Rattle.sx_rules.specs.Views.{modes_of}
 use Rattle.sx_typing.specs.declared.module_error.ModuleError.{ModuleError}
 use Rattle.sx_typing.specs.declared.module_error.ModuleError.TheVariants as module_error
-use Rattle.sx_typing.specs.Alike.{AreAlike, BodyHasThree}
+use Rattle.sx_typing.specs.Alike.{AreTypingsAlike, BodyHasThree}
 use Rattle.sx_typing.specs.Goals.{dialect_rules}
-use Rattle.sx_typing.specs.Refused.{HasBody, IsBadSource}
+use Rattle.sx_typing.specs.Refused.{HasReadBody, IsBadSource}
 use Rattle.sx_typing.specs.BodySource.{BodySource, main_sort}
 use Rattle.sx_typing.proofs.OneBody.{one_cut, defect_or_cut}
 use Rattle.sx_typing.proofs.OneTyping.{one_typing, same_body}
@@ -27,7 +27,7 @@ use Rattle.sx_verify.specs.Ground.{HasSubject, body_stop, ReadsBody}
 module _ (s : BodySource) (file : List ℕ) where
   -- a body that is read is not refused
   no_body : (e : ModuleError) (stop : Stop) → IsBadSource s 0 e → body_stop file e ≡ Some stop →
-      HasBody s → ⊥
+      HasReadBody s → ⊥
   no_body (module_error.Token line column e) stop bad is b =
       defect_or_cut s.dialect.parts s.header.body e b.tokens bad.0 b.read.cut
   no_body (module_error.Read line column u) stop ((ts, cut, why), at) is b =
@@ -47,7 +47,7 @@ module _ (s : BodySource) (file : List ℕ) where
   no_body (module_error.Print part defect) stop bad is b = none_some stop is
   no_body (module_error.Captured word) stop bad is b = none_some stop is
 
-  abbrev body_of : (t : Tree) → HasSubject s (Ok t) → HasBody s
+  abbrev body_of : (t : Tree) → HasSubject s (Ok t) → HasReadBody s
   body_of t h = record { tokens = h.0; reading = h.1; subject = t; read = h.2 }
 
   -- the stops are the same, but for two readings of a body that has more than two
@@ -57,7 +57,7 @@ module _ (s : BodySource) (file : List ℕ) where
   wants : (stop : Stop) (e : ModuleError) → body_stop file e ≡ Some stop → e ≢ module_error.Memory
   wants stop e is same = none_some stop (sym (ap (body_stop file) same) ∙ is)
 
-  alike : (e d : ModuleError) (x y : Stop) → AreAlike s e d → body_stop file e ≡ Some x →
+  alike : (e d : ModuleError) (x y : Stop) → AreTypingsAlike s e d → body_stop file e ≡ Some x →
       body_stop file d ≡ Some y → SameButBody x y
   alike e d x y (inl same) h k = inl (some_same x y (sym h ∙ ap (body_stop file) same ∙ k))
   alike e d x y (inr show) h k =

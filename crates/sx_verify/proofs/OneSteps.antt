@@ -6,7 +6,7 @@ use Rattle.sha2.specs.Sha256.{sha256}
 use Rattle.sx_term.specs.Tree.{Tree}
 use Rattle.sx_lines.specs.Lines.{lines_from, line_texts}
 use Rattle.sx_interface.specs.Headers.{HeaderParts}
-use Rattle.sx_interface.specs.Interfaces.{InterfaceParts, Mark}
+use Rattle.sx_interface.specs.Interfaces.{InterfaceParts, MarkData}
 use Rattle.sx_notation.specs.Language.{LanguageData}
 use Rattle.sx_outside.specs.Files.{Files}
 use Rattle.sx_rules.specs.declared.entry.Entry.{Entry as EntryOf}
@@ -24,7 +24,7 @@ use Rattle.sx_words.specs.declared.closure_defect.Kept.TheVariants.{BaseDigest, 
 use Rattle.sx_steps.specs.Held.{Held, most_list_bytes}
 use Rattle.sx_steps.specs.Unit.{base_file, interface_file}
 use Rattle.sx_steps.proofs.Ones.{IsOne, then_one, held_one, lower_but, ok_same, err_same, ok_no_err}
-use Rattle.sx_headers.specs.HeaderRows.{row_line}
+use Rattle.sx_headers.specs.HeaderRows.{header_row_line}
 use Rattle.sx_headers.specs.HeaderStops.{bad_header}
 use Rattle.sx_headers.specs.ReadInterface.{ReadsInterface}
 use Rattle.sx_headers.specs.ReadModule.{Module, ReadsModule}
@@ -66,7 +66,7 @@ module _ (file : List ℕ) (it : InterfaceParts) (m : Module) where
   fits_one (Ok a) (Err t) h k f g = absurd (no_misfit it m.header h k.0 k.1.here)
   fits_one (Err s) (Ok b) h k f g = absurd (no_misfit it m.header k h.0 h.1.here)
   fits_one (Err s) (Err t) h k f g =
-      ap Err (h.2 ∙ ap (λ (row : ℕ). bad_header file (row_line m row))
+      ap Err (h.2 ∙ ap (λ (row : ℕ). bad_header file (header_row_line m row))
       (first_one (IsMisfit it m.header) h.0 k.0 h.1 k.1) ∙ sym k.2)
 
 module _ (name : List ℕ) where
@@ -92,7 +92,7 @@ module _ (name : List ℕ) where
 -- ---- imports
 
 module _ (file : List ℕ) (files : Files) where
-  kept_one : (mark : Mark) → IsOne (ReadsKept file files mark)
+  kept_one : (mark : MarkData) → IsOne (ReadsKept file files mark)
   kept_one mark =
       then_one (ReadsImport files mark.name) (ComparesImport file mark)
       (reads_import_one files mark.name)
@@ -100,7 +100,7 @@ module _ (file : List ℕ) (files : Files) where
       (keeps_digest_one file (ImportDigest mark.name) mark.digest i.digest)
       (λ done kept. is_given (Ok i.parts)))
 
-  pub all_kept_one : (marks : List Mark) → IsOne (ReadsAllKept file files marks)
+  pub all_kept_one : (marks : List MarkData) → IsOne (ReadsAllKept file files marks)
   all_kept_one marks = each_one (ReadsKept file files) kept_one marks
 
 -- ---- the list

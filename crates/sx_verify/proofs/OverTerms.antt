@@ -7,7 +7,7 @@ use Rattle.sx_term.specs.Tree.{Tree}
 use Rattle.sx_grammar.specs.Grammar.{Text}
 use Rattle.sx_grammar.specs.Tables.{literals_of}
 use Rattle.sx_interface.specs.Headers.{HeaderParts}
-use Rattle.sx_interface.specs.Interfaces.{InterfaceParts, Mark}
+use Rattle.sx_interface.specs.Interfaces.{InterfaceParts, MarkData}
 use Rattle.sx_interface.specs.StatedHeader.{ArePlainNames}
 use Rattle.sx_notation.specs.Language.{LanguageData, IsMain}
 use Rattle.sx_typing.specs.Dialects.{DialectData}
@@ -17,7 +17,7 @@ use Rattle.sx_interface.specs.FreeNames.{AreFree}
 use Rattle.sx_environment.specs.SeenFrom.{SeenFrom, HasFreeName}
 use Rattle.sx_accepting.specs.ReadLanguage.{Stated}
 use Rattle.sx_headers.specs.ReadModule.{Module}
-use Rattle.sx_verify.specs.Ground.{seen_in, source_in}
+use Rattle.sx_verify.specs.Ground.{seen_alone, source_in}
 use Rattle.sx_verify.specs.Replays.{IsTermOf}
 
 -- ---- terms
@@ -53,13 +53,13 @@ named literals its names is are free =
 
 -- ---- what imports are seen from, and what a body is read from
 
-abbrev pub seen_with : DialectData → List ℕ → List ℕ → List Mark → SeenFrom
+abbrev pub seen_with : DialectData → List ℕ → List ℕ → List MarkData → SeenFrom
 seen_with d name digest uses =
     record { dialect = d; language = record { name = name; digest = digest }; uses = uses }
 
-pub seen_same : (d : DialectData) (l : Stated) (own name : List ℕ) (uses : List Mark) →
+pub seen_same : (d : DialectData) (l : Stated) (own name : List ℕ) (uses : List MarkData) →
     d ≡ unextended_dialect l.language → own ≡ name → uses ≡ [] →
-    seen_with d own l.digest uses ≡ seen_in name l
+    seen_with d own l.digest uses ≡ seen_alone name l
 seen_same d l own name uses is same none = λ i. seen_with (is i) (same i) l.digest (none i)
 
 abbrev pub source_with : DialectData → List ℕ → HeaderParts → Tree → BodySource

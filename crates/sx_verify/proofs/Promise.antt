@@ -7,7 +7,7 @@ use Rattle.sha2.specs.Sha256.{sha256}
 use Rattle.sx_rules.specs.EntryView.{entries}
 use Rattle.sx_rules.specs.Views.{modes_of}
 use Rattle.sx_lines.specs.Lines.{lines_from, line_texts}
-use Rattle.sx_interface.specs.Interfaces.{InterfaceParts, Mark}
+use Rattle.sx_interface.specs.Interfaces.{InterfaceParts, MarkData}
 use Rattle.sx_interface.specs.Stated.{StatesInterface}
 use Rattle.sx_rules.specs.First.{Answer, DerivesGoal}
 use Rattle.sx_typing.specs.Outcomes.{nameless}
@@ -34,7 +34,7 @@ use Rattle.sx_verify.proofs.Replayed.{replayed_derives}
 
 -- ---- imports
 
-import_held : (file : List ℕ) (files : Files) (mark : Mark) (it : InterfaceParts) →
+import_held : (file : List ℕ) (files : Files) (mark : MarkData) (it : InterfaceParts) →
     ReadsKept file files mark (Ok it) → HoldsImport files mark it
 import_held file files mark it read =
     let one = went _ _ _ read in
@@ -60,14 +60,14 @@ import_held file files mark it read =
       digest = kept.begins ∙ ap (λ (x : ImportData). x.digest) is ∙ ap sha256 own;
     }
 
-pub record Behind (files : Files) (read : List InterfaceParts) (marks : List Mark)
+pub record Behind (files : Files) (read : List InterfaceParts) (marks : List MarkData)
     (its : List InterfaceParts) : Type 0 where
   pub more : List InterfaceParts
   pub is : its ≡ read ++ more
   pub held : HoldImports files marks more
 
 pub imports_held : (file : List ℕ) (files : Files) (read : List InterfaceParts)
-    (marks : List Mark) (its : List InterfaceParts) →
+    (marks : List MarkData) (its : List InterfaceParts) →
     GivesAfter (ReadsKept file files) read marks (Ok its) → Behind files read marks its
 imports_held file files read [] its h =
     record { more = []; is = ok_same its read h ∙ sym (append-nil read); held = tt }

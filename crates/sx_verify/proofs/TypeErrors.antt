@@ -15,7 +15,7 @@ use Rattle.sx_replay.specs.declared.replay_error.ReplayError.TheVariants as repl
 use Rattle.sx_notation.specs.declared.unread.Unread.{Unread}
 use Rattle.sx_notation.specs.declared.unread.Unread.TheVariants as unread
 use Rattle.sx_notation.specs.Language.{LanguageData}
-use Rattle.sx_interface.specs.Interfaces.{InterfaceParts, Mark}
+use Rattle.sx_interface.specs.Interfaces.{InterfaceParts, MarkData}
 use Rattle.sx_typing.specs.declared.module_error.ModuleError.{ModuleError}
 use Rattle.sx_typing.specs.declared.module_error.ModuleError.TheVariants as module_error
 use Rattle.sx_typing.specs.BodySource.{BodySource}
@@ -38,8 +38,8 @@ use Rattle.sx_accepting.specs.LanguageFiles.{language_file}
 use Rattle.sx_accepting.specs.ReadLanguage.{Stated, StatesLanguage}
 use Rattle.sx_accepting.proofs.TypeErrors.{no_language}
 use Rattle.sx_headers.specs.FreeImports.{HasFreeImports}
-use Rattle.sx_headers.specs.HeaderRows.{row_line, import_row}
-use Rattle.sx_headers.specs.HeaderStops.{bad_header, other_version}
+use Rattle.sx_headers.specs.HeaderRows.{header_row_line, import_row}
+use Rattle.sx_headers.specs.HeaderStops.{bad_header, version_stop}
 use Rattle.sx_headers.specs.ReadInterface.{HeldInterface, StatesParts, ReadsInterface}
 use Rattle.sx_headers.specs.ReadModule.{Module, StatesModule, ReadsModule}
 use Rattle.sx_headers.specs.TextStops.{uncut_text, unread_text}
@@ -49,7 +49,7 @@ use Rattle.sx_importing.specs.KeptValues.{kept_differs, KeepsText, KeepsDigest}
 use Rattle.sx_importing.specs.MakeEnvironment.{SeesImports}
 use Rattle.sx_importing.specs.ReadImports.{ReadsImport}
 use Rattle.sx_verify.specs.BaseFits.{FitsBeside}
-use Rattle.sx_verify.specs.Ground.{seen_in, source_in, body_stop, ReadsBody}
+use Rattle.sx_verify.specs.Ground.{seen_alone, source_in, body_stop, ReadsBody}
 use Rattle.sx_verify.specs.KeptImports.{KeepsImport, ComparesImport, ReadsKept, ReadsAllKept}
 use Rattle.sx_verify.specs.Laws.{VerifiesWithoutTypeErrors}
 use Rattle.sx_verify.specs.Lists.{bad_entry, replay_stop, StatesEntries, ReadsEntries}
@@ -147,7 +147,7 @@ module _ (Q : Stop → Type 0) where
   parts_final file name bytes stop (inl h) =
       no_type_error Q (not_utf8 file (utf8_valid_len bytes)) stop (λ h. h) h.1
   parts_final file name bytes stop (inr (utf8, inl h)) =
-      no_type_error Q (other_version file h.0) stop (λ h. h) h.2
+      no_type_error Q (version_stop file h.0) stop (λ h. h) h.2
   parts_final file name bytes stop (inr (utf8, inr h)) =
       no_type_error Q (bad_header file h.1.0) stop (λ h. h) h.1.2
 
@@ -159,12 +159,12 @@ module _ (Q : Stop → Type 0) where
 
   fits_final : (file : List ℕ) (it : InterfaceParts) (m : Module) → Final Q (FitsBeside file it m)
   fits_final file it m stop h =
-      no_type_error Q (bad_header file (row_line m h.0)) stop (λ h. h) h.2
+      no_type_error Q (bad_header file (header_row_line m h.0)) stop (λ h. h) h.2
 
   free_final : (file : List ℕ) (literals : List (List ℕ)) (m : Module) →
       Final Q (HasFreeImports file literals m)
   free_final file literals m stop h =
-      no_type_error Q (bad_header file (row_line m (import_row m.header h.0))) stop (λ h. h) h.2
+      no_type_error Q (bad_header file (header_row_line m (import_row m.header h.0))) stop (λ h. h) h.2
 
   -- ---- imports
 
@@ -177,7 +177,7 @@ module _ (Q : Stop → Type 0) where
         (interface_final (interface_file name) name files)
         (λ i read. gives_final _)
 
-    kept_final : (mark : Mark) → Final Q (ReadsKept file files mark)
+    kept_final : (mark : MarkData) → Final Q (ReadsKept file files mark)
     kept_final mark =
         then_final Q (ReadsImport files mark.name) (ComparesImport file mark)
         (import_final mark.name)
@@ -186,7 +186,7 @@ module _ (Q : Stop → Type 0) where
         (digest_final file (kept.ImportDigest mark.name) mark.digest i.digest)
         (λ done same. gives_final i.parts))
 
-    after_final : (given : List InterfaceParts) (marks : List Mark) →
+    after_final : (given : List InterfaceParts) (marks : List MarkData) →
         Final Q (GivesAfter (ReadsKept file files) given marks)
     after_final given [] = gives_final given
     after_final given (mark ∷ marks) =
@@ -196,7 +196,7 @@ module _ (Q : Stop → Type 0) where
         (kept_final mark) (λ i read. gives_final (given ++ i ∷ [])))
         (λ next read. after_final next marks)
 
-    all_kept_final : (marks : List Mark) → Final Q (ReadsAllKept file files marks)
+    all_kept_final : (marks : List MarkData) → Final Q (ReadsAllKept file files marks)
     all_kept_final marks = after_final [] marks
 
   sees_final : (file : List ℕ) (s : SeenFrom) (its : List InterfaceParts) →
@@ -277,7 +277,7 @@ module _ (Q : Stop → Type 0) where
           Final Q (spec.VerifiesNames name files w its l)
       names_final its l =
           let literals = literals_of l.language.parts in
-          let seen = seen_in w.interface.language.name l in
+          let seen = seen_alone w.interface.language.name l in
           then_final Q (HasFreeImports (base_file name) literals w.base)
           (λ done. spec.VerifiesOver name files w l its)
           (free_final (base_file name) literals w.base)

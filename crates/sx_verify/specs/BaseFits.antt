@@ -2,14 +2,14 @@
 use Rattle.std.specs.Prelude.{◌≡◌, ◌≢◌, ◌⊎◌, ℕ, zero, suc, ◌-◌, ◌<◌, ◌≤◌, List, [], length, map}
 use Rattle.std.specs.Prelude.{slice_get, Result, Ok, Err}
 use Rattle.sx_interface.specs.Headers.{HeaderParts}
-use Rattle.sx_interface.specs.Interfaces.{InterfaceParts, Mark}
+use Rattle.sx_interface.specs.Interfaces.{InterfaceParts, MarkData}
 use Rattle.sx_steps.specs.declared.stop.Stop.{Stop}
-use Rattle.sx_headers.specs.HeaderRows.{row_line}
+use Rattle.sx_headers.specs.HeaderRows.{header_row_line}
 use Rattle.sx_headers.specs.HeaderStops.{bad_header}
 use Rattle.sx_headers.specs.ReadModule.{Module}
 
 -- the names of the imports of an interface
-abbrev pub mark_names : List Mark → List (List ℕ)
+abbrev pub mark_names : List MarkData → List (List ℕ)
 mark_names marks = map (λ m. m.name) marks
 
 -- the header names the language and the imports of the interface, and has no `use` lines
@@ -40,4 +40,5 @@ pub record IsFirstNumber (Is : ℕ → Type 0) (number : ℕ) : Type 0 where
 abbrev pub FitsBeside : List ℕ → InterfaceParts → Module → Result (Unit {0}) Stop → Type 0
 FitsBeside file it m (Ok done) = IsBaseOf it m.header
 FitsBeside file it m (Err stop) =
-    (row : ℕ) × IsFirstNumber (IsMisfit it m.header) row × (stop ≡ bad_header file (row_line m row))
+    (row : ℕ) × IsFirstNumber (IsMisfit it m.header) row
+    × (stop ≡ bad_header file (header_row_line m row))

@@ -19,8 +19,8 @@ use Rattle.sx_headers.specs.TextStops.{uncut_text, unread_text}
 -- ---- what the imports are seen from
 
 -- what the imports are seen from: the language with this name, without extensions
-abbrev pub seen_in : List ℕ → Stated → SeenFrom
-seen_in name l = record {
+abbrev pub seen_alone : List ℕ → Stated → SeenFrom
+seen_alone name l = record {
   dialect = unextended_dialect l.language;
   language = record { name = name; digest = l.digest };
   uses = [];

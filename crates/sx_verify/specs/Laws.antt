@@ -12,12 +12,12 @@ use Rattle.sx_steps.specs.Unit.{base_file}
 use Rattle.sx_steps.specs.Work.{Plan}
 use Rattle.sx_accepting.specs.Alike.{StopsAtLanguage}
 use Rattle.sx_importing.specs.Laws.{IsOfImport}
-use Rattle.sx_verify.specs.Ground.{seen_in, source_in}
+use Rattle.sx_verify.specs.Ground.{seen_alone, source_in}
 use Rattle.sx_verify.specs.VerifiedModule.{HoldsFiles, IsEnvironmentOf}
 use Rattle.sx_verify.specs.VerifyModule.{Written, ReadsWritten, VerifiesModule}
 
 -- the stop is that of the language's file, about a line that has more than two readings
-pub record IsOfLanguage (name : List ℕ) (files : Files) (stop : Stop) : Type 0 where
+pub record IsOfVerifiedLanguage (name : List ℕ) (files : Files) (stop : Stop) : Type 0 where
   pub written : Written
   pub reads : ReadsWritten name files (Ok written)
   pub stops : StopsAtLanguage written.interface.language.name files stop
@@ -25,7 +25,7 @@ pub record IsOfLanguage (name : List ℕ) (files : Files) (stop : Stop) : Type 0
 -- the stop names the file of one of the imports, of which a signature has more than two readings
 pub record IsOfSignature (name : List ℕ) (files : Files) (stop : Stop) : Type 0 where
   pub from : HoldsFiles name files
-  pub of : IsOfImport (seen_in from.interface.language.name from.language) from.imports stop
+  pub of : IsOfImport (seen_alone from.interface.language.name from.language) from.imports stop
 
 -- the stop names the base file, whose body has more than two
 pub record IsOfBody (name : List ℕ) (files : Files) (stop : Stop) : Type 0 where
@@ -37,13 +37,13 @@ pub record IsOfBody (name : List ℕ) (files : Files) (stop : Stop) : Type 0 whe
 
 -- the text of which the stop shows two readings is one that has more than two: a line of the
 -- language's file, a signature, or the body
-abbrev pub ShowsFree : (name : List ℕ) → Files → Stop → Type 0
-ShowsFree name files s =
-    IsOfLanguage name files s ⊎ IsOfSignature name files s ⊎ IsOfBody name files s
+abbrev pub VerifyShowsFree : (name : List ℕ) → Files → Stop → Type 0
+VerifyShowsFree name files s =
+    IsOfVerifiedLanguage name files s ⊎ IsOfSignature name files s ⊎ IsOfBody name files s
 
 -- the stops are the same, but for the two readings that they show of one such text
-abbrev pub SameButShown : (name : List ℕ) → Files → Stop → Stop → Type 0
-SameButShown name files s t = (s ≡ t) ⊎ (AreReadings s t × ShowsFree name files s)
+abbrev pub VerifiesAlikeButShown : (name : List ℕ) → Files → Stop → Stop → Type 0
+VerifiesAlikeButShown name files s t = (s ≡ t) ⊎ (AreReadings s t × VerifyShowsFree name files s)
 
 -- by the name and the files there is one result, and no try is made, but for read faults, out of
 -- memory and such readings
@@ -51,7 +51,7 @@ abbrev pub VerifiesAgree : Type 0
 VerifiesAgree =
     (name : List ℕ) (files : Files) (a b : Result Plan StepError) (m n : ℕ) →
     Untried (VerifiesModule name files) a m → Untried (VerifiesModule name files) b n →
-    IsSure a → IsSure b → AnswersBy (SameButShown name files) a b × (m ≡ n)
+    IsSure a → IsSure b → AnswersBy (VerifiesAlikeButShown name files) a b × (m ≡ n)
 
 -- it never stops with a type error
 abbrev pub VerifiesWithoutTypeErrors : Type 0

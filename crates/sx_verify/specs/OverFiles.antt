@@ -11,7 +11,7 @@ use Rattle.sx_term.specs.Limits.{most_bytes}
 -- The base file is no longer than a file may be, and its header names the imports that were read,
 -- whose signatures are no longer; a text states the language, which has the name that the interface
 -- gives.
-pub record IsOver (o : Over) : Type 0 where
+pub record IsOverFiles (o : Over) : Type 0 where
   pub short : length o.written.now.base.bytes.items ≤ most_bytes
   pub names : ArePlainNames o.written.now.base.header.imports.items
   pub read : map (λ it. it.name) (interfaces_of o.imports.now) ≡

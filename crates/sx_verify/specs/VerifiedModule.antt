@@ -12,7 +12,7 @@ use Rattle.sx_rules.specs.First.{DerivesGoal}
 use Rattle.sx_rules.specs.ListText.{StatesList}
 use Rattle.sx_rules.specs.Orders.{order_of}
 use Rattle.sx_rules.specs.Views.{modes_of}
-use Rattle.sx_interface.specs.Interfaces.{InterfaceParts, Mark}
+use Rattle.sx_interface.specs.Interfaces.{InterfaceParts, MarkData}
 use Rattle.sx_typing.specs.Body.{ReadsOnly}
 use Rattle.sx_typing.specs.Outcomes.{nameless}
 use Rattle.sx_rules.specs.Rules.{no_hypotheses}
@@ -28,20 +28,20 @@ use Rattle.sx_accepting.specs.ReadLanguage.{Stated, IsLanguageStated}
 use Rattle.sx_headers.specs.ReadInterface.{HasInterface}
 use Rattle.sx_headers.specs.ReadModule.{Module, HasHeader}
 use Rattle.sx_verify.specs.BaseFits.{IsBaseOf}
-use Rattle.sx_verify.specs.Ground.{seen_in}
+use Rattle.sx_verify.specs.Ground.{seen_alone}
 use Rattle.sx_verify.specs.Replays.{main_goal_in}
 use Rattle.sx_verify.specs.Verified.{verified_line}
 use Rattle.sx_verify.specs.VerifyModule.{VerifiesModule}
 
 -- the file of the import has this interface, and the digest that is kept
-pub record HoldsImport (files : Files) (mark : Mark) (it : InterfaceParts) : Type 0 where
+pub record HoldsImport (files : Files) (mark : MarkData) (it : InterfaceParts) : Type 0 where
   pub bytes : List ℕ
   pub held : files (interface_file mark.name) ≡ Some bytes
   pub states : HasInterface mark.name bytes (record { bytes = bytes; parts = it })
   pub digest : mark.digest ≡ sha256 bytes
 
 -- so it is of each import
-abbrev pub HoldImports : Files → List Mark → List InterfaceParts → Type 0
+abbrev pub HoldImports : Files → List MarkData → List InterfaceParts → Type 0
 HoldImports files [] [] = Unit {0}
 HoldImports files (mark ∷ marks) (it ∷ its) =
     HoldsImport files mark it × HoldImports files marks its
@@ -71,7 +71,7 @@ pub record HoldsFiles (name : List ℕ) (files : Files) : Type 0 where
 -- the environment of the imports, by their signatures alone
 abbrev pub IsEnvironmentOf : {name : List ℕ} {files : Files} → HoldsFiles name files → Tree → Type 0
 IsEnvironmentOf h environment =
-    IsEnvironment (seen_in h.interface.language.name h.language) h.imports environment
+    IsEnvironment (seen_alone h.interface.language.name h.language) h.imports environment
 
 -- No import has a literal as its name, and the body of the base file has exactly one reading by the
 -- language's grammar. The list of NAME.der is that of a derivation, by the language's rules alone,

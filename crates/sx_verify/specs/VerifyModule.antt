@@ -24,7 +24,7 @@ use Rattle.sx_headers.specs.ReadModule.{Module, ReadsModule}
 use Rattle.sx_importing.specs.KeptValues.{KeepsText, KeepsDigest}
 use Rattle.sx_importing.specs.MakeEnvironment.{SeesImports}
 use Rattle.sx_verify.specs.BaseFits.{FitsBeside}
-use Rattle.sx_verify.specs.Ground.{seen_in, source_in, ReadsBody}
+use Rattle.sx_verify.specs.Ground.{seen_alone, source_in, ReadsBody}
 use Rattle.sx_verify.specs.Lists.{ReadsEntries}
 use Rattle.sx_verify.specs.KeptImports.{ReadsAllKept}
 use Rattle.sx_verify.specs.Replays.{main_goal_in, ReplaysMainGoal}
@@ -81,7 +81,7 @@ VerifiesBody name files w l environment =
 abbrev pub VerifiesOver : (name : List ℕ) → Files → Written → Stated → List InterfaceParts →
     Result Plan Stop → Type 0
 VerifiesOver name files w l its =
-    Then (SeesImports (base_file name) (seen_in w.interface.language.name l) its)
+    Then (SeesImports (base_file name) (seen_alone w.interface.language.name l) its)
     (VerifiesBody name files w l)
 
 -- no import has a literal of the language as its name, and then the environment

@@ -4,7 +4,7 @@ ghost use Rattle.std.specs.Prelude.{◌≡◌, ◌⊎◌, IfOk, Some};
 ghost use Rattle.sx_term.specs.Term.{tree};
 ghost use Rattle.sx_term.specs.declared.role.Role.TheVariants.{Sub};
 ghost use Rattle.sx_typing.specs.declared.module_error.ModuleError.TheVariants.{Memory};
-ghost use Rattle.sx_typing.specs.Refused.{HasBody, IsBadSource};
+ghost use Rattle.sx_typing.specs.Refused.{HasReadBody, IsBadSource};
 ghost use Rattle.sx_typing.specs.BodySource.{BodySource as SourceData, CanType, IsTermFor};
 ghost use Rattle.sx_typing.specs.BodySource.{source_of};
 ghost use Rattle.sx_steps.specs.Stop.{Gives, IsNoFault};
@@ -20,7 +20,7 @@ use sx_typing::{Body, BodySource, ModuleError, read_source};
 /// The refusal of a body that is not read.
 fn bad_body(alloc: Global, file: &Text, error: ModuleError) -> Result<Stop, NoMemory>
     requires { (s : SourceData) × IsBadSource s 0 error ×
-        ((error ≡ Memory) ⊎ (HasBody s → ⊥)) }
+        ((error ≡ Memory) ⊎ (HasReadBody s → ⊥)) }
     ensures { IfOk result (λ stop. stop_of_body file.now error ≡ Some stop) }
 {
     match error {

@@ -16,7 +16,7 @@ ghost use Rattle.sx_steps.specs.Stop.{Gives, OnlyReads, IsNoFault};
 ghost use Rattle.sx_steps.specs.Work.{plan_of};
 ghost use Rattle.sx_accepting.specs.ReadLanguage.{stated_of};
 ghost use Rattle.sx_verify.specs.AskedFiles.{HasFiles};
-ghost use Rattle.sx_verify.specs.OverFiles.{IsOver};
+ghost use Rattle.sx_verify.specs.OverFiles.{IsOverFiles};
 ghost use Rattle.sx_verify.specs.Replays.{IsMainGoal, IsTermOf};
 ghost use Rattle.sx_verify.specs.VerifyModule as spec;
 ghost use Rattle.sx_verify.specs.WrittenFiles.{written_of};
@@ -42,7 +42,7 @@ use sx_typing::{BodySource, Dialect, main_goal};
 /// The steps from the output of the derivation.
 fn verify_output(asked: &Asked, over: &Over, nodes: u64, output: &Term) -> Result<Work, StepError>
     requires files { HasFiles asked.now }
-    requires over { IsOver over.now }
+    requires over { IsOverFiles over.now }
     requires output { IsTermOf (language_data over.now.language.now.language) Out
         (tree output.now) }
     ensures step { Gives plan_of (spec.VerifiesOutput asked.now.name.now
@@ -69,7 +69,7 @@ fn verify_entries(
     list: &[Entry],
 ) -> Result<Work, StepError>
     requires files { HasFiles asked.now }
-    requires over { IsOver over.now }
+    requires over { IsOverFiles over.now }
     requires goal { IsMainGoal (language_data over.now.language.now.language)
         (goal_of goal.now) }
     requires few { length list.now ≤ 67108864 }
@@ -93,7 +93,7 @@ fn verify_list<S: Shelf>(
     shelf: &mut S,
 ) -> Result<Work, StepError>
     requires files { HasFiles asked.now }
-    requires over { IsOver over.now }
+    requires over { IsOverFiles over.now }
     requires goal { IsMainGoal (language_data over.now.language.now.language)
         (goal_of goal.now) }
     ensures step { WhereTold (S.content shelf.old)
@@ -120,7 +120,7 @@ fn verify_subject<S: Shelf>(
     shelf: &mut S,
 ) -> Result<Work, StepError>
     requires files { HasFiles asked.now }
-    requires over { IsOver over.now }
+    requires over { IsOverFiles over.now }
     requires environment { IsTermOf (language_data over.now.language.now.language) In
         (tree environment.now) }
     requires subject { IsTermOf (language_data over.now.language.now.language) Sub
@@ -153,7 +153,7 @@ fn verify_body<S: Shelf>(
     shelf: &mut S,
 ) -> Result<Work, StepError>
     requires files { HasFiles asked.now }
-    requires over { IsOver over.now }
+    requires over { IsOverFiles over.now }
     requires dialect { IsDialectOf dialect.now }
     requires bare { dialect_of dialect.now ≡
         unextended_dialect (language_data over.now.language.now.language) }
@@ -186,7 +186,7 @@ fn verify_dialect<S: Shelf>(
     shelf: &mut S,
 ) -> Result<Work, StepError>
     requires files { HasFiles asked.now }
-    requires over { IsOver over.now }
+    requires over { IsOverFiles over.now }
     requires dialect { IsDialectOf dialect.now }
     requires bare { dialect_of dialect.now ≡
         unextended_dialect (language_data over.now.language.now.language) }
@@ -219,7 +219,7 @@ fn verify_dialect<S: Shelf>(
 /// The steps from names of imports that are no literals.
 fn verify_free<S: Shelf>(asked: &Asked, over: &Over, shelf: &mut S) -> Result<Work, StepError>
     requires files { HasFiles asked.now }
-    requires over { IsOver over.now }
+    requires over { IsOverFiles over.now }
     requires free { AreFree (literals_of over.now.language.now.language.grammar.parts)
         over.now.written.now.base.header.imports.items }
     ensures step { WhereTold (S.content shelf.old)
@@ -249,7 +249,7 @@ pub(crate) fn verify_names<S: Shelf>(
     shelf: &mut S,
 ) -> Result<Work, StepError>
     requires files { HasFiles asked.now }
-    requires over { IsOver over.now }
+    requires over { IsOverFiles over.now }
     ensures step { WhereTold (S.content shelf.old)
         (λ files. Gives plan_of (spec.VerifiesNames asked.now.name.now files
         (written_of over.now.written.now) (interfaces_of over.now.imports.now)

@@ -4,7 +4,7 @@ use Rattle.std.specs.Prelude.{Option, Some, None, Result, Ok, Err, option_map, c
 use Rattle.std.proofs.lemmas.Bool.{true≢false}
 use Rattle.sx_outside.specs.Files.{Files}
 use Rattle.sx_imports.specs.Walk.{Name, Imports, missing, cycle, too_many, End, leaving, Meets}
-use Rattle.sx_imports.specs.Walk.{comes_round, was_left, is_missing, is_past, is_entered, Goes}
+use Rattle.sx_imports.specs.Walk.{comes_round, was_left, is_missing, is_past, is_entered, WalkGoes}
 use Rattle.sx_imports.specs.Walk.{all_met, stops, goes_on, Walks}
 use Rattle.sx_imports.proofs.Ends.{one_end}
 use Rattle.sx_words.specs.Lines.{line_text}
@@ -19,7 +19,7 @@ use Rattle.sx_steps.proofs.Ones.{IsOne, as_answer, then_one, ok_same, err_same, 
 use Rattle.sx_steps.proofs.Ones.{none_some}
 use Rattle.sx_walking.specs.Reached.{TellsCycle, Found, uses_in, AreVisitsFound, IsWalkTold}
 use Rattle.sx_walking.specs.Reached.{Reaches}
-use Rattle.sx_walking.specs.Kinds.{Kind, FileFits, Visits}
+use Rattle.sx_walking.specs.Kinds.{WalkKind, FileFits, Visits}
 use Rattle.sx_walking.specs.Laws.{AnswerAlike, ReadsOne, WalksAgree}
 
 -- ---- walks by more that is known
@@ -52,8 +52,8 @@ module _ (imports wider : Imports) (most : ℕ)
         is_entered h k (more name below i) room (goes_wider d (still_left wider name end s))
 
     goes_wider : {path left names : List Name} {end : End} →
-        Goes imports most path left names end → StillStops wider end →
-        Goes wider most path left names end
+        WalkGoes imports most path left names end → StillStops wider end →
+        WalkGoes wider most path left names end
     goes_wider all_met s = all_met
     goes_wider (stops d) s = stops (meets_wider d s)
     goes_wider (goes_on d r) s = goes_on (meets_wider d tt) (goes_wider r s)
@@ -193,7 +193,7 @@ module _ {A : Type 0} (uses : A → List Name) (Comes : Name → Result A Stop �
 
 -- ---- kinds
 
-module _ {A : Type 0} (k : Kind A) where
+module _ {A : Type 0} (k : WalkKind A) where
   fits_one : (name : Name) (given : A) → IsOne (FileFits k name given)
   fits_one name given (Ok x) (Ok y) h j n m = ap Ok (h.1 ∙ sym j.1)
   fits_one name given (Ok x) (Err t) h j n m = absurd (true≢false (sym h.0 ∙ j.0))

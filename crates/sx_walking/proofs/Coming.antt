@@ -9,8 +9,8 @@ use Rattle.sx_steps.specs.declared.stop.Stop.{Stop}
 use Rattle.sx_steps.proofs.StepsOn.{went}
 use Rattle.sx_steps.proofs.Ones.{some_same}
 use Rattle.sx_walking.specs.Reached.{Found, uses_in, AreVisitsFound, IsWalkTold, Reaches}
-use Rattle.sx_walking.specs.Kinds.{Kind, FileFits, Visits}
-use Rattle.sx_walking.specs.Laws.{ReadsNamed, ComesAfter, AllComeAfter, AreVisited}
+use Rattle.sx_walking.specs.Kinds.{WalkKind, FileFits, Visits}
+use Rattle.sx_walking.specs.Laws.{ReadsUnderNames, ComesAfter, AllComeAfter, AreVisited}
 use Rattle.sx_walking.specs.Laws.{ThoseComeFirst}
 
 module _ {A : Type 0} (name_of : A → Name) where
@@ -113,13 +113,13 @@ module _ {A : Type 0} (name_of : A → Name) (uses : A → List Name)
         ((name : Name) → Contains roots name → Contains (map name_of xs) name)
     reached_first reads = end_hold reads.found reads.visited reads.end reads.walks reads.told
 
-module _ {A : Type 0} (k : Kind A) (files : Files) (named : ReadsNamed k files) where
+module _ {A : Type 0} (k : WalkKind A) (files : Files) (named : ReadsUnderNames k files) where
   pub visits_named : VisitsNamed k.name_of (Visits k files)
   visits_named name x reads =
       let w = went (k.Reads files name) (FileFits k name) x reads in
       ap k.name_of w.goes.1 ∙ named name w.given w.begins
 
-pub those_first : {A : Type 0} (k : Kind A) → ThoseComeFirst k
+pub those_first : {A : Type 0} (k : WalkKind A) → ThoseComeFirst k
 those_first k files named file roots xs reads =
     reached_first k.name_of k.stands_on (Visits k files) (visits_named k files named) file roots xs
     reads

@@ -4,11 +4,11 @@ use Rattle.std.proofs.Common.{length-append, arith}
 use Rattle.std.proofs.lemmas.List.{length-map}
 use Rattle.std.specs.Prelude.{Some, Result, Ok, Err}
 use Rattle.sx_imports.specs.Walk.{Name, Imports, End, leaving, Meets, comes_round, was_left}
-use Rattle.sx_imports.specs.Walk.{is_missing, is_past, is_entered, Goes, all_met, stops, goes_on}
+use Rattle.sx_imports.specs.Walk.{is_missing, is_past, is_entered, WalkGoes, all_met, stops, goes_on}
 use Rattle.sx_imports.specs.Walk.{Walks}
 use Rattle.sx_steps.specs.declared.stop.Stop.{Stop}
 use Rattle.sx_walking.specs.Reached.{Found, uses_in, IsWalkTold, Reaches}
-use Rattle.sx_walking.specs.Kinds.{Kind, Visits}
+use Rattle.sx_walking.specs.Kinds.{WalkKind, Visits}
 use Rattle.sx_walking.specs.Laws.{FewAreReached}
 
 -- the names of the path and those left are at most so many
@@ -39,7 +39,7 @@ module _ (imports : Imports) (most : ℕ) where
         few_leaving most path name end (few_gone below (few_below most path left name room))
 
     few_gone : {path left names : List Name} {end : End} →
-        Goes imports most path left names end → length path + length left ≤ most →
+        WalkGoes imports most path left names end → length path + length left ≤ most →
         AreFew most path end
     few_gone all_met few = few
     few_gone (stops h) few = tt
@@ -72,6 +72,6 @@ module _ {A : Type 0} (uses : A → List Name) (Comes : Name → Result A Stop �
   pub reached_few : Reaches uses Comes file roots (Ok xs) → length xs ≤ 256
   reached_few reads = few_told reads.found reads.end reads.walks reads.told
 
-pub few_reached : {A : Type 0} (k : Kind A) → FewAreReached k
+pub few_reached : {A : Type 0} (k : WalkKind A) → FewAreReached k
 few_reached k files file roots xs reads =
     reached_few k.stands_on (Visits k files) file roots xs reads

@@ -2,12 +2,12 @@
 use Rattle.std.proofs.Common.{◌≡◌, ℕ, List, [], ◌∷◌, ◌++◌, map, refl, sym, ◌∙◌, subst}
 use Rattle.std.specs.Prelude.{Result, Ok, Err, Contains}
 use Rattle.sx_imports.specs.Walk.{Name, Imports, End, leaving, Meets, comes_round, was_left}
-use Rattle.sx_imports.specs.Walk.{is_missing, is_past, is_entered, Goes, all_met, stops, goes_on}
+use Rattle.sx_imports.specs.Walk.{is_missing, is_past, is_entered, WalkGoes, all_met, stops, goes_on}
 use Rattle.sx_imports.specs.Walk.{Walks}
 use Rattle.sx_imports.proofs.Lists.{not_in_none}
 use Rattle.sx_steps.specs.declared.stop.Stop.{Stop}
 use Rattle.sx_walking.specs.Reached.{Found, uses_in, AreVisitsFound, IsWalkTold, Reaches}
-use Rattle.sx_walking.specs.Kinds.{Kind, Visits}
+use Rattle.sx_walking.specs.Kinds.{WalkKind, Visits}
 use Rattle.sx_walking.specs.Laws.{RootIsLast}
 use Rattle.sx_walking.proofs.Coming.{VisitsNamed, names_are, visits_named}
 
@@ -30,14 +30,14 @@ module _ (imports : Imports) (most : ℕ) where
   meets_last (is_past h k i f) e = tt
   meets_last {name = name} (is_entered {end = end} h k i room d) e = left_last name end
 
-  goes_none : {path left names : List Name} {end : End} → Goes imports most path left names end →
+  goes_none : {path left names : List Name} {end : End} → WalkGoes imports most path left names end →
       names ≡ [] → end ≡ Ok left
   goes_none all_met e = refl
   goes_none (stops d) e = absurd cc
   goes_none (goes_on d r) e = absurd cc
 
   goes_last : {path left names : List Name} {end : End} (root : Name) →
-      Goes imports most path left names end → names ≡ root ∷ [] → left ≡ [] →
+      WalkGoes imports most path left names end → names ≡ root ∷ [] → left ≡ [] →
       LeavesLast root end
   goes_last root all_met e f = absurd cc
   goes_last root (stops d) e f = tt
@@ -63,7 +63,7 @@ module _ {A : Type 0} (name_of : A → Name) (uses : A → List Name)
       (before : List Name) × (map name_of xs ≡ before ++ root ∷ [])
   reached_last reads = end_last reads.found reads.visited reads.end reads.walks reads.told
 
-pub root_last : {A : Type 0} (k : Kind A) → RootIsLast k
+pub root_last : {A : Type 0} (k : WalkKind A) → RootIsLast k
 root_last k files named file root xs reads =
     reached_last k.name_of k.stands_on (Visits k files) (visits_named k files named) file root xs
     reads

@@ -18,7 +18,7 @@ use Rattle.sx_steps.specs.declared.step_error.StepError.{StepError}
 use Rattle.sx_steps.specs.declared.step_error.StepError.TheVariants as errors
 use Rattle.sx_steps.proofs.Ones.{none_some}
 use Rattle.sx_walking.specs.Reached.{Found, AreVisitsFound}
-use Rattle.sx_walking.specs.Kinds.{Kind, Visits, ReachesBy, IsSound, AreFilesReached}
+use Rattle.sx_walking.specs.Kinds.{WalkKind, Visits, ReachesBy, IsFileSound, AreFilesReached}
 use Rattle.sx_walking.specs.FileTable.{seen_as, IsFileTaken}
 use Rattle.sx_walking.specs.Opened.{AreOpened, found_in, imports_for, AreOnce, AreFilesHeld}
 use Rattle.sx_walking.specs.Turns.{AreFilesWalked}
@@ -42,7 +42,7 @@ once_from imports whole front (name ∷ names) e first = (
       (e ∙ sym (append_assoc front (name ∷ []) names)) first,
 )
 
-module _ {A : Type 0} (k : Kind A) where
+module _ {A : Type 0} (k : WalkKind A) where
   -- something is found under each name
   abbrev pub AllFound : Found A → List Name → Type 0
   AllFound found [] = Unit {0}
@@ -199,7 +199,7 @@ takes_end all now order rest taken e t =
 
 -- ---- the step
 
-module _ {A : Type 0} (k : Kind A) (told : Option Files) where
+module _ {A : Type 0} (k : WalkKind A) (told : Option Files) where
   stated_all : (held : Found A) → AreOpened k told held → (order : List Name) (xs : List A) →
       map Some xs ≡ map held order → AllByRecursion k.IsStated xs
   stated_all held are order [] e = tt
@@ -215,7 +215,7 @@ module _ {A : Type 0} (k : Kind A) (told : Option Files) where
       let f = found_held k x (held name) h in
       record { given = Ok x; begins = (are name x f.0).read files t; goes = (f.1, refl) }
 
-  sound_found : (held : Found A) → AreOpened k told held → AreVisitsFound (IsSound k) (found_in k held)
+  sound_found : (held : Found A) → AreOpened k told held → AreVisitsFound (IsFileSound k) (found_in k held)
   sound_found held are = λ name x h.
       let f = found_held k x (held name) h in
       let o = are name x f.0 in

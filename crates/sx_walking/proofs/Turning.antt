@@ -18,8 +18,8 @@ use Rattle.sx_steps.specs.declared.step_error.StepError.{StepError}
 use Rattle.sx_steps.specs.declared.step_error.StepError.TheVariants as errors
 use Rattle.sx_steps.proofs.Ones.{some_same, none_some}
 use Rattle.sx_walking.specs.Reached.{Found}
-use Rattle.sx_walking.specs.Kinds.{Kind}
-use Rattle.sx_walking.specs.Opened.{AreOpened, Keeps, found_in, imports_for, Covers}
+use Rattle.sx_walking.specs.Kinds.{WalkKind}
+use Rattle.sx_walking.specs.Opened.{AreOpened, KeepsHeld, found_in, imports_for, Covers}
 use Rattle.sx_walking.specs.Turns.{IsVisit, walk_stop, IsStopOr, Enters, StopsSo, TakesTurn}
 use Rattle.sx_walking.specs.Turns.{AreFilesWalked}
 use Rattle.sx_walking.specs.declared.turn.Turn.{Turn}
@@ -30,13 +30,13 @@ pub came : (before : Progress) (next : Next) (asked : Asked) → next ≡ Visit 
     IsNextVisit before (Ok next) → Comes before asked
 came before next asked e h = subst (λ (n : Next). IsNextVisit before (Ok n)) e h
 
-module _ {A : Type 0} (k : Kind A) where
+module _ {A : Type 0} (k : WalkKind A) where
   mapped : (o : Option A) (x : A) (lines : List Name) → o ≡ Some x → lines ≡ k.stands_on x →
       option_map k.stands_on o ≡ Some lines
   mapped o x lines e f = ap (λ (p : Option A). option_map k.stands_on p) e
       ∙ ap (λ (l : List Name). Some l) (sym f)
 
-module _ {A : Type 0} (k : Kind A) (told : Option Files) (file : List ℕ) (before : Progress) where
+module _ {A : Type 0} (k : WalkKind A) (told : Option Files) (file : List ℕ) (before : Progress) where
   pub turn_whole : (held : Found A) (next : Next) (order : Vec Name) → next ≡ Order order →
       IsNextVisit before (Ok next) → TakesTurn k told file held held before (Ok (Whole order))
   turn_whole held next order e h =
@@ -107,7 +107,7 @@ module _ {A : Type 0} (k : Kind A) (told : Option Files) (file : List ℕ) (befo
       },
     )
 
-module _ {A : Type 0} (k : Kind A) (told : Option Files) (old new : Found A) where
+module _ {A : Type 0} (k : WalkKind A) (told : Option Files) (old new : Found A) where
   pub visit_as : (name other : Name) (r : Result (Vec Name) StepError) → name ≡ other →
       IsVisit k told name old new r → IsVisit k told other old new r
   visit_as name other r e v = subst (λ (n : Name). IsVisit k told n old new r) e v
@@ -119,11 +119,11 @@ module _ {A : Type 0} (k : Kind A) (told : Option Files) (old new : Found A) whe
 
 -- ---- the whole walk
 
-module _ {A : Type 0} (k : Kind A) where
+module _ {A : Type 0} (k : WalkKind A) where
   pub covers_self : (held : Found A) → Covers k (found_in k held) (imports_for k held)
   covers_self held = λ n x h. ap (λ (p : Option A). option_map k.stands_on p) h
 
-  pub covers_old : (old new : Found A) (imports : Imports) → Keeps old new →
+  pub covers_old : (old new : Found A) (imports : Imports) → KeepsHeld old new →
       Covers k (found_in k new) imports → Covers k (found_in k old) imports
   covers_old old new imports keeps covers = λ n x h.
       let f = found_held k x (old n) h in
@@ -140,7 +140,7 @@ module _ {A : Type 0} (k : Kind A) where
   come_begin roots held walk e = λ imports covers.
       subst (λ (p : Progress). IsOn imports 256 roots p) (sym e) (start_on imports 256 roots)
 
-module _ {A : Type 0} (k : Kind A) (told now : Option Files) (same : now ≡ told) (file : List ℕ)
+module _ {A : Type 0} (k : WalkKind A) (told now : Option Files) (same : now ≡ told) (file : List ℕ)
     (roots : List Name) (old new : Found A) (before : Progress) where
   pub come_on : (after : Progress) → HasCome k roots old before →
       TakesTurn k now file old new before (Ok (On after)) → HasCome k roots new after

@@ -11,13 +11,13 @@ use Rattle.sx_steps.specs.declared.step_error.StepError.{StepError}
 use Rattle.sx_steps.specs.declared.step_error.StepError.TheVariants as errors
 use Rattle.sx_steps.proofs.Ones.{some_same, none_some}
 use Rattle.sx_walking.specs.Reached.{Found}
-use Rattle.sx_walking.specs.Kinds.{Kind, StandsOn}
+use Rattle.sx_walking.specs.Kinds.{WalkKind, StandsOn}
 use Rattle.sx_walking.specs.FileTable.{IsFilePut}
 use Rattle.sx_walking.specs.Opened.{IsOpened, AreOpened, if_fit, IsBegun}
 use Rattle.sx_walking.specs.Turns.{OpensFile, IsVisit}
 use Rattle.sx_walking.proofs.Tables.{put_cases, put_same, put_keeps, is_none, is_there}
 
-module _ {A : Type 0} (k : Kind A) (told : Option Files) where
+module _ {A : Type 0} (k : WalkKind A) (told : Option Files) where
   -- ---- the table
 
   pub put_opened : (name : Name) (x : A) (old new : Found A) → IsOpened k told name x →
@@ -69,7 +69,7 @@ module _ {A : Type 0} (k : Kind A) (told : Option Files) where
 
 -- ---- which files fit
 
-module _ {A : Type 0} (k : Kind A) where
+module _ {A : Type 0} (k : WalkKind A) where
   pub if_so : (x : A) (o : Option A) → o ≡ Some x → k.fits x ≡ true → if_fit k o ≡ Some x
   if_so x o e f = ap (λ (p : Option A). if_fit k p) e
       ∙ ap (λ (b : Bool). if b then Some x else None) f
@@ -92,7 +92,7 @@ module _ {A : Type 0} (k : Kind A) where
 
 -- ---- visits
 
-module _ {A : Type 0} (k : Kind A) (told : Option Files) (name : Name) (old new : Found A) where
+module _ {A : Type 0} (k : WalkKind A) (told : Option Files) (name : Name) (old new : Found A) where
   pub visit_held : (x : A) (r : Result (Vec Name) StepError) →
       OpensFile k told name old new (Ok tt) → Some x ≡ new name →
       Gives (λ (names : Vec Name). names.items) (StandsOn k name x) r →

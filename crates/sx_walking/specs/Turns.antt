@@ -16,27 +16,30 @@ use Rattle.sx_steps.specs.declared.step_error.StepError.{StepError}
 use Rattle.sx_steps.specs.declared.step_error.StepError.TheVariants as errors
 use Rattle.sx_steps.specs.Refusal.{about}
 use Rattle.sx_walking.specs.Reached.{Found, IsToldAs, too_many_files}
-use Rattle.sx_walking.specs.Kinds.{Kind, Visits}
-use Rattle.sx_walking.specs.Opened.{AreOpened, Keeps, found_in, imports_for, Covers}
+use Rattle.sx_walking.specs.Kinds.{WalkKind, Visits}
+use Rattle.sx_walking.specs.Opened.{AreOpened, KeepsHeld, found_in, imports_for, Covers}
 use Rattle.sx_walking.specs.declared.turn.Turn.{Turn}
 use Rattle.sx_walking.specs.declared.turn.Turn.TheVariants.{On, Whole}
 
 -- the file of the name was read, if it was not held before
-abbrev pub OpensFile : {A : Type 0} → Kind A → (told : Option Files) → Name → (old new : Found A) →
+abbrev pub OpensFile : {A : Type 0} → WalkKind A → (told : Option Files) → Name →
+    (old new : Found A) →
     Result (Unit {0}) StepError → Type 0
-OpensFile k told name old new (Ok done) = Keeps old new × AreOpened k told new × IsSome (new name)
+OpensFile k told name old new (Ok done) = KeepsHeld old new × AreOpened k told new
+    × IsSome (new name)
 OpensFile k told name old new (Err errors.Memory) = Unit {0}
 OpensFile k told name old new (Err (errors.Stopped stop)) = (new ≡ old) × (old name ≡ None) ×
     WhereTold told (λ files. k.Reads files name (Err stop))
 
 -- the name was visited: what its file stands on, or why it gives nothing
-abbrev pub IsVisit : {A : Type 0} → Kind A → (told : Option Files) → Name → (old new : Found A) →
+abbrev pub IsVisit : {A : Type 0} → WalkKind A → (told : Option Files) → Name →
+    (old new : Found A) →
     Result (Vec Name) StepError → Type 0
-IsVisit {A} k told name old new (Ok names) = Keeps old new × AreOpened k told new ×
+IsVisit {A} k told name old new (Ok names) = KeepsHeld old new × AreOpened k told new ×
     ((x : A) × (found_in k new name ≡ Some x) × (names.items ≡ k.stands_on x))
 IsVisit k told name old new (Err errors.Memory) = Unit {0}
 IsVisit k told name old new (Err (errors.Stopped stop)) =
-    Keeps old new × AreOpened k told new × (found_in k new name ≡ None) ×
+    KeepsHeld old new × AreOpened k told new × (found_in k new name ≡ None) ×
     WhereTold told (λ files. Visits k files name (Err stop))
 
 -- the stop of a walk; out of memory has none
@@ -61,16 +64,16 @@ Enters file asked names (Err (errors.Stopped stop)) = (256 ≤ visits asked.prog
     (stop ≡ too_many_files file)
 
 -- the walk stops, as it is told of the file
-pub record StopsSo {A : Type 0} (k : Kind A) (told : Option Files) (file : List ℕ)
+pub record StopsSo {A : Type 0} (k : WalkKind A) (told : Option Files) (file : List ℕ)
     (roots : List Name) (held : Found A) (stop : Stop) : Type 0 where
   pub why : walk.Stop
   pub walks : Walks (imports_for k held) 256 roots (Err why)
   pub answered : WhereTold told (λ files. IsToldAs (Visits k files) file why stop)
 
 -- one more visit of the walk
-abbrev pub TakesTurn : {A : Type 0} → Kind A → (told : Option Files) → (file : List ℕ) →
+abbrev pub TakesTurn : {A : Type 0} → WalkKind A → (told : Option Files) → (file : List ℕ) →
     (old new : Found A) → Progress → Result Turn StepError → Type 0
-TakesTurn k told file old new before (Ok (On after)) = Keeps old new × AreOpened k told new ×
+TakesTurn k told file old new before (Ok (On after)) = KeepsHeld old new × AreOpened k told new ×
     (visits before < 256) × (visits after ≡ suc (visits before)) ×
     ((imports : Imports) (roots : List Name) → Covers k (found_in k new) imports →
     IsOn imports 256 roots before → IsOn imports 256 roots after)
@@ -79,11 +82,11 @@ TakesTurn k told file old new before (Ok (Whole order)) = (new ≡ old) ×
     Walks imports 256 roots (Ok order.items))
 TakesTurn k told file old new before (Err errors.Memory) = Unit {0}
 TakesTurn k told file old new before (Err (errors.Stopped stop)) =
-    Keeps old new × AreOpened k told new × ((roots : List Name) →
+    KeepsHeld old new × AreOpened k told new × ((roots : List Name) →
     IsOn (imports_for k new) 256 roots before → StopsSo k told file roots new stop)
 
 -- the walk from the roots
-abbrev pub AreFilesWalked : {A : Type 0} → Kind A → (told : Option Files) → (file : List ℕ) →
+abbrev pub AreFilesWalked : {A : Type 0} → WalkKind A → (told : Option Files) → (file : List ℕ) →
     (roots : List Name) → Found A → Result (Vec Name) StepError → Type 0
 AreFilesWalked k told file roots held (Ok order) = AreOpened k told held ×
     Walks (imports_for k held) 256 roots (Ok order.items)

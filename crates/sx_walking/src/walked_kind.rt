@@ -3,7 +3,7 @@
 ghost use Rattle.std.specs.Prelude.{◌≡◌, IfOk};
 ghost use Rattle.sx_outside.specs.Told.{WhereTold};
 ghost use Rattle.sx_steps.specs.Stop.{Gives, OnlyReads, IsNoFault};
-ghost use Rattle.sx_walking.specs.Kinds.{Kind, StandsOn};
+ghost use Rattle.sx_walking.specs.Kinds.{WalkKind, StandsOn};
 
 use std::alloc::Global;
 use sx_outside::Shelf;
@@ -22,7 +22,7 @@ pub trait WalkedKind {
     ghost says: { Self.File → Data };
 
     /// What a walk takes from the kind.
-    ghost kind: { Self → Kind Data };
+    ghost kind: { Self → WalkKind Data };
 
     /// A copy of the name of the file.
     fn name(&self, alloc: Global, file: &Self::File) -> Result<Text, NoMemory>

@@ -12,7 +12,7 @@ use Rattle.sx_lines.proofs.WordLaws.{after_front, front_of}
 use Rattle.sx_lines.proofs.DecimalLaws.{number_again, number_spelled}
 use Rattle.sx_words.specs.declared.verb.Verb.{Verb}
 use Rattle.sx_words.specs.Commands.{Given, core, tries, nodes, audit, Settings, option_word, colon, NoColon, IsGiven, takes, is_new}
-use Rattle.sx_words.specs.Reading.{or_else, positive, count_of, at_colon, number_after, audit_after, option_of, next_option, is_option}
+use Rattle.sx_words.specs.Reading.{first_or, positive, count_of, at_colon, number_after, audit_after, option_of, next_option, is_option}
 
 and_then_some : {A B : Type 0} (o : Option A) (f : A → Option B) (y : B) → option_and_then f o ≡ Some y → (x : A) × (o ≡ Some x) × (f x ≡ Some y)
 and_then_some (Some x) f y e = (x, refl, e)
@@ -128,7 +128,7 @@ audit_case word option (Some p) is e =
     let same : audit p.0 p.1 ≡ option = cc in
     subst (λ (x : Given). IsSpelled word x) same (audit_after-found word p is)
 
-nodes_case : (word : List ℕ) (option : Given) (o : Option ℕ) → number_after (codes "--nodes=") word ≡ o → or_else (option_map nodes o) (option_map (λ p. audit p.0 p.1) (audit_after word)) ≡ Some option → IsSpelled word option
+nodes_case : (word : List ℕ) (option : Given) (o : Option ℕ) → number_after (codes "--nodes=") word ≡ o → first_or (option_map nodes o) (option_map (λ p. audit p.0 p.1) (audit_after word)) ≡ Some option → IsSpelled word option
 nodes_case word option None is e = audit_case word option (audit_after word) refl e
 nodes_case word option (Some n) is e =
     let same : nodes n ≡ option = cc in
@@ -136,7 +136,7 @@ nodes_case word option (Some n) is e =
     subst (λ (x : Given). IsSpelled word x) same (h.0, (h.1, h.2))
 
 tries_case : (word : List ℕ) (option : Given) (o : Option ℕ) → number_after (codes "--tries=") word ≡ o
-    → or_else (option_map tries o) (or_else (option_map nodes (number_after (codes "--nodes=") word)) (option_map (λ p. audit p.0 p.1) (audit_after word))) ≡ Some option → IsSpelled word option
+    → first_or (option_map tries o) (first_or (option_map nodes (number_after (codes "--nodes=") word)) (option_map (λ p. audit p.0 p.1) (audit_after word))) ≡ Some option → IsSpelled word option
 tries_case word option None is e = nodes_case word option (number_after (codes "--nodes=") word) refl e
 tries_case word option (Some n) is e =
     let same : tries n ≡ option = cc in
@@ -144,7 +144,7 @@ tries_case word option (Some n) is e =
     subst (λ (x : Given). IsSpelled word x) same (h.0, (h.1, h.2))
 
 core_case : (word : List ℕ) (option : Given) (test : Bool) → bytes_eq word (codes "--core") ≡ test
-    → cond test (Some core) (or_else (option_map tries (number_after (codes "--tries=") word)) (or_else (option_map nodes (number_after (codes "--nodes=") word)) (option_map (λ p. audit p.0 p.1) (audit_after word)))) ≡ Some option → IsSpelled word option
+    → cond test (Some core) (first_or (option_map tries (number_after (codes "--tries=") word)) (first_or (option_map nodes (number_after (codes "--nodes=") word)) (option_map (λ p. audit p.0 p.1) (audit_after word)))) ≡ Some option → IsSpelled word option
 core_case word option false is e = tries_case word option (number_after (codes "--tries=") word) refl e
 core_case word option true is e =
     let same : core ≡ option = cc in

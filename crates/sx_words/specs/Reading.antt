@@ -12,9 +12,9 @@ use Rattle.sx_words.specs.Commands.{nothing_said, with_option, meant}
 use Rattle.sx_term.specs.Limits.{most_budget}
 
 -- the first that there is
-abbrev pub or_else : {A : Type 0} → Option A → Option A → Option A
-or_else (Some x) other = Some x
-or_else None other = other
+abbrev pub first_or : {A : Type 0} → Option A → Option A → Option A
+first_or (Some x) other = Some x
+first_or None other = other
 
 -- the number, where it is not 0
 abbrev pub positive : ℕ → Option ℕ
@@ -42,8 +42,8 @@ audit_after word = option_and_then at_colon (after (codes "--audit=") word)
 unfoldable pub option_of : List ℕ → Option Given
 option_of word =
     if bytes_eq word (codes "--core") then Some core
-    else or_else (option_map tries (number_after (codes "--tries=") word))
-    (or_else (option_map nodes (number_after (codes "--nodes=") word))
+    else first_or (option_map tries (number_after (codes "--tries=") word))
+    (first_or (option_map nodes (number_after (codes "--nodes=") word))
     (option_map (λ p. audit p.0 p.1) (audit_after word)))
 
 -- the option that a word spells, where it may stand there

@@ -2,7 +2,7 @@
 
 ghost use Rattle.std.specs.Prelude.{IfSome, IsTrue};
 ghost use Rattle.sx_earley.specs.Tokens.{Stems};
-ghost use Rattle.sx_earley.specs.Unknown.{HasStem, HaveStems};
+ghost use Rattle.sx_earley.specs.Unknown.{HasKnownStem, HaveStems};
 ghost use Rattle.sx_earley.specs.Completed.{IsSort};
 
 use sx_grammar::Grammar;
@@ -22,7 +22,7 @@ pub(crate) fn first_sort(grammar: &Grammar) -> Option<Sort>
 
 /// Whether the token is no metavariable.
 fn has_stem(token: &Token) -> bool
-    ensures { (stems : Stems) → IsTrue result → HasStem stems token.now }
+    ensures { (stems : Stems) → IsTrue result → HasKnownStem stems token.now }
 {
     match token.mark {
         Mark::Meta => false,

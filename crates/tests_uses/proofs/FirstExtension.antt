@@ -5,7 +5,7 @@ use Rattle.std.specs.List.{AllByRecursion}
 use Rattle.sx_plain.specs.Plain.{Table}
 use Rattle.sx_rules.specs.Sets.{shapes_in, forms_in, rules_in}
 use Rattle.sx_notation.specs.declared.language.Language.{Language}
-use Rattle.sx_extension.specs.Grounds.{Ground, IsBefore}
+use Rattle.sx_extension.specs.Grounds.{Ground, IsGroundBefore}
 use Rattle.sx_extension.specs.Laws.{first_ground}
 
 -- what is read after the language and a plain table
@@ -26,10 +26,10 @@ with_table l base table = record {
 -- where the table has no entries the first extension can be read
 pub is_before : (l : Language) (base : ℕ) (table : Table) →
     base ≡ length l.grammar.parts.productions → table ≡ (λ label. None) →
-    IsBefore (first_ground l) → IsBefore (with_table l base table)
+    IsGroundBefore (first_ground l) → IsGroundBefore (with_table l base table)
 is_before l base table at none is =
-    subst (λ (n : ℕ). IsBefore (with_table l n table)) (sym at)
-    (subst (λ (t : Table). IsBefore (with_table l (length l.grammar.parts.productions) t))
+    subst (λ (n : ℕ). IsGroundBefore (with_table l n table)) (sym at)
+    (subst (λ (t : Table). IsGroundBefore (with_table l (length l.grammar.parts.productions) t))
     (sym none) is)
 
 -- what holds of each of some values that are made of others

@@ -53,7 +53,7 @@ use Rattle.sx_rewrite.proofs.Rewriting.{rewriting_is_good}
 use Rattle.sx_expand.specs.declared.expanded.Expanded.{Expanded}
 use Rattle.sx_expand.specs.Boxes.{HasList}
 use Rattle.sx_expand.specs.Expansions.{IsListedFrom, IsExpanding}
-use Rattle.sx_expand.specs.Readings.{AllSmall, IsGiven, AreGiven}
+use Rattle.sx_expand.specs.Readings.{AllSmall, IsGivenJudgement, AreGiven}
 use Rattle.tests_uses.specs.Held.{IsHypothesisHeld, FitPlaces, FitsForm}
 use Rattle.sx_derive.proofs.FoundEach.{found_each}
 
@@ -77,7 +77,7 @@ module _ (base : RuleSet) where
   all-below [] h = tt
   all-below (j ∷ js) h = (have_sorts-below (shapes_in base) [] (map tree j.places.items) (sorts_of (forms_in base) j.form) h.0.sorted, all-below js h.1)
 
-  all-given : (js : List JudgementOf) → AllByRecursion (FitsForm base) js → AllByRecursion (IsGiven (forms_in base)) (map judgement js)
+  all-given : (js : List JudgementOf) → AllByRecursion (FitsForm base) js → AllByRecursion (IsGivenJudgement (forms_in base)) (map judgement js)
   all-given [] h = tt
   all-given (j ∷ js) h =
       (record { many = same-many (shapes_in base) (map tree j.places.items) (places_at (forms_in base) j.form) h.0.sorted; small = h.0.small }, all-given js h.1)

@@ -6,7 +6,7 @@ use Rattle.sx_steps.specs.declared.step_error.StepError.TheVariants.{Memory}
 use Rattle.sx_steps.proofs.StepsOn.{goes_from}
 use Rattle.sx_accepting.specs.ReadLanguage.{stated_of}
 use Rattle.sx_headers.specs.ReadModule.{module_of}
-use Rattle.sx_build.specs.BuildModules.{Progress, none_made, MakesAfter, whole_plan}
+use Rattle.sx_build.specs.BuildModules.{BuildProgress, none_made, MakesAfter, whole_plan}
 use Rattle.sx_build.specs.Buildings.{mades_view}
 use Rattle.sx_build.specs.Remembering.{remembered_imports}
 use Rattle.sx_outside.specs.Views.{clean_files_of}
@@ -27,7 +27,7 @@ returns-in-Ok-whole_work-clause-step g c = λ files told.
     let asked = c.args.asked.now in
     let start = none_made (map (λ b. (goal.Auditor-dyn g (b.vtable, b.value)).meaning b.value)
     c.args.auditors.items) in
-    let end : Progress = record {
+    let end : BuildProgress = record {
       made = mades_view c.make_all.new.building.made.items;
       auditors = map (λ b. (goal.Auditor-dyn g (b.vtable, b.value)).meaning b.value)
           c.make_all.new.building.auditors.items;
@@ -44,7 +44,7 @@ returns-in-Err-whole_work-clause-step g c = λ files told.
     let asked = c.args.asked.now in
     let start = none_made (map (λ b. (goal.Auditor-dyn g (b.vtable, b.value)).meaning b.value)
     c.args.auditors.items) in
-    let end : Progress = record {
+    let end : BuildProgress = record {
       made = mades_view c.make_all.new.building.made.items;
       auditors = map (λ b. (goal.Auditor-dyn g (b.vtable, b.value)).meaning b.value)
           c.make_all.new.building.auditors.items;

@@ -6,7 +6,7 @@ use Rattle.sx_headers.specs.ReadModule.{Module, module_of}
 use Rattle.sx_importing.proofs.Results.{reads_on_from, reads_err}
 use Rattle.sx_walking.specs.Opened.{AreOnce}
 use Rattle.sx_closure.specs.ReadModules.{IsModuleStated}
-use Rattle.sx_build.specs.BuildModules.{Progress, none_made, language_in, MakesAfter}
+use Rattle.sx_build.specs.BuildModules.{BuildProgress, none_made, language_in, MakesAfter}
 use Rattle.sx_build.specs.Buildings.{mades_view, AreNamedApart}
 use Rattle.sx_build.specs.MadeModules.{Made}
 use Rattle.sx_build.specs.Remembering.{remembered_imports, Remembers}
@@ -22,7 +22,7 @@ loop-i-init g c =
     let l = stated_of asked.language.now in
     let sources = c.args.sources.now in
     let ms = map module_of sources in
-    let start : Progress =
+    let start : BuildProgress =
     none_made (map (λ b. (goal.Auditor-dyn g (b.vtable, b.value)).meaning b.value)
     c.args.building.now.auditors.items) in
     record {
@@ -31,7 +31,7 @@ loop-i-init g c =
         omega arith,
         λ r more h. subst (λ (n : ℕ). MakesAfter asked.budgets files l start ms r n) (omega arith)
             (subst (λ (made : List Made). MakesAfter asked.budgets files l
-            (let p : Progress = record { made = made; auditors = start.auditors } in p) ms r more)
+            (let p : BuildProgress = record { made = made; auditors = start.auditors } in p) ms r more)
             c.requires.begun h),
       );
       names = ap (λ (mades : List Made). map (λ (x : Made). x.name) mades) c.requires.begun;
@@ -51,7 +51,7 @@ make_next-requires g c =
     let l = stated_of asked.language.now in
     let sources = c.args.sources.now in
     let ms = map module_of sources in
-    let start : Progress =
+    let start : BuildProgress =
     none_made (map (λ b. (goal.Auditor-dyn g (b.vtable, b.value)).meaning b.value)
     c.args.building.now.auditors.items) in
     let i = c.loop-i.i in
@@ -87,7 +87,7 @@ loop-i-preserved g c =
     let l = stated_of asked.language.now in
     let sources = c.args.sources.now in
     let ms = map module_of sources in
-    let start : Progress =
+    let start : BuildProgress =
     none_made (map (λ b. (goal.Auditor-dyn g (b.vtable, b.value)).meaning b.value)
     c.args.building.now.auditors.items) in
     let i = c.loop-i.i in
@@ -96,12 +96,12 @@ loop-i-preserved g c =
     let below = subst (λ (n : ℕ). i < n) (sym (length-map sources module_of))
     c.loop-i-test.true in
     let is = source_at sources i source c.loop-i-test.true c.index-sources-i.is in
-    let now : Progress = record {
+    let now : BuildProgress = record {
       made = mades_view c.loop-i.building.made.items;
       auditors = map (λ b. (goal.Auditor-dyn g (b.vtable, b.value)).meaning b.value)
           c.loop-i.building.auditors.items;
     } in
-    let next : Progress = record {
+    let next : BuildProgress = record {
       made = mades_view c.make_next.new.building.made.items;
       auditors = map (λ b. (goal.Auditor-dyn g (b.vtable, b.value)).meaning b.value)
           c.make_next.new.building.auditors.items;
@@ -135,7 +135,7 @@ returns-in-Err-clause-step g c = λ files told.
     let l = stated_of asked.language.now in
     let sources = c.args.sources.now in
     let ms = map module_of sources in
-    let start : Progress =
+    let start : BuildProgress =
     none_made (map (λ b. (goal.Auditor-dyn g (b.vtable, b.value)).meaning b.value)
     c.args.building.now.auditors.items) in
     let i = c.loop-i.i in
@@ -144,7 +144,7 @@ returns-in-Err-clause-step g c = λ files told.
     let below = subst (λ (n : ℕ). i < n) (sym (length-map sources module_of))
     c.loop-i-test.true in
     let is = source_at sources i source c.loop-i-test.true c.index-sources-i.is in
-    let now : Progress = record {
+    let now : BuildProgress = record {
       made = mades_view c.loop-i.building.made.items;
       auditors = map (λ b. (goal.Auditor-dyn g (b.vtable, b.value)).meaning b.value)
           c.loop-i.building.auditors.items;
@@ -169,10 +169,10 @@ returns-clause-step g c = λ files told.
     let l = stated_of asked.language.now in
     let sources = c.args.sources.now in
     let ms = map module_of sources in
-    let start : Progress =
+    let start : BuildProgress =
     none_made (map (λ b. (goal.Auditor-dyn g (b.vtable, b.value)).meaning b.value)
     c.args.building.now.auditors.items) in
-    let now : Progress = record {
+    let now : BuildProgress = record {
       made = mades_view c.loop-i.building.made.items;
       auditors = map (λ b. (goal.Auditor-dyn g (b.vtable, b.value)).meaning b.value)
           c.loop-i.building.auditors.items;

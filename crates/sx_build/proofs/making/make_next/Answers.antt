@@ -9,7 +9,7 @@ use Rattle.sx_steps.proofs.StepsOn.{goes_from, stops_at, untried}
 use Rattle.sx_accepting.specs.ReadLanguage.{stated_of}
 use Rattle.sx_headers.specs.ReadModule.{module_of}
 use Rattle.sx_importing.specs.ReadImports.{import_of, ReadsImports}
-use Rattle.sx_build.specs.BuildModules.{Progress, MakesWith}
+use Rattle.sx_build.specs.BuildModules.{BuildProgress, MakesWith}
 use Rattle.sx_build.specs.Buildings.{mades_view}
 use Rattle.sx_build.specs.MadeModules.{with_made}
 use Rattle.std.specs.List.{AllByRecursion}
@@ -23,12 +23,12 @@ returns-in-Ok-clause-step g c = λ files told.
     let asked = c.args.asked.now in
     let l = stated_of asked.language.now in
     let m = module_of c.args.source.now in
-    let before : Progress = record {
+    let before : BuildProgress = record {
       made = mades_view c.args.building.now.made.items;
       auditors = map (λ b. (goal.Auditor-dyn g (b.vtable, b.value)).meaning b.value)
           c.args.building.now.auditors.items;
     } in
-    let after : Progress = record {
+    let after : BuildProgress = record {
       made = mades_view c.make_with-done.new.building.made.items;
       auditors = map (λ b. (goal.Auditor-dyn g (b.vtable, b.value)).meaning b.value)
           c.make_with-done.new.building.auditors.items;
@@ -59,7 +59,7 @@ returns-in-Err-clause-step g c = λ files told.
     let asked = c.args.asked.now in
     let l = stated_of asked.language.now in
     let m = module_of c.args.source.now in
-    let before : Progress = record {
+    let before : BuildProgress = record {
       made = mades_view c.args.building.now.made.items;
       auditors = map (λ b. (goal.Auditor-dyn g (b.vtable, b.value)).meaning b.value)
           c.args.building.now.auditors.items;

@@ -8,7 +8,7 @@ use Rattle.sx_accepting.specs.ReadLanguage.{stated_of}
 use Rattle.sx_headers.specs.FreeImports.{HasFreeImports}
 use Rattle.sx_headers.specs.ReadModule.{module_of}
 use Rattle.sx_importing.specs.ReadImports.{import_of}
-use Rattle.sx_compiling.specs.Given.{Given}
+use Rattle.sx_compiling.specs.Given.{GivenModule}
 use Rattle.sx_compiling.specs.MakeUnit.{MakesReached, MakesUnit}
 use Rattle.sx_build.specs.BuildModules.{given_in}
 use Rattle.sx_build.proofs.Imported.{given_with}
@@ -17,7 +17,7 @@ use Rattle.sx_build.proofs.making.make_one.Goals as goal
 pub returns-in-Err-clause-step : goal.returns-in-Err-clause-step
 returns-in-Err-clause-step g c = λ files told.
     let asked = c.args.asked.now in
-    let given : Given =
+    let given : GivenModule =
     given_in (stated_of asked.language.now) (module_of c.args.source.now)
     (map import_of c.args.imports.now) in
     lacks_first unit_of NoTries

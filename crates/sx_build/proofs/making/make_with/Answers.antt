@@ -6,7 +6,7 @@ use Rattle.sx_accepting.specs.ReadLanguage.{stated_of}
 use Rattle.sx_headers.specs.ReadModule.{module_of}
 use Rattle.sx_importing.specs.ReadImports.{import_of}
 use Rattle.sx_compiling.specs.MakeUnit.{MakesUnit}
-use Rattle.sx_build.specs.BuildModules.{Progress, given_in, ShowsUnit}
+use Rattle.sx_build.specs.BuildModules.{BuildProgress, given_in, ShowsUnit}
 use Rattle.sx_build.specs.Buildings.{mades_view}
 use Rattle.sx_outside.specs.Views.{clean_files_of}
 use Rattle.sx_outside.specs.declared.clean.CleanShelf.{CleanShelf}
@@ -23,12 +23,12 @@ returns-in-Ok-clause-step g c = λ files told.
     let asked = c.args.asked.now in
     let l = stated_of asked.language.now in
     let m = module_of c.args.source.now in
-    let before : Progress = record {
+    let before : BuildProgress = record {
       made = mades_view c.args.building.now.made.items;
       auditors = map (λ b. (goal.Auditor-dyn g (b.vtable, b.value)).meaning b.value)
           c.args.building.now.auditors.items;
     } in
-    let after : Progress = record {
+    let after : BuildProgress = record {
       made = mades_view c.show_made.new.building.made.items;
       auditors = map (λ b. (goal.Auditor-dyn g (b.vtable, b.value)).meaning b.value)
           c.show_made.new.building.auditors.items;
@@ -47,7 +47,7 @@ returns-in-Err-clause-step g c = λ files told.
     let asked = c.args.asked.now in
     let l = stated_of asked.language.now in
     let m = module_of c.args.source.now in
-    let before : Progress = record {
+    let before : BuildProgress = record {
       made = mades_view c.args.building.now.made.items;
       auditors = map (λ b. (goal.Auditor-dyn g (b.vtable, b.value)).meaning b.value)
           c.args.building.now.auditors.items;

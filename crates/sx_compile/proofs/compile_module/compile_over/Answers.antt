@@ -10,9 +10,9 @@ use Rattle.sx_environment.specs.SeenFrom.{IsShort, interfaces_of}
 use Rattle.sx_accepting.specs.ReadLanguage.{stated_of}
 use Rattle.sx_headers.specs.ReadModule.{module_of}
 use Rattle.sx_importing.specs.ReadImports.{import_of, ReadsImports}
-use Rattle.sx_compiling.specs.Given.{Given}
+use Rattle.sx_compiling.specs.Given.{GivenModule}
 use Rattle.sx_headers.specs.ModuleFiles.{module_file}
-use Rattle.sx_compile.specs.CompileModule.{CompilesGiven, given_in}
+use Rattle.sx_compile.specs.CompileModule.{CompilesGiven, given_to_compile}
 use Rattle.sx_compiling.proofs.GivenAlike.{imports_of, given_same}
 use Rattle.sx_compile.proofs.compile_module.compile_over.Goals as goal
 
@@ -40,7 +40,7 @@ returns-in-Ok-clause-step g c = λ files told.
     let l = stated_of c.args.language.now in
     let is = map import_of c.in-Ok.imports.items in
     goes_from plan_of (Untried (ReadsImports files m.header.imports))
-    (λ is. CompilesGiven name b auditors files (given_in name m l is)) is
+    (λ is. CompilesGiven name b auditors files (given_to_compile name m l is)) is
     c.compile_given-work.result c.args.steps.now c.args.steps.now c.compile_given-work.new.steps (
       0,
       (
@@ -50,7 +50,7 @@ returns-in-Ok-clause-step g c = λ files told.
       ),
       omega arith,
     )
-    (subst (λ (g : Given). Does plan_of (CompilesGiven name b auditors files g)
+    (subst (λ (g : GivenModule). Does plan_of (CompilesGiven name b auditors files g)
     c.compile_given-work.result c.args.steps.now c.compile_given-work.new.steps)
     (given_same m l c.args.asked.now.file.now (module_file name) c.deref-in-Ok.result.now
     c.in-Ok.imports.items c.requires.file c.deref-in-Ok.ensures.value)
@@ -65,7 +65,7 @@ returns-in-Err-clause-step g c = λ files told.
     let m = module_of c.args.source.now in
     let l = stated_of c.args.language.now in
     stops_at imports_of plan_of (Untried (ReadsImports files m.header.imports))
-    (λ is. CompilesGiven name b auditors files (given_in name m l is)) c.in-Err.e c.args.steps.now
+    (λ is. CompilesGiven name b auditors files (given_to_compile name m l is)) c.in-Err.e c.args.steps.now
     c.args.steps.now
     (untried imports_of (ReadsImports files m.header.imports) (Err c.in-Err.e) c.args.steps.now
     (subst (λ (names : List (List ℕ)). Gives imports_of (ReadsImports files names)

@@ -5,7 +5,7 @@ use Rattle.sx_unit.specs.Written.{unit_of}
 use Rattle.sx_environment.specs.SeenFrom.{seen_from}
 use Rattle.sx_steps.specs.Stop.{Does}
 use Rattle.sx_compiling.specs.CompileModule.{CompilesTrying}
-use Rattle.sx_importing.specs.ReadImports.{import_of, mark_of}
+use Rattle.sx_importing.specs.ReadImports.{import_of, import_mark}
 use Rattle.std.proofs.Common.{map}
 use Rattle.sx_compiling.proofs.ImportsGiven.{marks_same}
 use Rattle.sx_compiling.proofs.SeenGiven.{module_same}
@@ -26,6 +26,6 @@ returns-clause-step g c =
     c.compile_module.result c.args.steps.now c.compile_module.new.steps)
     (module_same (seen_from c.args.seen.now) c.deref.result.now given.source.now.bytes.items
     given.source.now.header (tree c.args.environment.now) (map mark given.imports.now)
-    (map mark_of (map import_of given.imports.now)) c.deref.ensures.value
+    (map import_mark (map import_of given.imports.now)) c.deref.ensures.value
     (marks_same given.imports.now))
     c.compile_module.ensures.step

@@ -2,7 +2,7 @@ use Rattle.std.proofs.Common.{false, sym, subst, ◌<◌, ◌≤◌, length, ref
 use Rattle.sx_term.proofs.Kids.{depth_of-kid}
 use Rattle.sx_term.specs.declared.term.Term.{Term}
 use Rattle.sx_term.specs.Term.{tree}
-use Rattle.sx_derive.specs.Stuck.{place_in}
+use Rattle.sx_derive.specs.Stuck.{stuck_place_in}
 use Rattle.sx_derive.specs.Ways.{IsWay}
 use Rattle.sx_derive.proofs.Waying.{way_found, way_none}
 use Rattle.sx_derive.proofs.subject_way.+put_way.Goals as goal
@@ -29,4 +29,4 @@ loop-i-init t c = (refl, refl)
 pub returns-in-Lex : goal.returns-in-Lex
 returns-in-Lex t c =
     let way = c.args.path.now.items in
-    subst (λ (x : Term). IsWay way way (place_in c.args.variable (tree x)) false) (sym c.in-Lex.is) (refl, refl)
+    subst (λ (x : Term). IsWay way way (stuck_place_in c.args.variable (tree x)) false) (sym c.in-Lex.is) (refl, refl)

@@ -3,7 +3,7 @@ use Rattle.sx_earley.specs.Shown.{plain, tokens_of}
 use Rattle.sx_earley.specs.Chart.{Foresees, IsPredicted}
 use Rattle.sx_earley.specs.Counted.{IsBusy, AsksMore}
 use Rattle.sx_grammar.specs.declared.item.Item.{Item}
-use Rattle.sx_earley.specs.Growth.{Only}
+use Rattle.sx_earley.specs.Growth.{AllNew}
 use Rattle.sx_earley.proofs.Sameness.{ok_if}
 use Rattle.sx_earley.proofs.Growth.{only_more}
 use Rattle.sx_earley.proofs.Asking.{asks_as, asks_nothing}
@@ -20,7 +20,7 @@ returns-clause-only c =
     let d = c.args.given.grammar.now in let g = plain d in let ts = tokens_of d c.args.given.shown.now in let item = c.args.item in
     let old = c.args.found.now in let new = c.predict_once.new.found in
     let IsBegun : Item → Type 0 = IsBusy g ts (IsPredicted g c.in-Some.sort c.in-Some.least item.end) in
-    ok_if c.predict_once.result (λ _. Only old new IsBegun) (λ _. Only old new (IsBusy g ts (Foresees g item)))
+    ok_if c.predict_once.result (λ _. AllNew old new IsBegun) (λ _. AllNew old new (IsBusy g ts (Foresees g item)))
     (λ _ only. only_more old new IsBegun (IsBusy g ts (Foresees g item))
     (λ i p. (to_foreseen g item c.in-Some.sort c.in-Some.least (sym c.in-Some.is ∙ c.requires.waits.is) i p.0, p.1)) only) c.predict_once.ensures.only
 

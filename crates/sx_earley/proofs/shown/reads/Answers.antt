@@ -12,7 +12,7 @@ use Rattle.sx_grammar.specs.declared.numbered.NumberedSymbol.{NumberedSymbol}
 use Rattle.sx_grammar.specs.declared.numbered.NumberedSymbol.TheVariants as symbols
 use Rattle.sx_earley.specs.declared.shown.Shown.{Shown}
 use Rattle.sx_earley.specs.declared.shown.Shown.TheVariants.{Lit, Lex, Kind, Sort, Other}
-use Rattle.sx_earley.specs.Shown.{Takes, IsLiteralBelow, ShownBelow, literal_texts, token_of}
+use Rattle.sx_earley.specs.Shown.{TakesShown, IsLiteralBelow, ShownBelow, literal_texts, token_of}
 use Rattle.sx_earley.specs.Shown.{tokens_of}
 use Rattle.sx_earley.proofs.Literals.{never_empty}
 use Rattle.sx_earley.proofs.shown.reads.Goals as goal
@@ -29,7 +29,7 @@ module _ (d : GrammarData) (shown : List Shown) (place : ℕ) where
   is_token : (s : Shown) (t : Token) → slice_get shown place ≡ Some s → slice_get (tokens_of d shown) place ≡ Some t → token_of (literal_texts d) s ≡ t
   is_token s t at e = same_Some (token_of (literal_texts d) s) t (sym (at_token s at) ∙ e)
 
-  read_if_taken : (x : NumberedSymbol) (s : Shown) → slice_get shown place ≡ Some s → Takes x s → ReadsToken (tokens_of d shown) (symbol (literal_texts d) x) place
+  read_if_taken : (x : NumberedSymbol) (s : Shown) → slice_get shown place ≡ Some s → TakesShown x s → ReadsToken (tokens_of d shown) (symbol (literal_texts d) x) place
   read_if_taken (symbols.Lit a) (Lit b) at e = at_token (Lit b) at ∙ ap (λ n. Some (record { mark = is_literal; text = slice_index_or (literal_texts d) n [] })) (sym e)
   read_if_taken (symbols.Lit a) (Lex k) at e = absurd e
   read_if_taken (symbols.Lit a) (Kind k) at e = absurd e
@@ -47,7 +47,7 @@ module _ (d : GrammarData) (shown : List Shown) (place : ℕ) where
   read_if_taken (symbols.Part sort least) Other at e = absurd e
 
   module _ (is : IsGrammar d.parts) (apart : AreDistinct (literal_texts d)) (below : ShownBelow (length (literal_texts d)) shown) where
-    taken_if_read : (x : NumberedSymbol) (s : Shown) → IsLiteralBelow (length (literal_texts d)) x → slice_get shown place ≡ Some s → ReadsToken (tokens_of d shown) (symbol (literal_texts d) x) place → Takes x s
+    taken_if_read : (x : NumberedSymbol) (s : Shown) → IsLiteralBelow (length (literal_texts d)) x → slice_get shown place ≡ Some s → ReadsToken (tokens_of d shown) (symbol (literal_texts d) x) place → TakesShown x s
     taken_if_read (symbols.Lit a) (Lit b) low at h =
         let same = ap (λ (t : Token). t.text) (is_token (Lit b) _ at h) in
         apart a b (slice_index_or (literal_texts d) a []) (text_at (literal_texts d) a low) (text_at (literal_texts d) b (below place b at) ∙ ap Some same)
@@ -57,7 +57,7 @@ module _ (d : GrammarData) (shown : List Shown) (place : ℕ) where
     taken_if_read (symbols.Lit a) Other low at h = never_empty d.parts is a low (sym (ap (λ (t : Token). t.text) (is_token Other _ at h)))
     taken_if_read (symbols.Lex a) s low at (inl h) = of_lexeme s (ap (λ (t : Token). t.mark) (is_token s _ at h.1))
       where
-        of_lexeme : (s : Shown) → (token_of (literal_texts d) s).mark ≡ is_lexeme a → Takes (symbols.Lex a) s
+        of_lexeme : (s : Shown) → (token_of (literal_texts d) s).mark ≡ is_lexeme a → TakesShown (symbols.Lex a) s
         of_lexeme (Lit b) e = absurd cc
         of_lexeme (Lex k) e = cc
         of_lexeme (Kind k) e = absurd cc
@@ -65,7 +65,7 @@ module _ (d : GrammarData) (shown : List Shown) (place : ℕ) where
         of_lexeme Other e = absurd cc
     taken_if_read (symbols.Lex a) s low at (inr h) = of_kind_variable s (ap (λ (t : Token). t.mark) (is_token s _ at h.1))
       where
-        of_kind_variable : (s : Shown) → (token_of (literal_texts d) s).mark ≡ is_variable (of_kind a) → Takes (symbols.Lex a) s
+        of_kind_variable : (s : Shown) → (token_of (literal_texts d) s).mark ≡ is_variable (of_kind a) → TakesShown (symbols.Lex a) s
         of_kind_variable (Lit b) e = absurd cc
         of_kind_variable (Lex k) e = absurd cc
         of_kind_variable (Kind k) e = cc
@@ -73,14 +73,14 @@ module _ (d : GrammarData) (shown : List Shown) (place : ℕ) where
         of_kind_variable Other e = absurd cc
     taken_if_read (symbols.Part sort least) s low at h = of_sort_variable s (ap (λ (t : Token). t.mark) (is_token s _ at h.1))
       where
-        of_sort_variable : (s : Shown) → (token_of (literal_texts d) s).mark ≡ is_variable (of_sort sort) → Takes (symbols.Part sort least) s
+        of_sort_variable : (s : Shown) → (token_of (literal_texts d) s).mark ≡ is_variable (of_sort sort) → TakesShown (symbols.Part sort least) s
         of_sort_variable (Lit b) e = absurd cc
         of_sort_variable (Lex k) e = absurd cc
         of_sort_variable (Kind k) e = absurd cc
         of_sort_variable (Sort n) e = cc
         of_sort_variable Other e = absurd cc
 
-    taken : (x : NumberedSymbol) (s : Shown) → IsLiteralBelow (length (literal_texts d)) x → slice_get shown place ≡ Some s → Takes x s ↔ ReadsToken (tokens_of d shown) (symbol (literal_texts d) x) place
+    taken : (x : NumberedSymbol) (s : Shown) → IsLiteralBelow (length (literal_texts d)) x → slice_get shown place ≡ Some s → TakesShown x s ↔ ReadsToken (tokens_of d shown) (symbol (literal_texts d) x) place
     taken x s low at = (read_if_taken x s at, taken_if_read x s low at)
 
 pub returns-in-Some : goal.returns-in-Some

@@ -10,7 +10,7 @@ use Rattle.sx_rules.specs.Views.{premise, judgement, rule}
 use Rattle.sx_arena.specs.Arena.{trees, tree_at, AreBelow}
 use Rattle.sx_arena.specs.Matching.{Assignment}
 use Rattle.sx_arena.proofs.Growing.{extends-same, extends-then}
-use Rattle.sx_expand.specs.Boxes.{terms_of, rules_from, IsFollowed}
+use Rattle.sx_expand.specs.Boxes.{cursor_terms, rules_from, IsFollowed}
 use Rattle.sx_expand.specs.Followed.{bindings_of}
 use Rattle.sx_expand.proofs.Bindings.{number-within, rule-same, work-stays, bindings-stay}
 use Rattle.sx_expand.proofs.BoxNodes.{kid-inputs, kid-matches, kid-matched, box-within, box-hypothesis, box-rule, ends_with, boxed-by, boxed-given}
@@ -44,7 +44,7 @@ box_node-returns-in-Rule-clause-made t c =
     let at = c.args.cursor.now.next in
     IfOk-weaker c.box_by_rule.result _ _ (λ m h j p can ins.
     let e = box-rule o at j p can c.entry_at-entry.result c.entry_at-entry.ensures c.in-Rule.number c.in-Rule.is in
-    boxed-by o (terms_of c.box_by_rule.new.cursor) at c.box_by_rule.new.cursor.next j p m c.in-Rule.number e (h (ends_with e) e.node ins))
+    boxed-by o (cursor_terms c.box_by_rule.new.cursor) at c.box_by_rule.new.cursor.next j p m c.in-Rule.number e (h (ends_with e) e.node ins))
     c.box_by_rule.ensures.made
 
 pub box_node-returns-in-Given-clause-made : goal.box_node-returns-in-Given-clause-made
@@ -76,15 +76,15 @@ box_kid-box_node-requires t c =
     let k = c.requires.kid in
     let h = c.in_ok-inputs.ensures in
     let terms = trees c.places_under.new.arena in
-    let env = bindings_of (terms_of c.args.cursor.now) c.args.work.now in
+    let env = bindings_of (cursor_terms c.args.cursor.now) c.args.work.now in
     let ins = kid-inputs o j k.0 env k.1.followed terms c.deref.result.now c.in_ok-inputs.inputs.items c.deref.ensures.value h.are in
     let below = subst (λ (ns : List ℕ). AreBelow (length terms) ns) (sym c.deref.ensures.value) h.within in
     (search rules, (c.requires.shallow, (h.arena, (below, (judgement_instance (bound_by k.0.binds) (judgement j), k.0.proof, k.1.can, ins)))))
 
 pub box_kid-take_outputs-requires-clause-work : goal.box_kid-take_outputs-requires-clause-work
 box_kid-take_outputs-requires-clause-work t c =
-    let old = terms_of c.args.cursor.now in
-    let new = terms_of c.box_node.new.cursor in
+    let old = cursor_terms c.args.cursor.now in
+    let new = cursor_terms c.box_node.new.cursor in
     let x = extends-then old (trees c.places_under.new.arena) new c.in_ok-inputs.ensures.extends c.in_ok-made.ensures.on.extends in
     work-stays old new c.args.work.now x c.requires.work
 
@@ -94,8 +94,8 @@ box_kid-take_outputs-requires-clause-below t c =
     let j = c.args.premise.now in
     let h = c.in_ok-inputs.ensures in
     let mid = trees c.places_under.new.arena in
-    let old = terms_of c.args.cursor.now in
-    let new = terms_of c.box_node.new.cursor in
+    let old = cursor_terms c.args.cursor.now in
+    let new = cursor_terms c.box_node.new.cursor in
     let env = bindings_of old c.args.work.now in
     let k = c.requires.kid in
     let ins = kid-inputs o j k.0 env k.1.followed mid c.deref.result.now c.in_ok-inputs.inputs.items c.deref.ensures.value h.are in
@@ -108,8 +108,8 @@ box_kid-take_outputs-requires-clause-matches t c =
     let j = c.args.premise.now in
     let h = c.in_ok-inputs.ensures in
     let mid = trees c.places_under.new.arena in
-    let old = terms_of c.args.cursor.now in
-    let new = terms_of c.box_node.new.cursor in
+    let old = cursor_terms c.args.cursor.now in
+    let new = cursor_terms c.box_node.new.cursor in
     let env = bindings_of old c.args.work.now in
     let k = c.requires.kid in
     let ins = kid-inputs o j k.0 env k.1.followed mid c.deref.result.now c.in_ok-inputs.inputs.items c.deref.ensures.value h.are in
@@ -126,8 +126,8 @@ box_kid-returns-clause-made t c = λ d is.
     let j = c.args.premise.now in
     let h = c.in_ok-inputs.ensures in
     let mid = trees c.places_under.new.arena in
-    let old = terms_of c.args.cursor.now in
-    let new = terms_of c.box_node.new.cursor in
+    let old = cursor_terms c.args.cursor.now in
+    let new = cursor_terms c.box_node.new.cursor in
     let env = bindings_of old c.args.work.now in
     let ins = kid-inputs o j d env is.followed mid c.deref.result.now c.in_ok-inputs.inputs.items c.deref.ensures.value h.are in
     let made = c.in_ok-made.ensures.made (judgement_instance (bound_by d.binds) (judgement j)) d.proof is.can ins in
@@ -142,14 +142,14 @@ box_kid-returns-clause-made t c = λ d is.
 
 pub box_kids-loop-premise-init : goal.box_kids-loop-premise-init
 box_kids-loop-premise-init t c = record {
-  on = record { arena = c.requires.arena; extends = extends-same (terms_of c.args.cursor.now) };
+  on = record { arena = c.requires.arena; extends = extends-same (cursor_terms c.args.cursor.now) };
   work = c.requires.work;
   after = omega arith;
   kids = λ d is f.
       let o = c.args.origin.now in
       let ps = c.deref-premise-items.result.now in
       let premises_are = ap (map premise) c.deref-premise-items.ensures.value ∙ ap (λ (x : Rule). x.premises) (rule-same (rules_from o) (rules_from o) refl c.args.number d.rule is.found (rule c.rule_at-rule.result.now) c.rule_at-rule.ensures) in
-      boxes-start o d ps c.args.number c.args.cursor.now.next is premises_are (terms_of c.args.cursor.now) c.args.work.now c.new-kids.result.items c.new-kids.ensures.items f;
+      boxes-start o d ps c.args.number c.args.cursor.now.next is premises_are (cursor_terms c.args.cursor.now) c.args.work.now c.new-kids.result.items c.new-kids.ensures.items f;
 }
 
 pub box_kids-rule_at-rule-requires : goal.box_kids-rule_at-rule-requires
@@ -166,7 +166,7 @@ box_kids-box_kid-requires t c =
     let so = inv.kids r.0 r.1 r.2 in
     let first = c.args.cursor.now.next in
     let at = c.loop-premise.cursor.next in
-    let terms = terms_of c.loop-premise.cursor in
+    let terms = cursor_terms c.loop-premise.cursor in
     let made = c.loop-premise.kids.items in
     let later = inv.after in
     let shallow = (rule-shallow (bare_rules_in o.rules.now) c.args.number (rule c.rule_at-rule.result.now) c.facts.ensures.shallow c.rule_at-rule.ensures).1 in
@@ -198,7 +198,7 @@ box_kids-loop-premise-preserved t c =
     let inv = c.loop-premise.invariant in
     let start = c.args.cursor.now in
     let here = c.loop-premise.cursor in
-    let terms = terms_of here in
+    let terms = cursor_terms here in
     let work = c.loop-premise.work in
     let kids = c.loop-premise.kids.items in
     let p = c.premise-item.result in
@@ -223,7 +223,7 @@ box_kids-loop-premise-preserved t c =
                 let so = inv.kids d is f in
                 let made = step.made (box-data o d ps i start.next here.next terms work kids so p within at_i w.in-Holds.it w.in-Holds.is)
                 (box-kid o d ps i start.next here.next terms work kids so p within at_i w.in-Holds.it w.in-Holds.is) in
-                boxes-next o d ps i start.next here.next terms work kids so p within at_i w.in-Holds.it w.in-Holds.is (terms_of new) w.box_kid.new.work w.in_ok-box_kid-in-Holds.field-0 w.push.new.self.items new.next
+                boxes-next o d ps i start.next here.next terms work kids so p within at_i w.in-Holds.it w.in-Holds.is (cursor_terms new) w.box_kid.new.work w.in_ok-box_kid-in-Holds.field-0 w.push.new.self.items new.next
                 w.in_ok-push-in-Holds.ensures.items made.0 made.1 made.2;
           })
       | box_kids-in-Apart w ↦
@@ -237,5 +237,5 @@ box_kids-loop-premise-preserved t c =
 
 pub box_kids-returns-clause-made : goal.box_kids-returns-clause-made
 box_kids-returns-clause-made t c = λ d is f.
-    let e = boxes-end c.args.origin.now d c.deref-premise-items.result.now c.loop-premise.premise-index c.args.cursor.now.next c.loop-premise.cursor.next (terms_of c.loop-premise.cursor) c.loop-premise.work c.loop-premise.kids.items (c.loop-premise.invariant.kids d is f) c.loop-premise-test.false in
+    let e = boxes-end c.args.origin.now d c.deref-premise-items.result.now c.loop-premise.premise-index c.args.cursor.now.next c.loop-premise.cursor.next (cursor_terms c.loop-premise.cursor) c.loop-premise.work c.loop-premise.kids.items (c.loop-premise.invariant.kids d is f) c.loop-premise-test.false in
     (e.kids_are, e.end, e.followed)

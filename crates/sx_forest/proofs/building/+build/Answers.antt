@@ -5,7 +5,7 @@ use Rattle.sx_grammar.specs.Items.{Span}
 use Rattle.sx_forest.specs.declared.step.Step.TheVariants as steps
 use Rattle.sx_forest.specs.Readings.{plain_reading, plain_readings}
 use Rattle.sx_forest.specs.Tallies.{tally_of}
-use Rattle.sx_forest.specs.Table.{IsSoundBy}
+use Rattle.sx_forest.specs.Table.{CountsReadings}
 use Rattle.sx_forest.specs.Forests.{grammar_in, tokens_in, lists_in, symbols_of, depth_in, IsReadTo}
 use Rattle.sx_forest.specs.Forests.{IsItemStep, HasKids, IsBy, IsReadingMade}
 use Rattle.sx_forest.proofs.Stepwise.{count_long}
@@ -17,14 +17,14 @@ pub build-wrap-requires : goal.build-wrap-requires
 build-wrap-requires t c =
     let F = c.args.forest in let e = c.args.entry in let head = c.in-By.head in
     let span : Span (grammar_in F) (tokens_in F) F.start head c.args.from e.to =
-    (subst (λ m. IsSoundBy (grammar_in F) (tokens_in F) F.start m c.args.from e.to (tally_of e.ways)) c.in-By.is c.requires.entry.sound).0 in
+    (subst (λ m. CountsReadings (grammar_in F) (tokens_in F) F.start m c.args.from e.to (tally_of e.ways)) c.in-By.is c.requires.entry.sound).0 in
     kids_alone (grammar_in F) (tokens_in F) F.start head c.args.from e.to span (plain_readings c.read_alone.new.kids.items) (c.in_ok-read_alone-in-By.ensures.yes c.if-branch.true e.to span)
 
 pub build-returns-then-branch : goal.build-returns-then-branch
 build-returns-then-branch t c =
     let F = c.args.forest in let e = c.args.entry in let head = c.in-By.head in let kids = plain_readings c.read_alone.new.kids.items in
     let span : Span (grammar_in F) (tokens_in F) F.start head c.args.from e.to =
-    (subst (λ m. IsSoundBy (grammar_in F) (tokens_in F) F.start m c.args.from e.to (tally_of e.ways)) c.in-By.is c.requires.entry.sound).0 in
+    (subst (λ m. CountsReadings (grammar_in F) (tokens_in F) F.start m c.args.from e.to (tally_of e.ways)) c.in-By.is c.requires.entry.sound).0 in
     IfOk-weaker c.wrap.result (λ r. IsReadingMade head kids c.args.from e.to (plain_reading r))
     (λ r. IsBy (grammar_in F) (tokens_in F) e.maker c.args.from e.to (plain_reading r))
     (λ r made. subst (λ m. IsBy (grammar_in F) (tokens_in F) m c.args.from e.to (plain_reading r)) (sym c.in-By.is)

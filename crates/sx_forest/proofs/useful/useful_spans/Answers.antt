@@ -5,7 +5,7 @@ use Rattle.sx_grammar.specs.Grammar.{production_of}
 use Rattle.sx_earley.specs.Shown.{plain, literal_texts, token_of, tokens_of}
 use Rattle.sx_earley.specs.Completed.{head_of}
 use Rattle.sx_earley.specs.declared.span.Span.{Span}
-use Rattle.sx_forest.specs.Useful.{IsProductionKept, levels_at, Keeps}
+use Rattle.sx_forest.specs.Useful.{IsProductionKept, levels_at, KeepsHead}
 use Rattle.sx_forest.proofs.Using.{met_by_numbers}
 use Rattle.sx_forest.proofs.Filling.{no_span}
 use Rattle.sx_forest.proofs.Sifting.{Sifted, none_taken, sift_none, sift_more, sift_less, sifted_only, sifted_every, sifted_once}
@@ -14,13 +14,13 @@ use Rattle.sx_forest.proofs.useful.useful_spans.Goals.{then-keeps+in_ok-push, el
 
 pub loop-span-init : goal.loop-span-init
 loop-span-init c =
-    let P : Span → Type 0 = λ s. Keeps (plain c.args.grammar.now) c.in_ok-levels.levels (head_of s.of) s.to in
+    let P : Span → Type 0 = λ s. KeepsHead (plain c.args.grammar.now) c.in_ok-levels.levels (head_of s.of) s.to in
     subst (λ l. Sifted P l c.new-useful.result.items) (sym (none_taken c.args.spans.now)) (subst (Sifted P []) (sym c.new-useful.ensures.items) sift_none)
 
 pub loop-span-preserved : goal.loop-span-preserved
 loop-span-preserved c =
     let g = plain c.args.grammar.now in let levels = c.in_ok-levels.levels in
-    let P : Span → Type 0 = λ s. Keeps g levels (head_of s.of) s.to in
+    let P : Span → Type 0 = λ s. KeepsHead g levels (head_of s.of) s.to in
     let spans = c.args.spans.now in let n = c.loop-span.span-index in let s = get_or spans n no_span in
     let more : take (n + 1) spans ≡ take n spans ++ s ∷ [] = take_more spans n no_span c.loop-span-test.true in
     let row : c.at.result.now ≡ levels_at levels s.to = c.at.ensures in
@@ -41,7 +41,7 @@ pub returns : goal.returns
 returns c =
     let g = plain c.args.grammar.now in let ts = tokens_of c.args.grammar.now c.args.shown.now in
     let levels = c.in_ok-levels.levels in let spans = c.args.spans.now in
-    let P : Span → Type 0 = λ s. Keeps g levels (head_of s.of) s.to in
+    let P : Span → Type 0 = λ s. KeepsHead g levels (head_of s.of) s.to in
     let long : length ts ≡ length c.args.shown.now = length-map c.args.shown.now (token_of (literal_texts c.args.grammar.now)) in
     let sifted : Sifted P spans c.loop-span.useful.items =
     subst (λ l. Sifted P l c.loop-span.useful.items) (take_all c.loop-span.span-index spans (omega arith)) c.loop-span.invariant in

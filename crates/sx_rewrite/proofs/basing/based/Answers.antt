@@ -5,7 +5,7 @@ use Rattle.sx_term.specs.Tree.{Tree}
 use Rattle.sx_rules.specs.Rules.{Rule}
 use Rattle.sx_rules.specs.Sets.{bare_rules_in}
 use Rattle.sx_plain.specs.declared.measure.Measure.{Measure}
-use Rattle.sx_rewrite.specs.Rewriting.{Refusal, first_over}
+use Rattle.sx_rewrite.specs.Rewriting.{RewriteRefusal, first_over}
 use Rattle.sx_rewrite.specs.Measured.{node_terms}
 use Rattle.sx_rewrite.specs.Puts.{AreMeasuresOf, Tells, Answers}
 use Rattle.sx_rewrite.proofs.Puts.{node-left, node-right}
@@ -41,7 +41,7 @@ returns-in_err-check_conclusion c = λ more p.
     let none = (c.in_ok-check_measures.ensures more measures).0 in
     err_is (Answers (first_over (node_terms rule more)) (λ x. map tree x.items ≡ more)) c.from_residual-in_err-check_conclusion.result _ c.from_residual-in_err-check_conclusion.ensures.1
     (λ e same. subst (Tells (first_over (node_terms rule more))) (sym same)
-    (subst (λ (o : Option Refusal). Tells o c.in_err-check_conclusion.field-0.0) (sym (node-right rule more none)) (c.in_err-check_conclusion.ensures more later)))
+    (subst (λ (o : Option RewriteRefusal). Tells o c.in_err-check_conclusion.field-0.0) (sym (node-right rule more none)) (c.in_err-check_conclusion.ensures more later)))
 
 pub returns : goal.returns
 returns c = λ more p.

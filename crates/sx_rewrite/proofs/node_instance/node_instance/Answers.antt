@@ -6,7 +6,7 @@ use Rattle.sx_rules.specs.Rules.{Rule}
 use Rattle.sx_term.specs.Instances.{instance, bound_by}
 use Rattle.sx_rules.specs.Sets.{bare_rules_in}
 use Rattle.sx_plain.specs.declared.measure.Measure.{Measure}
-use Rattle.sx_rewrite.specs.Rewriting.{Refusal, first_over}
+use Rattle.sx_rewrite.specs.Rewriting.{RewriteRefusal, first_over}
 use Rattle.sx_rewrite.specs.Measured.{node_terms}
 use Rattle.sx_rewrite.specs.Puts.{AreMeasuresOf, Tells, Answers}
 use Rattle.sx_rewrite.proofs.Puts.{node-left, node-right}
@@ -39,7 +39,7 @@ returns-in_err-check_conclusion c = λ more p.
     let measures = subst (λ (ms : List Measure). AreMeasuresOf binds ms) (sym c.deref.ensures.value) made.1.0 in
     err_is (Answers over (λ x. map tree x.items ≡ binds)) c.from_residual-in_err-check_conclusion.result _ c.from_residual-in_err-check_conclusion.ensures.1
     (λ e same. subst (Tells over) (sym same)
-    (subst (λ (o : Option Refusal). Tells o c.in_err-check_conclusion.field-0.0) (sym (node-right rule binds made.0)) (c.in_err-check_conclusion.ensures binds measures)))
+    (subst (λ (o : Option RewriteRefusal). Tells o c.in_err-check_conclusion.field-0.0) (sym (node-right rule binds made.0)) (c.in_err-check_conclusion.ensures binds measures)))
 
 pub returns : goal.returns
 returns c = λ more p.

@@ -10,9 +10,9 @@ use Rattle.sx_steps.proofs.StepsOn.{goes_from, stops_at, untried}
 use Rattle.sx_accepting.specs.ReadLanguage.{stated_of}
 use Rattle.sx_headers.specs.ReadModule.{module_of}
 use Rattle.sx_importing.specs.ReadImports.{import_of, ReadsImports}
-use Rattle.sx_compiling.specs.Given.{Given}
+use Rattle.sx_compiling.specs.Given.{GivenModule}
 use Rattle.sx_compiling.specs.MakeUnit.{MakesUnit}
-use Rattle.sx_sampling.specs.SampleSteps.{sample_file, sample_budgets, given_in}
+use Rattle.sx_sampling.specs.SampleSteps.{sample_file, sample_budgets, given_for_sample}
 use Rattle.sx_compiling.proofs.GivenAlike.{imports_of, given_same}
 use Rattle.sx_sampling.proofs.sample_unit.make_over.Goals as goal
 
@@ -36,7 +36,7 @@ returns-in-Ok-clause-step g c = λ files told.
     let l = stated_of c.args.language.now in
     let its = map import_of c.in-Ok.imports.items in
     goes_from unit_of (Untried (ReadsImports files m.header.imports))
-    (λ is. MakesUnit sample_budgets files (given_in m l is)) its c.make_unit-unit.result
+    (λ is. MakesUnit sample_budgets files (given_for_sample m l is)) its c.make_unit-unit.result
     c.args.steps.now c.args.steps.now c.make_unit-unit.new.steps (
       0,
       (
@@ -46,7 +46,7 @@ returns-in-Ok-clause-step g c = λ files told.
       ),
       omega arith,
     )
-    (subst (λ (given : Given). Does unit_of (MakesUnit sample_budgets files given)
+    (subst (λ (given : GivenModule). Does unit_of (MakesUnit sample_budgets files given)
     c.make_unit-unit.result c.args.steps.now c.make_unit-unit.new.steps)
     (given_same m l c.args.file.now sample_file c.deref-in-Ok.result.now c.in-Ok.imports.items
     c.requires.file c.deref-in-Ok.ensures.value)
@@ -57,7 +57,7 @@ returns-in-Err-clause-step g c = λ files told.
     let m = module_of c.args.source.now in
     let l = stated_of c.args.language.now in
     stops_at imports_of unit_of (Untried (ReadsImports files m.header.imports))
-    (λ is. MakesUnit sample_budgets files (given_in m l is)) c.in-Err.e c.args.steps.now
+    (λ is. MakesUnit sample_budgets files (given_for_sample m l is)) c.in-Err.e c.args.steps.now
     c.args.steps.now
     (untried imports_of (ReadsImports files m.header.imports) (Err c.in-Err.e) c.args.steps.now
     (subst (λ (names : List (List ℕ)). Gives imports_of (ReadsImports files names)

@@ -2,7 +2,7 @@ use Rattle.std.proofs.Common.{ℕ, List, subst}
 use Rattle.sx_steps.specs.Steps.{NoTries}
 use Rattle.sx_steps.specs.Work.{plan_of}
 use Rattle.sx_steps.proofs.StepsOn.{lacks_first}
-use Rattle.sx_top.specs.ReadCore.{core_file, Reads}
+use Rattle.sx_top.specs.ReadCore.{core_file, ReadsCore}
 use Rattle.sx_top.specs.BuildCore.{BuildsGoal, BuildsFrom}
 use Rattle.sx_steps.specs.Stop.{Does}
 use Rattle.sx_top.proofs.build_core.plan_build_core.Goals as goal
@@ -13,4 +13,4 @@ returns-in-Ok-clause-step g c = λ files told.
 
 pub returns-in-Err-clause-step : goal.returns-in-Err-clause-step
 returns-in-Err-clause-step g c = λ files told.
-    lacks_first plan_of NoTries (Reads (core_file c.args.name.now) files) (BuildsGoal c.args.name.now (core_file c.args.name.now) c.args.budget) c.args.steps.now
+    lacks_first plan_of NoTries (ReadsCore (core_file c.args.name.now) files) (BuildsGoal c.args.name.now (core_file c.args.name.now) c.args.budget) c.args.steps.now

@@ -7,7 +7,7 @@ use Rattle.sx_grammar.specs.ReadOne.{IsAnswer, only}
 use Rattle.sx_grammar.specs.Print.{term_of}
 use Rattle.sx_earley.specs.Tokens.{plain_tokens}
 use Rattle.sx_earley.specs.Completed.{sort_number}
-use Rattle.sx_forest.specs.Names.{IsMarked, names_in, AddsEach}
+use Rattle.sx_forest.specs.Names.{IsMarked, reading_names, AddsEach}
 use Rattle.sx_forest.specs.Readings.{plain_reading}
 use Rattle.sx_notation.proofs.TextReading.{err_if}
 use Rattle.sx_typing.specs.Unread.{IsUnreadText}
@@ -37,11 +37,11 @@ strip-requires-clause-room c =
     let ts = c.in_ok-tokens.tokens.items in
     let answer = subst (λ (l : List Token). IsAnswer (numbered p) (plain_tokens [] l)
     (sort_number c.args.sort) (only r)) c.deref.ensures.value c.in-Ok.ensures.only in
-    let none : length (names_in ts r) ≡ 0 =
+    let none : length (reading_names ts r) ≡ 0 =
     ap length (has_no_names p c.args.text.now ts c.in_ok-tokens.ensures.cut c.args.sort r
     answer) in
-    let here : length (names_in c.deref-2.result.now r) ≡ 0 =
-    subst (λ (l : List Token). length (names_in l r) ≡ 0) (sym c.deref-2.ensures.value) none in
+    let here : length (reading_names c.deref-2.result.now r) ≡ 0 =
+    subst (λ (l : List Token). length (reading_names l r) ≡ 0) (sym c.deref-2.ensures.value) none in
     let new : length c.new-names.result ≡ 0 = ap length c.new-names.ensures in
     omega (arith, here, new)
 
@@ -52,9 +52,9 @@ returns-in-Ok-strip-clause-read c =
     let ts = c.in_ok-tokens.tokens.items in
     let answer = subst (λ (l : List Token). IsAnswer (numbered p) (plain_tokens [] l)
     (sort_number c.args.sort) (only r)) c.deref.ensures.value c.in-Ok.ensures.only in
-    let names = subst (λ (l : List Token). AddsEach c.new-names.result (names_in l r)
+    let names = subst (λ (l : List Token). AddsEach c.new-names.result (reading_names l r)
     c.strip.new.vars) c.deref-2.ensures.value c.in-Ok-strip.ensures.names in
-    let fresh = subst (λ (l : List Text). AddsEach l (names_in ts r) c.strip.new.vars)
+    let fresh = subst (λ (l : List Text). AddsEach l (reading_names ts r) c.strip.new.vars)
     c.new-names.ensures names in
     reads_as p c.args.text.now ts c.in_ok-tokens.ensures.cut c.args.sort r answer c.strip.new.vars
     (tree c.in-Ok-strip.term) fresh

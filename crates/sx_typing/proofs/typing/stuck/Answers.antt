@@ -9,9 +9,9 @@ use Rattle.sx_derive.specs.declared.derive_error.DeriveError.TheVariants.{Underi
 use Rattle.sx_derive.specs.Blames.{blame_of}
 use Rattle.sx_typing.specs.Goals.{goal_with as goal_for, IsFoundBy}
 use Rattle.sx_typing.specs.Outcomes.{IsBlameIn}
-use Rattle.sx_typing.specs.Refused.{HasBody, IsBadSource}
+use Rattle.sx_typing.specs.Refused.{HasReadBody, IsBadSource}
 use Rattle.sx_typing.specs.BodySource.{source_of}
-use Rattle.sx_typing.specs.TypeErrors.{IsTypeError}
+use Rattle.sx_typing.specs.TypeErrors.{TellsTypeError}
 use Rattle.sx_typing.proofs.Finding.{exhausted_goals_fit}
 use Rattle.sx_typing.proofs.TypedBodies.{ok_if, size_is, source_goal}
 use Rattle.sx_typing.proofs.TypeErrors.{is_type_error}
@@ -52,7 +52,7 @@ returns c =
     let r = plain_reading c.args.body.now.reading in
     let ts = c.args.body.now.tokens.items in
     let blame = blame_of c.args.blame.now in
-    let b : HasBody s = record {
+    let b : HasReadBody s = record {
       tokens = ts;
       reading = r;
       subject = subject;
@@ -60,7 +60,7 @@ returns c =
           c.requires.body;
     } in
     let before = length s.bytes - length c.body_of.result.now in
-    ok_if c.type_error.result (IsTypeError s.dialect s.bytes before (length s.bytes - before) ts r
+    ok_if c.type_error.result (TellsTypeError s.dialect s.bytes before (length s.bytes - before) ts r
     blame)
     (λ e. (tries : ℕ) → IsFoundBy s tries subject (Err (Underivable c.args.blame.now)) →
     IsBadSource s tries e)

@@ -8,7 +8,7 @@ use Rattle.sx_rules.specs.Views.{goal as goal_of}
 use Rattle.sx_rules.proofs.Refusals.{good_moded}
 use Rattle.sx_derive.specs.Search.{tries_of}
 use Rattle.sx_derive.proofs.FewNodes.{tries_within}
-use Rattle.sx_typing.specs.Goals.{goal_events}
+use Rattle.sx_typing.specs.Goals.{source_events}
 use Rattle.sx_typing.specs.BodySource.{source_of}
 use Rattle.sx_typing.proofs.MainForms.{main_form_within}
 use Rattle.sx_typing.proofs.TypedBodies.{source_goal, found_good, one_listed, typed_by}
@@ -50,7 +50,7 @@ returns-in-Ok-clause-typed g c =
 
 pub returns-in-Ok-clause-most : goal.returns-in-Ok-clause-most
 returns-in-Ok-clause-most g c =
-    let es = goal_events (source_of c.args.source.now) (tree c.args.body.now.term) in
+    let es = source_events (source_of c.args.source.now) (tree c.args.body.now.term) in
     counted_most (tries_of None c.args.tries es) c.args.steps.now c.search.new.steps c.args.tries
     (Ok c.in-Ok.listed) (tries_within None c.args.tries es) c.in-Ok.ensures.steps
 
@@ -72,12 +72,12 @@ returns-in-Err-clause-untyped g c =
 
 pub returns-in-Err-clause-tries : goal.returns-in-Err-clause-tries
 returns-in-Err-clause-tries g c =
-    let es = goal_events (source_of c.args.source.now) (tree c.args.body.now.term) in
+    let es = source_events (source_of c.args.source.now) (tree c.args.body.now.term) in
     tried (tries_of None c.args.tries es) c.args.steps.now c.search.new.steps c.in-Err.error
     c.no_derivation.result c.in-Err.ensures.steps c.no_derivation.ensures.memory
 
 pub returns-in-Err-clause-most : goal.returns-in-Err-clause-most
 returns-in-Err-clause-most g c =
-    let es = goal_events (source_of c.args.source.now) (tree c.args.body.now.term) in
+    let es = source_events (source_of c.args.source.now) (tree c.args.body.now.term) in
     counted_most (tries_of None c.args.tries es) c.args.steps.now c.search.new.steps c.args.tries
     (Err c.in-Err.error) (tries_within None c.args.tries es) c.in-Err.ensures.steps

@@ -2,7 +2,7 @@ use Rattle.std.proofs.Common.{refl, sym, subst}
 use Rattle.std.specs.Prelude.{Err}
 use Rattle.sx_term.specs.Term.{tree}
 use Rattle.sx_forest.specs.Readings.{plain_reading}
-use Rattle.sx_typing.specs.Refused.{HasBody}
+use Rattle.sx_typing.specs.Refused.{HasReadBody}
 use Rattle.sx_typing.specs.declared.module_error.ModuleError.{ModuleError}
 use Rattle.sx_unit.specs.Modules.{module_data}
 use Rattle.sx_unit.specs.Refused.{IsBadModule, IsCounted}
@@ -21,7 +21,7 @@ pub returns-in_err-typed-clause-tries : goal.returns-in_err-typed-clause-tries
 returns-in_err-typed-clause-tries g c =
     let m = module_data c.args.given.now in
     let body = c.args.body.now in
-    let b : HasBody m.source = record {
+    let b : HasReadBody m.source = record {
       tokens = body.tokens.items;
       reading = plain_reading body.reading;
       subject = tree body.term;
@@ -38,7 +38,7 @@ pub returns-clause-tries : goal.returns-clause-tries
 returns-clause-tries g c =
     let m = module_data c.args.given.now in
     let body = c.args.body.now in
-    let b : HasBody m.source = record {
+    let b : HasReadBody m.source = record {
       tokens = body.tokens.items;
       reading = plain_reading body.reading;
       subject = tree body.term;

@@ -1,7 +1,7 @@
 use Rattle.std.proofs.Common.{List, map, refl, sym, ◌∙◌, subst, Vec}
 use Rattle.std.specs.Global.{Global}
 use Rattle.std.specs.List.{AllByRecursion}
-use Rattle.sx_interface.specs.Interfaces.{InterfaceParts, Mark}
+use Rattle.sx_interface.specs.Interfaces.{InterfaceParts, MarkData}
 use Rattle.sx_interface.specs.InterfaceView.{mark_view}
 use Rattle.sx_environment.specs.SeenFrom.{IsShort, interfaces_of}
 use Rattle.sx_interface.specs.declared.import.Import.{Import}
@@ -47,8 +47,8 @@ loop-i-preserved g c =
       names = have_next (mark_names marks)
           (map (λ (it : InterfaceParts). it.name) (interfaces_of c.loop-i.imports.items))
           (map (λ (it : InterfaceParts). it.name) (interfaces_of c.read_next.new.imports.items))
-          i m.name (seen_within (λ (x : Mark). x.name) marks i within)
-          (seen_at (λ (x : Mark). x.name) marks i (mark_view m) within at)
+          i m.name (seen_within (λ (x : MarkData). x.name) marks i within)
+          (seen_at (λ (x : MarkData). x.name) marks i (mark_view m) within at)
           c.in-Ok.ensures.names before.names;
       content = c.in-Ok.ensures.reads.content ∙ before.content;
       reads = c.in-Ok.ensures.reads.kept (λ fault. fault) ∙ before.reads;

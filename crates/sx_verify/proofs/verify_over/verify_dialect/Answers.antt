@@ -14,7 +14,7 @@ use Rattle.sx_steps.specs.Work.{plan_of}
 use Rattle.sx_steps.proofs.StepsOn.{goes_next, stops_first}
 use Rattle.sx_accepting.specs.ReadLanguage.{stated_of}
 use Rattle.sx_importing.specs.MakeEnvironment.{SeesImports}
-use Rattle.sx_verify.specs.Ground.{seen_in}
+use Rattle.sx_verify.specs.Ground.{seen_alone}
 use Rattle.sx_verify.specs.VerifyModule.{VerifiesBody}
 use Rattle.sx_verify.specs.WrittenFiles.{written_of}
 use Rattle.sx_verify.proofs.OverTerms.{literals_same, named, seen_with, seen_same}
@@ -46,7 +46,7 @@ returns-in-Ok-clause-step g c = λ files told.
     let given = c.args.dialect.now.language.now.name in
     let same = seen_same d l given own [] c.requires.bare
     (ap (λ (x : Language). x.name) c.requires.same ∙ c.requires.over.named) refl in
-    goes_next plan_of (SeesImports (base_file name) (seen_in own l) its)
+    goes_next plan_of (SeesImports (base_file name) (seen_alone own l) its)
     (VerifiesBody name files w l) t c.verify_body-work.result
     (subst (λ (s : SeenFrom). SeesImports (base_file name) s its (Ok t)) same
     (subst (λ (file : List ℕ). SeesImports file (seen_with d given l.digest []) its (Ok t))
@@ -66,7 +66,7 @@ returns-in-Err-clause-step g c = λ files told.
     let given = c.args.dialect.now.language.now.name in
     let same = seen_same d l given own [] c.requires.bare
     (ap (λ (x : Language). x.name) c.requires.same ∙ c.requires.over.named) refl in
-    stops_first tree plan_of (SeesImports (base_file name) (seen_in own l) its)
+    stops_first tree plan_of (SeesImports (base_file name) (seen_alone own l) its)
     (VerifiesBody name files w l) c.in-Err.e
     (subst (λ (s : SeenFrom). Gives tree (SeesImports (base_file name) s its) (Err c.in-Err.e))
     same

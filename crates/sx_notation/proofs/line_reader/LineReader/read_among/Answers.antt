@@ -1,6 +1,6 @@
 use Rattle.std.proofs.Common.{◌+◌, ◌<◌, ◌^◌, ℕ, List, [], length, sym, subst}
 use Rattle.sx_term.specs.Term.{tree}
-use Rattle.sx_forest.specs.Names.{names_in}
+use Rattle.sx_forest.specs.Names.{reading_names}
 use Rattle.sx_forest.specs.Readings.{plain_reading}
 use Rattle.sx_notation.specs.ReadAmong.{IsNamedCut, IsRefusedAmong}
 use Rattle.sx_notation.proofs.TextReading.{err_if, answer_at, is_marked, has_room}
@@ -43,7 +43,7 @@ strip-requires-clause-room c =
     let r = plain_reading c.in_ok-reading.reading in
     let cut = subst (IsNamedCut p stems c.args.names.now line) (sym c.deref-2.ensures.value) c.in_ok-tokens.ensures.named in
     let answer = answer_at p stems c.args.sort r c.in_ok-tokens.tokens.items c.deref.result.now ts c.deref.ensures.value c.deref-2.ensures.value c.in_ok-reading.ensures.only in
-    subst (λ (names : List (List ℕ)). length names + length (names_in ts r) < 2 ^ 32) (sym c.in_ok-tokens.ensures.same) (has_room p stems line ts cut.0 c.args.sort r answer c.args.names.now c.requires.room)
+    subst (λ (names : List (List ℕ)). length names + length (reading_names ts r) < 2 ^ 32) (sym c.in_ok-tokens.ensures.same) (has_room p stems line ts cut.0 c.args.sort r answer c.args.names.now c.requires.room)
 
 pub returns-clause-read : goal.returns-clause-read
 returns-clause-read c =

@@ -1,7 +1,7 @@
 use Rattle.std.proofs.Common.{◌≡◌, Some, None, sym, subst, ◌∙◌}
 use Rattle.std.proofs.lemmas.Bool.{false≢true}
 use Rattle.sx_outline.specs.Declarations.{declared_form}
-use Rattle.sx_outline.specs.Fitting.{form_names}
+use Rattle.sx_outline.specs.Fitting.{declared_form_names}
 use Rattle.sx_outline.specs.MainSorts.{AreMainSorts}
 use Rattle.sx_outline.specs.View.{known}
 use Rattle.sx_outline.proofs.PlaceLaws.{first_at, found_first}
@@ -12,7 +12,7 @@ pub returns-in-Some-constructors : goal.returns-in-Some-constructors
 returns-in-Some-constructors c =
     let k = c.args.self.now in
     let f = c.index.result.now in
-    let found : first_at c.args.row.now.form (form_names (known k)) ≡ Some c.in-Some.form = found_first (form_names (known k)) k.tables.forms c.args.row.now.form c.place.result k.tabled.forms_found c.place.ensures ∙ c.in-Some.is in
+    let found : first_at c.args.row.now.form (declared_form_names (known k)) ≡ Some c.in-Some.form = found_first (declared_form_names (known k)) k.tables.forms c.args.row.now.form c.place.result k.tabled.forms_found c.place.ensures ∙ c.in-Some.is in
     main_is (known k) c.args.row.now c.in-Some.form c.in-Some-constructors.empty c.in-Some-constructors.add (declared_form f) c.in-Some-main_sorts.environment.now c.in-Some-main_sorts.signature.now found
     (form_found k.rows.forms.items c.args.row.now.form c.in-Some.form f found c.index.ensures)
     (subst (λ symbols. AreMainSorts symbols c.in-Some-main_sorts.environment.now c.in-Some-main_sorts.signature.now) c.deref.ensures.value c.in-Some-main_sorts.ensures)
@@ -22,7 +22,7 @@ pub returns-then-not-is_plain : goal.returns-then-not-is_plain
 returns-then-not-is_plain c =
     let k = c.args.self.now in
     let f = c.index.result.now in
-    let found : first_at c.args.row.now.form (form_names (known k)) ≡ Some c.in-Some.form = found_first (form_names (known k)) k.tables.forms c.args.row.now.form c.place.result k.tabled.forms_found c.place.ensures ∙ c.in-Some.is in
+    let found : first_at c.args.row.now.form (declared_form_names (known k)) ≡ Some c.in-Some.form = found_first (declared_form_names (known k)) k.tables.forms c.args.row.now.form c.place.result k.tabled.forms_found c.place.ensures ∙ c.in-Some.is in
     no_main_plain (known k) c.args.row.now c.in-Some.form (declared_form f) c.in-Some-main_sorts.environment.now c.in-Some-main_sorts.signature.now found
     (form_found k.rows.forms.items c.args.row.now.form c.in-Some.form f found c.index.ensures)
     (subst (λ symbols. AreMainSorts symbols c.in-Some-main_sorts.environment.now c.in-Some-main_sorts.signature.now) c.deref.ensures.value c.in-Some-main_sorts.ensures)
@@ -32,7 +32,7 @@ pub returns-in-None-constructors : goal.returns-in-None-constructors
 returns-in-None-constructors c =
     let k = c.args.self.now in
     let f = c.index.result.now in
-    let found : first_at c.args.row.now.form (form_names (known k)) ≡ Some c.in-Some.form = found_first (form_names (known k)) k.tables.forms c.args.row.now.form c.place.result k.tabled.forms_found c.place.ensures ∙ c.in-Some.is in
+    let found : first_at c.args.row.now.form (declared_form_names (known k)) ≡ Some c.in-Some.form = found_first (declared_form_names (known k)) k.tables.forms c.args.row.now.form c.place.result k.tabled.forms_found c.place.ensures ∙ c.in-Some.is in
     no_main_constructors (known k) c.args.row.now c.in-Some.form (declared_form f) c.in-Some-main_sorts.environment.now c.in-Some-main_sorts.signature.now found
     (form_found k.rows.forms.items c.args.row.now.form c.in-Some.form f found c.index.ensures)
     (subst (λ symbols. AreMainSorts symbols c.in-Some-main_sorts.environment.now c.in-Some-main_sorts.signature.now) c.deref.ensures.value c.in-Some-main_sorts.ensures)
@@ -42,7 +42,7 @@ pub returns-in-None-main_sorts : goal.returns-in-None-main_sorts
 returns-in-None-main_sorts c = λ main h.
     let k = c.args.self.now in
     let f = c.index.result.now in
-    let found : first_at c.args.row.now.form (form_names (known k)) ≡ Some c.in-Some.form = found_first (form_names (known k)) k.tables.forms c.args.row.now.form c.place.result k.tabled.forms_found c.place.ensures ∙ c.in-Some.is in
+    let found : first_at c.args.row.now.form (declared_form_names (known k)) ≡ Some c.in-Some.form = found_first (declared_form_names (known k)) k.tables.forms c.args.row.now.form c.place.result k.tabled.forms_found c.place.ensures ∙ c.in-Some.is in
     c.in-None-main_sorts.ensures h.environment h.signature
     (subst (λ symbols. AreMainSorts symbols h.environment h.signature) (sym c.deref.ensures.value)
     (main_sorts_at (known k) c.args.row.now c.in-Some.form (declared_form f) found (form_found k.rows.forms.items c.args.row.now.form c.in-Some.form f found c.index.ensures) main h))
@@ -50,5 +50,5 @@ returns-in-None-main_sorts c = λ main h.
 pub returns-in-None : goal.returns-in-None
 returns-in-None c =
     let k = c.args.self.now in
-    let none : first_at c.args.row.now.form (form_names (known k)) ≡ None = found_first (form_names (known k)) k.tables.forms c.args.row.now.form c.place.result k.tabled.forms_found c.place.ensures ∙ c.in-None.is in
+    let none : first_at c.args.row.now.form (declared_form_names (known k)) ≡ None = found_first (declared_form_names (known k)) k.tables.forms c.args.row.now.form c.place.result k.tabled.forms_found c.place.ensures ∙ c.in-None.is in
     no_main_place (known k) c.args.row.now none
