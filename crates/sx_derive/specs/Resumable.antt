@@ -1,5 +1,24 @@
 -- Searches that can be taken up again.
-use Rattle.std.specs.Prelude.{◌≡◌, ℕ, ◌+◌, ◌-◌, ◌^◌, ◌≤◌, ◌<◌, ◌⊎◌, List, [], ◌∷◌, map, length, min, Some, Result, Ok, Err}
+use Rattle.std.specs.Prelude.{
+  ◌≡◌,
+  ℕ,
+  ◌+◌,
+  ◌-◌,
+  ◌^◌,
+  ◌≤◌,
+  ◌<◌,
+  ◌⊎◌,
+  List,
+  [],
+  ◌∷◌,
+  map,
+  length,
+  min,
+  Some,
+  Result,
+  Ok,
+  Err,
+}
 use Rattle.sx_term.specs.Term.{tree}
 use Rattle.sx_term.specs.declared.no_memory.NoMemory.{NoMemory}
 use Rattle.sx_rules.specs.Rules.{Judgement, Rule, Hypotheses}

@@ -22,7 +22,7 @@ use Rattle.sx_derive.specs.Handing.{answer_in}
 use Rattle.sx_derive.specs.Store.{StoreGrows, IsMark, store_trees, store_envs, store_kids}
 use Rattle.sx_derive.specs.Tasks.{events_left, TaskFits, TasksFit, Piled, wanted_in, IsTryOutcome}
 
--- after that many tries that come to nothing, the last task that has a candidate left, and the tasks
+-- after that many tries that come to nothing, the last task that has a candidate left, and those
 -- before it; or none has one
 abbrev pub IsTaskPopped : Modes → List Rule → List Pair → List Judgement → Store → ℕ → ℕ →
     List TaskOf → List TaskOf → Option TaskOf → Type 0
