@@ -1,6 +1,7 @@
 use Rattle.std.proofs.Common.{rules, arith, ℕ, ◌+◌, ◌-◌, ◌<◌, ◌++◌, ◌∷◌, [], List, length, ap, sym, subst, ◌∙◌}
 use Rattle.std.proofs.lemmas.Result.{IfOk-weaker}
 use Rattle.std.proofs.lemmas.List.{length-map}
+use Rattle.sx_rules.specs.Derivations.{Proofs}
 use Rattle.sx_rules.specs.EntryView.{entry, entries}
 use Rattle.sx_rules.specs.Orders.{Entry, of_given}
 use Rattle.sx_rules.specs.ProofView.{proof}
@@ -11,32 +12,48 @@ use Rattle.sx_expand.specs.Listed.{set_in, entries_in, StandsIn, StandInEach}
 use Rattle.sx_expand.specs.LoweredOrders.{lowered_orders, grafted_order, all_entries}
 use Rattle.sx_expand.specs.Steps.{AreNotBelow}
 use Rattle.sx_expand.proofs.EndsAt.{listed-within}
-use Rattle.sx_expand.proofs.Rows.{head-is}
-use Rattle.sx_expand.proofs.Emitting.{entries-push, entries-one, rule-at, checked-is, basic-is, given-is, Writing, writing-more, writing-last, placed-at, never-placed, left-from, left-at, grafted-opens, grafted-on}
+use Rattle.sx_expand.proofs.Rows.{IsHead, head-is}
+use Rattle.sx_expand.proofs.Emitting.{IsRuleAt, entries-push, entries-one, rule-at, checked-is, basic-is, given-is, Writing, writing-more, writing-last, placed-at, never-placed, left-from, left-at, grafted-opens, grafted-on}
 use Rattle.sx_expand.proofs.emission.+emitted.Goals as goal
+use Rattle.sx_expand.proofs.emission.+emitted.Goals.{emit-Start, emit-In-Rule, emit_kids-In-loop-at}
+
+-- the entry is in the list
+entry_is_there : (t : ℕ) (c : emit-Start t) → c.args.at < length c.args.listing.now.list.now
+entry_is_there t c = listed-within (set_in c.args.listing.now) c.args.listing.now.list.now c.args.at c.requires.stands.0 c.requires.stands.1
+
+-- the rule's node with its kids is listed there
+rule_is_listed : (t : ℕ) (c : emit-In-Rule t) → IsRuleAt (set_in c.args.listing.now) c.args.listing.now.list.now c.args.listing.now.ends.now c.requires.ends c.args.at c.entry_at.result c.entry_at.ensures c.in-Rule.number c.requires.stands.0
+rule_is_listed t c = rule-at (set_in c.args.listing.now) c.args.listing.now.list.now c.args.listing.now.ends.now c.requires.ends c.args.at c.entry_at.result c.entry_at.ensures c.in-Rule.number c.in-Rule.is c.requires.stands.0 c.requires.stands.1
+
+-- the next of the row that stands in the list
+next_in_row : (t : ℕ) (c : emit_kids-In-loop-at t) → (left : Proofs) × IsHead (set_in c.args.listing.now) (entries_in c.args.listing.now) c.args.listing.now.ends.now c.loop-at.at c.args.end left
+next_in_row t c =
+    let r = c.requires.stand in
+    let s = c.loop-at.invariant.writing r.0 (record { row = r.1; sum = r.2 }) in
+    (s.left, head-is (set_in c.args.listing.now) (entries_in c.args.listing.now) c.args.listing.now.ends.now c.loop-at.at c.args.end s.left c.requires.ends c.loop-at-test.true s.up)
 
 pub emit-entry_at-requires : goal.emit-entry_at-requires
-emit-entry_at-requires t c = listed-within (set_in c.args.listing.now) c.args.listing.now.list.now c.args.at c.requires.stands.0 c.requires.stands.1
+emit-entry_at-requires t c = entry_is_there t (goal.at.emit-entry_at-requires t c).Start
 
 pub emit-number_at-end-requires : goal.emit-number_at-end-requires
 emit-number_at-end-requires t c =
-    let w = listed-within (set_in c.args.listing.now) c.args.listing.now.list.now c.args.at c.requires.stands.0 c.requires.stands.1 in
+    let w = entry_is_there t (goal.at.emit-number_at-end-requires t c).Start in
     let m = c.requires.ends.many in
     let k = length-map c.args.listing.now.list.now entry in omega (arith, w, m, k)
 
 pub emit-overflow_add-at : goal.emit-overflow_add-at
 emit-overflow_add-at t c =
-    let w = listed-within (set_in c.args.listing.now) c.args.listing.now.list.now c.args.at c.requires.stands.0 c.requires.stands.1 in omega arith
+    let w = entry_is_there t (goal.at.emit-overflow_add-at t c).Start in omega arith
 
 pub emit-kid_places-requires-clause-stand : goal.emit-kid_places-requires-clause-stand
 emit-kid_places-requires-clause-stand t c =
-    let s = rule-at (set_in c.args.listing.now) c.args.listing.now.list.now c.args.listing.now.ends.now c.requires.ends c.args.at c.entry_at.result c.entry_at.ensures c.in-Rule.number c.in-Rule.is c.requires.stands.0 c.requires.stands.1 in
+    let s = rule_is_listed t (goal.at.emit-kid_places-requires-clause-stand t c).In-Rule in
     (s.kids, s.up.row, s.up.sum ∙ sym c.number_at-end.ensures)
 
 pub emit-emit_certificate-requires : goal.emit-emit_certificate-requires
 emit-emit_certificate-requires t c =
-    let w = listed-within (set_in c.args.listing.now) c.args.listing.now.list.now c.args.at c.requires.stands.0 c.requires.stands.1 in
-    let s = rule-at (set_in c.args.listing.now) c.args.listing.now.list.now c.args.listing.now.ends.now c.requires.ends c.args.at c.entry_at.result c.entry_at.ensures c.in-Rule.number c.in-Rule.is c.requires.stands.0 c.requires.stands.1 in
+    let w = entry_is_there t (goal.at.emit-emit_certificate-requires t c).Start in
+    let s = rule_is_listed t (goal.at.emit-emit_certificate-requires t c).In-Rule in
     let each = c.in_ok-places-in-Some.ensures.stand s.kids s.up.row (s.up.sum ∙ sym c.number_at-end.ensures) in
     let v = c.deref.ensures.value in
     let low = left-from (length c.args.listing.now.list.now) (c.args.at + 1) c.deref.result.now (subst (AreNotBelow (c.args.at + 1)) (sym v) c.in_ok-places-in-Some.ensures.after) in
@@ -45,12 +62,12 @@ emit-emit_certificate-requires t c =
 
 pub emit-overflow_add-at-in-None : goal.emit-overflow_add-at-in-None
 emit-overflow_add-at-in-None t c =
-    let w = listed-within (set_in c.args.listing.now) c.args.listing.now.list.now c.args.at c.requires.stands.0 c.requires.stands.1 in omega arith
+    let w = entry_is_there t (goal.at.emit-overflow_add-at-in-None t c).Start in omega arith
 
 pub emit-emit_kids-requires : goal.emit-emit_kids-requires
 emit-emit_kids-requires t c =
-    let w = listed-within (set_in c.args.listing.now) c.args.listing.now.list.now c.args.at c.requires.stands.0 c.requires.stands.1 in
-    let s = rule-at (set_in c.args.listing.now) c.args.listing.now.list.now c.args.listing.now.ends.now c.requires.ends c.args.at c.entry_at.result c.entry_at.ensures c.in-Rule.number c.in-Rule.is c.requires.stands.0 c.requires.stands.1 in
+    let w = entry_is_there t (goal.at.emit-emit_kids-requires t c).Start in
+    let s = rule_is_listed t (goal.at.emit-emit_kids-requires t c).In-Rule in
     (search rules, (c.requires.ends, (s.kids, s.up.row, s.up.sum ∙ sym c.number_at-end.ensures)))
 
 pub emit-returns-in_ok-places-in-Some : goal.emit-returns-in_ok-places-in-Some
@@ -123,24 +140,18 @@ emit_certificate-returns-in_ok-push-in-Given t c = λ ps h.
 
 pub emit_kids-emit-requires : goal.emit_kids-emit-requires
 emit_kids-emit-requires t c =
-    let r = c.requires.stand in
-    let s = c.loop-at.invariant.writing r.0 (record { row = r.1; sum = r.2 }) in
-    let h = head-is (set_in c.args.listing.now) (entries_in c.args.listing.now) c.args.listing.now.ends.now c.loop-at.at c.args.end s.left c.requires.ends c.loop-at-test.true s.up in
+    let h = (next_in_row t (goal.at.emit_kids-emit-requires t c).In-loop-at).1 in
     let o = c.loop-at.invariant.on in
     let w = h.within in
     (search rules, (c.requires.ends, (h.first, h.listed)))
 
 pub emit_kids-number_at-at-requires : goal.emit_kids-number_at-at-requires
 emit_kids-number_at-at-requires t c =
-    let r = c.requires.stand in
-    let s = c.loop-at.invariant.writing r.0 (record { row = r.1; sum = r.2 }) in
-    (head-is (set_in c.args.listing.now) (entries_in c.args.listing.now) c.args.listing.now.ends.now c.loop-at.at c.args.end s.left c.requires.ends c.loop-at-test.true s.up).within
+    (next_in_row t (goal.at.emit_kids-number_at-at-requires t c).In-loop-at).1.within
 
 pub emit_kids-loop-at-smaller : goal.emit_kids-loop-at-smaller
 emit_kids-loop-at-smaller t c =
-    let r = c.requires.stand in
-    let s = c.loop-at.invariant.writing r.0 (record { row = r.1; sum = r.2 }) in
-    let h = head-is (set_in c.args.listing.now) (entries_in c.args.listing.now) c.args.listing.now.ends.now c.loop-at.at c.args.end s.left c.requires.ends c.loop-at-test.true s.up in
+    let h = (next_in_row t (goal.at.emit_kids-loop-at-smaller t c).In-loop-at).1 in
     let e = c.number_at-at.ensures in
     let l : c.args.end - c.number_at-at.result < c.args.end - c.loop-at.at = (let m = h.more in let k = c.loop-at-test.true in omega (arith, e, m, k)) in l
 
@@ -150,9 +161,7 @@ emit_kids-loop-at-preserved t c =
     let list = entries_in c.args.listing.now in
     let ends = c.args.listing.now.ends.now in
     let e = c.number_at-at.ensures in
-    let r = c.requires.stand in
-    let s = c.loop-at.invariant.writing r.0 (record { row = r.1; sum = r.2 }) in
-    let m = (head-is a list ends c.loop-at.at c.args.end s.left c.requires.ends c.loop-at-test.true s.up).more in
+    let m = (next_in_row t (goal.at.emit_kids-loop-at-preserved t c).In-loop-at).1.more in
     let o = c.loop-at.invariant.on in
     record {
       writing = subst (λ (n : ℕ). Writing a list c.args.first c.args.end n c.args.into.now.items c.emit.new.into.items) (sym e)

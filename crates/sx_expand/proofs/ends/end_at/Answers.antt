@@ -1,15 +1,19 @@
-use Rattle.std.proofs.Common.{arith, ap, ◌∙◌}
+use Rattle.std.proofs.Common.{◌<◌, length, arith, ap, ◌∙◌}
 use Rattle.sx_rules.specs.Sets.{bare_rules_in}
 use Rattle.sx_rewrite.specs.AcceptedView.{accepted}
 use Rattle.sx_expand.proofs.EndsAt.{listed-within, given-end, no-rule, node-at}
 use Rattle.sx_expand.proofs.ends.end_at.Goals as goal
+use Rattle.sx_expand.proofs.ends.end_at.Goals.{Start}
+
+-- the entry is in the list
+entry_is_there : (c : Start) → c.args.at < length c.args.list.now
+entry_is_there c = listed-within (accepted c.args.set.now) c.args.list.now c.args.at c.requires.listed.0 c.requires.listed.1
 
 pub entry_at-requires : goal.entry_at-requires
-entry_at-requires c = listed-within (accepted c.args.set.now) c.args.list.now c.args.at c.requires.listed.0 c.requires.listed.1
+entry_at-requires c = entry_is_there (goal.at.entry_at-requires c).Start
 
 pub overflow_add-at : goal.overflow_add-at
-overflow_add-at c =
-    let w = listed-within (accepted c.args.set.now) c.args.list.now c.args.at c.requires.listed.0 c.requires.listed.1 in omega arith
+overflow_add-at c = let w = entry_is_there (goal.at.overflow_add-at c).Start in omega arith
 
 pub after_kids-requires : goal.after_kids-requires
 after_kids-requires c =
@@ -18,12 +22,10 @@ after_kids-requires c =
     (n.sizes, n.many, n.steps)
 
 pub overflow_add-result : goal.overflow_add-result
-overflow_add-result c =
-    let w = listed-within (accepted c.args.set.now) c.args.list.now c.args.at c.requires.listed.0 c.requires.listed.1 in omega arith
+overflow_add-result c = let w = entry_is_there (goal.at.overflow_add-result c).Start in omega arith
 
 pub overflow_add-result-in-Given : goal.overflow_add-result-in-Given
-overflow_add-result-in-Given c =
-    let w = listed-within (accepted c.args.set.now) c.args.list.now c.args.at c.requires.listed.0 c.requires.listed.1 in omega arith
+overflow_add-result-in-Given c = let w = entry_is_there (goal.at.overflow_add-result-in-Given c).Start in omega arith
 
 pub returns-in-Some : goal.returns-in-Some
 returns-in-Some c p h =

@@ -14,22 +14,26 @@ use Rattle.sx_expand.specs.declared.put_numbers.PutNumbers.{PutNumbers}
 use Rattle.sx_expand.specs.KidSubjects.{IsKidSubject}
 use Rattle.sx_expand.specs.Put.{ArePutAt}
 use Rattle.sx_expand.proofs.KidsPut.{KidsSoFar, kids-start, apart-next, next-within, skip-next, put-next, kids-end, proof-within}
-use Rattle.sx_expand.proofs.kid_subjects.put_subjects.Goals.{in-Holds, then-is_needed, else-is_needed, in-Apart}
+use Rattle.sx_expand.proofs.kid_subjects.put_subjects.Goals.{In-Holds, in-Holds, then-is_needed, else-is_needed, in-Apart}
 use Rattle.sx_expand.proofs.kid_subjects.put_subjects.Goals as goal
+
+-- the subject of the premise is there
+subject_is_there : (c : In-Holds) → c.loop-from.number < length c.args.subjects.now
+subject_is_there c =
+    let l = next-within (subjects_in (forms_in c.args.set.now.base)) (bare_rules_in c.args.set.now.base) (needed (certificate_at (accepted c.args.set.now) c.args.rule)) (trees c.args.arena.now) c.args.premises.now c.args.subjects.now
+    c.loop-from.from-index c.loop-from.number c.args.puts.now c.loop-from.puts c.loop-from.invariant c.loop-from-test.true c.from-item.result c.from-item.is c.in-Holds.it c.in-Holds.is in
+    let m = c.requires.many in omega (arith, l, m)
 
 pub loop-from-init : goal.loop-from-init
 loop-from-init c = kids-start (subjects_in (forms_in c.args.set.now.base)) (bare_rules_in c.args.set.now.base) (needed (certificate_at (accepted c.args.set.now) c.args.rule)) (trees c.args.arena.now) c.args.premises.now c.args.subjects.now c.args.puts.now
 
 pub subject_at-requires : goal.subject_at-requires
 subject_at-requires c =
-    let l = next-within (subjects_in (forms_in c.args.set.now.base)) (bare_rules_in c.args.set.now.base) (needed (certificate_at (accepted c.args.set.now) c.args.rule)) (trees c.args.arena.now) c.args.premises.now c.args.subjects.now
-    c.loop-from.from-index c.loop-from.number c.args.puts.now c.loop-from.puts c.loop-from.invariant c.loop-from-test.true c.from-item.result c.from-item.is c.in-Holds.it c.in-Holds.is in
-    let m = c.requires.many in omega (arith, l, m)
+    let n = subject_is_there (goal.at.subject_at-requires c).In-Holds in omega (arith, n)
 
 pub put_subject-requires-clause-kid : goal.put_subject-requires-clause-kid
 put_subject-requires-clause-kid c =
-    let l = next-within (subjects_in (forms_in c.args.set.now.base)) (bare_rules_in c.args.set.now.base) (needed (certificate_at (accepted c.args.set.now) c.args.rule)) (trees c.args.arena.now) c.args.premises.now c.args.subjects.now
-    c.loop-from.from-index c.loop-from.number c.args.puts.now c.loop-from.puts c.loop-from.invariant c.loop-from-test.true c.from-item.result c.from-item.is c.in-Holds.it c.in-Holds.is in
+    let l = subject_is_there (goal.at.put_subject-requires-clause-kid c).In-Holds in
     let m = c.requires.many in
     let r = c.requires.kids in
     let n = r.2.many in
@@ -41,10 +45,7 @@ put_subject-requires-clause-kid c =
 
 pub overflow_add-number : goal.overflow_add-number
 overflow_add-number c =
-    let l = next-within (subjects_in (forms_in c.args.set.now.base)) (bare_rules_in c.args.set.now.base) (needed (certificate_at (accepted c.args.set.now) c.args.rule)) (trees c.args.arena.now) c.args.premises.now c.args.subjects.now
-    c.loop-from.from-index c.loop-from.number c.args.puts.now c.loop-from.puts c.loop-from.invariant c.loop-from-test.true c.from-item.result c.from-item.is c.in-Holds.it c.in-Holds.is in
-    let m = c.requires.many in
-    let n : c.loop-from.number < length c.args.subjects.now = omega (arith, l, m) in search (rules, n)
+    let n = subject_is_there (goal.at.overflow_add-number c).In-Holds in search (rules, n)
 
 pub loop-from-preserved : goal.loop-from-preserved
 loop-from-preserved c =

@@ -1,4 +1,4 @@
-use Rattle.std.proofs.Common.{List, [], map, length, Option, ◌∙◌, sym, ap, subst}
+use Rattle.std.proofs.Common.{◌≡◌, List, [], map, length, Option, ◌∙◌, sym, ap, subst}
 use Rattle.sx_term.specs.declared.sort.Sort.{Sort}
 use Rattle.sx_term.specs.Tree.{Tree}
 use Rattle.sx_plain.specs.declared.table.PlainTable.{PlainTable}
@@ -21,6 +21,11 @@ use Rattle.sx_expand.specs.Readers.{terms_in}
 use Rattle.sx_expand.specs.Readings.{set_by, signature_by}
 use Rattle.sx_expand.proofs.KidsStay.{kids-stay, found-is, rule-within}
 use Rattle.sx_expand.proofs.put_node.put_node.Goals as goal
+use Rattle.sx_expand.proofs.put_node.put_node.Goals.{After-rule_at-rule}
+
+-- the rule at the number is that of the node
+rule_is_node_rule : (c : After-rule_at-rule) → rule c.rule_at-rule.result.now ≡ c.requires.node.rule
+rule_is_node_rule c = found-is _ (rule c.rule_at-rule.result.now) c.requires.node.rule c.rule_at-rule.ensures c.requires.node.at
 
 pub rule_at-rule-requires : goal.rule_at-rule-requires
 rule_at-rule-requires c =
@@ -28,7 +33,7 @@ rule_at-rule-requires c =
 
 pub image_numbers-requires-clause-many : goal.image_numbers-requires-clause-many
 image_numbers-requires-clause-many c =
-    let same = found-is _ (rule c.rule_at-rule.result.now) c.requires.node.rule c.rule_at-rule.ensures c.requires.node.at in
+    let same = rule_is_node_rule (goal.at.image_numbers-requires-clause-many c).After-rule_at-rule in
     c.requires.node.binds_many ∙ ap (λ (x : Rule). length x.sorts) (sym same) ∙ ap length (sym c.deref.ensures.value)
 
 pub put_subjects-requires-clause-kids : goal.put_subjects-requires-clause-kids
@@ -43,13 +48,13 @@ put_subjects-requires-clause-kids c =
 
 pub put_subjects-requires-clause-many : goal.put_subjects-requires-clause-many
 put_subjects-requires-clause-many c =
-    let same = found-is _ (rule c.rule_at-rule.result.now) c.requires.node.rule c.rule_at-rule.ensures c.requires.node.at in
+    let same = rule_is_node_rule (goal.at.put_subjects-requires-clause-many c).After-rule_at-rule in
     c.requires.node.kids_many ∙ ap (λ (x : Rule). length (judgements_of x.premises)) (sym same)
     ∙ ap (λ (ps : List Premise). length (judgements_of (map premise ps))) (sym c.deref-2.ensures.value)
 
 pub put_subjects-requires-clause-bare : goal.put_subjects-requires-clause-bare
 put_subjects-requires-clause-bare c =
-    let same = found-is _ (rule c.rule_at-rule.result.now) c.requires.node.rule c.rule_at-rule.ensures c.requires.node.at in
+    let same = rule_is_node_rule (goal.at.put_subjects-requires-clause-bare c).After-rule_at-rule in
     let subjects = (signature_by c.args.reading.now).subjects in
     let bare = subst (λ (x : Rule). (conclusion : Judgement) × AreBareSubjects subjects conclusion [] (judgements_of x.premises)) (sym same) (c.requires.node.rule.conclusion, c.requires.node.bare) in
     subst (λ (ps : List Premise). (conclusion : Judgement) × AreBareSubjects subjects conclusion [] (judgements_of (map premise ps))) (sym c.deref-2.ensures.value) bare

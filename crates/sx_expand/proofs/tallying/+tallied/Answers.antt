@@ -1,6 +1,6 @@
 use Rattle.std.proofs.Common.{rules, arith, ◌≡◌, ℕ, ◌+◌, ◌-◌, ◌<◌, List, length, get_or, max, ap, sym, subst, ◌∙◌}
 use Rattle.std.proofs.lemmas.List.{length-map, get_or_default}
-use Rattle.sx_rules.specs.Derivations.{height_of, most_height}
+use Rattle.sx_rules.specs.Derivations.{Proofs, height_of, most_height}
 use Rattle.sx_rules.specs.EntryView.{entry}
 use Rattle.sx_rewrite.specs.declared.given_use.GivenUse.{GivenUse}
 use Rattle.sx_rewrite.proofs.SizeLaws.{near-at}
@@ -8,27 +8,55 @@ use Rattle.sx_rewrite.proofs.Tallied.{sized-many, by-height, sized-tally, base-t
 use Rattle.sx_expand.specs.Listed.{set_in, entries_in}
 use Rattle.sx_expand.proofs.Standing.{given-stands}
 use Rattle.sx_expand.proofs.EndsAt.{listed-within}
-use Rattle.sx_expand.proofs.Rows.{head-is}
+use Rattle.sx_expand.proofs.Rows.{IsHead, head-is}
 use Rattle.sx_expand.proofs.Emitting.{rule-at}
-use Rattle.sx_expand.proofs.ListTallies.{Sizing, Basing, next-kid, some-left, sizing-more, sizing-last, basing-more, basing-last}
+use Rattle.sx_expand.proofs.ListTallies.{IsNextKid, Sizing, Basing, next-kid, some-left, sizing-more, sizing-last, basing-more, basing-last}
 use Rattle.sx_expand.proofs.tallying.+tallied.Goals as goal
+use Rattle.sx_expand.proofs.tallying.+tallied.Goals.{tally-Start, base_tally-In-loop-at, certificate_tally-In-loop-given}
+
+-- the entry is in the list
+entry_is_there : (t : ℕ) (c : tally-Start t) → c.args.at < length c.args.listing.now.list.now
+entry_is_there t c = listed-within (set_in c.args.listing.now) c.args.listing.now.list.now c.args.at c.requires.stands.0 c.requires.stands.1
+
+-- the next of the row that stands in the list
+next_in_row : (t : ℕ) (c : base_tally-In-loop-at t) → (left : Proofs) × IsHead (set_in c.args.listing.now) (entries_in c.args.listing.now) c.args.listing.now.ends.now c.loop-at.at c.args.end left
+next_in_row t c =
+    let r = c.requires.stand in
+    let s = c.loop-at.invariant.basing r.0 (record { row = r.1; sum = r.2 }) in
+    (s.left, head-is (set_in c.args.listing.now) (entries_in c.args.listing.now) c.args.listing.now.ends.now c.loop-at.at c.args.end s.left c.requires.ends c.loop-at-test.true s.up)
+
+-- the next kid that is tallied
+kid_to_tally : (t : ℕ) (c : certificate_tally-In-loop-given t) → let r = c.requires.stand in let s = c.loop-given.invariant.sizing r.0 r.1 r.2 in IsNextKid (set_in c.args.listing.now) (entries_in c.args.listing.now) c.args.listing.now.ends.now c.loop-given.at s.left (most_height s.left)
+kid_to_tally t c =
+    let a = set_in c.args.listing.now in
+    let list = entries_in c.args.listing.now in
+    let ends = c.args.listing.now.ends.now in
+    let size = c.args.size.now in
+    let i = c.loop-given.given-index in
+    let v = c.deref-given-items.ensures.value in
+    let lv = ap length v in
+    let b = c.loop-given-test.true in
+    let l : i < length size.uses.items = omega (arith, lv, b) in
+    let r = c.requires.stand in
+    let s = c.loop-given.invariant.sizing r.0 r.1 r.2 in
+    next-kid a list ends c.loop-given.at s.left (most_height s.left) c.requires.ends (some-left a list size c.loop-given.at i c.loop-given.all r.0 l s) (omega arith) s.row
 
 pub tally-entry_at-requires : goal.tally-entry_at-requires
-tally-entry_at-requires t c = listed-within (set_in c.args.listing.now) c.args.listing.now.list.now c.args.at c.requires.stands.0 c.requires.stands.1
+tally-entry_at-requires t c = entry_is_there t (goal.at.tally-entry_at-requires t c).Start
 
 pub tally-number_at-end-requires : goal.tally-number_at-end-requires
 tally-number_at-end-requires t c =
-    let w = listed-within (set_in c.args.listing.now) c.args.listing.now.list.now c.args.at c.requires.stands.0 c.requires.stands.1 in
+    let w = entry_is_there t (goal.at.tally-number_at-end-requires t c).Start in
     let m = c.requires.ends.many in
     let k = length-map c.args.listing.now.list.now entry in omega (arith, w, m, k)
 
 pub tally-overflow_add-at : goal.tally-overflow_add-at
 tally-overflow_add-at t c =
-    let w = listed-within (set_in c.args.listing.now) c.args.listing.now.list.now c.args.at c.requires.stands.0 c.requires.stands.1 in omega arith
+    let w = entry_is_there t (goal.at.tally-overflow_add-at t c).Start in omega arith
 
 pub tally-overflow_add-at-in-None : goal.tally-overflow_add-at-in-None
 tally-overflow_add-at-in-None t c =
-    let w = listed-within (set_in c.args.listing.now) c.args.listing.now.list.now c.args.at c.requires.stands.0 c.requires.stands.1 in omega arith
+    let w = entry_is_there t (goal.at.tally-overflow_add-at-in-None t c).Start in omega arith
 
 pub tally-certificate_tally-requires : goal.tally-certificate_tally-requires
 tally-certificate_tally-requires t c =
@@ -81,7 +109,7 @@ certificate_tally-with_kid-all-requires t c =
     let l : i < length size.uses.items = omega (arith, lv, b) in
     let r = c.requires.stand in
     let s = c.loop-given.invariant.sizing r.0 r.1 r.2 in
-    let k = next-kid a list ends c.loop-given.at s.left (most_height s.left) c.requires.ends (some-left a list size c.loop-given.at i c.loop-given.all r.0 l s) (omega arith) s.row in
+    let k = kid_to_tally t (goal.at.certificate_tally-with_kid-all-requires t c).In-loop-given in
     let none : GivenUse = record { times = 0; above = 0 } in
     let u = get_or c.deref-given-items.result.now i none in
     let e : u ≡ get_or size.uses.items i u = ap (λ (xs : List GivenUse). get_or xs i none) v ∙ get_or_default size.uses.items i none u l in
@@ -94,19 +122,7 @@ certificate_tally-with_kid-all-requires t c =
 
 pub certificate_tally-number_at-at-requires : goal.certificate_tally-number_at-at-requires
 certificate_tally-number_at-at-requires t c =
-    let a = set_in c.args.listing.now in
-    let list = entries_in c.args.listing.now in
-    let ends = c.args.listing.now.ends.now in
-    let size = c.args.size.now in
-    let i = c.loop-given.given-index in
-    let v = c.deref-given-items.ensures.value in
-    let lv = ap length v in
-    let b = c.loop-given-test.true in
-    let l : i < length size.uses.items = omega (arith, lv, b) in
-    let r = c.requires.stand in
-    let s = c.loop-given.invariant.sizing r.0 r.1 r.2 in
-    let k = next-kid a list ends c.loop-given.at s.left (most_height s.left) c.requires.ends (some-left a list size c.loop-given.at i c.loop-given.all r.0 l s) (omega arith) s.row in
-    k.within
+    (kid_to_tally t (goal.at.certificate_tally-number_at-at-requires t c).In-loop-given).within
 
 pub certificate_tally-loop-given-preserved : goal.certificate_tally-loop-given-preserved
 certificate_tally-loop-given-preserved t c =
@@ -119,9 +135,7 @@ certificate_tally-loop-given-preserved t c =
     let lv = ap length v in
     let b = c.loop-given-test.true in
     let l : i < length size.uses.items = omega (arith, lv, b) in
-    let r = c.requires.stand in
-    let s = c.loop-given.invariant.sizing r.0 r.1 r.2 in
-    let k = next-kid a list ends c.loop-given.at s.left (most_height s.left) c.requires.ends (some-left a list size c.loop-given.at i c.loop-given.all r.0 l s) (omega arith) s.row in
+    let k = kid_to_tally t (goal.at.certificate_tally-loop-given-preserved t c).In-loop-given in
     let none : GivenUse = record { times = 0; above = 0 } in
     let u = get_or c.deref-given-items.result.now i none in
     let e : u ≡ get_or size.uses.items i u = ap (λ (xs : List GivenUse). get_or xs i none) v ∙ get_or_default size.uses.items i none u l in
@@ -147,15 +161,11 @@ base_tally-with_kid-all-requires t c =
 
 pub base_tally-number_at-at-requires : goal.base_tally-number_at-at-requires
 base_tally-number_at-at-requires t c =
-    let r = c.requires.stand in
-    let s = c.loop-at.invariant.basing r.0 (record { row = r.1; sum = r.2 }) in
-    (head-is (set_in c.args.listing.now) (entries_in c.args.listing.now) c.args.listing.now.ends.now c.loop-at.at c.args.end s.left c.requires.ends c.loop-at-test.true s.up).within
+    (next_in_row t (goal.at.base_tally-number_at-at-requires t c).In-loop-at).1.within
 
 pub base_tally-loop-at-smaller : goal.base_tally-loop-at-smaller
 base_tally-loop-at-smaller t c =
-    let r = c.requires.stand in
-    let s = c.loop-at.invariant.basing r.0 (record { row = r.1; sum = r.2 }) in
-    let k = head-is (set_in c.args.listing.now) (entries_in c.args.listing.now) c.args.listing.now.ends.now c.loop-at.at c.args.end s.left c.requires.ends c.loop-at-test.true s.up in
+    let k = (next_in_row t (goal.at.base_tally-loop-at-smaller t c).In-loop-at).1 in
     let e = c.number_at-at.ensures in
     let l : c.args.end - c.number_at-at.result < c.args.end - c.loop-at.at = (let m = k.more in let b = c.loop-at-test.true in omega (arith, e, m, b)) in l
 
@@ -164,9 +174,7 @@ base_tally-loop-at-preserved t c =
     let a = set_in c.args.listing.now in
     let list = entries_in c.args.listing.now in
     let ends = c.args.listing.now.ends.now in
-    let r = c.requires.stand in
-    let s = c.loop-at.invariant.basing r.0 (record { row = r.1; sum = r.2 }) in
-    let m = (head-is a list ends c.loop-at.at c.args.end s.left c.requires.ends c.loop-at-test.true s.up).more in
+    let m = (next_in_row t (goal.at.base_tally-loop-at-preserved t c).In-loop-at).1.more in
     let e = c.number_at-at.ensures in
     let o = c.loop-at.invariant.on in
     record {
