@@ -4,7 +4,7 @@ use Rattle.sx_grammar.specs.Grammar.{Text}
 use Rattle.sx_words.specs.declared.position.Position.TheVariants as place
 use Rattle.sx_words.specs.declared.refusal.Defect.{Defect}
 use Rattle.sx_words.specs.declared.refusal.Defect.TheVariants as defect
-use Rattle.sx_steps.specs.Stops.{at}
+use Rattle.sx_steps.specs.Stops.{defect_at}
 use Rattle.sx_extcheck.specs.Agree.{DefectData, unsound, other, defect_as_data}
 use Rattle.sx_extcheck.specs.declared.rule_refusal.RuleRefusal.{RuleRefusal}
 use Rattle.sx_extcheck.specs.declared.rule_refusal.RuleRefusal.TheVariants.{Rejected, BudgetSpent}
@@ -32,5 +32,5 @@ is_by_data r name RewriteDeep = refl
 
 pub refused_rules_stop_alike : RefusedRulesStopAlike
 refused_rules_stop_alike file r name one two same =
-    ap (λ (what : Defect). Some (at (place.Rule name) file what))
+    ap (λ (what : Defect). Some (defect_at (place.Rule name) file what))
     (is_by_data r name one ∙ ap (by_data r name) same ∙ sym (is_by_data r name two))

@@ -26,7 +26,7 @@ use Rattle.sx_extension.specs.declared.plain_defect.PlainDefect.TheVariants as p
 use Rattle.sx_derive.specs.declared.blame.Blame.{Blame}
 use Rattle.sx_words.specs.declared.position.Position.TheVariants as places
 use Rattle.sx_steps.specs.Steps.{NoTries, Untried}
-use Rattle.sx_steps.specs.Stops.{at}
+use Rattle.sx_steps.specs.Stops.{defect_at}
 use Rattle.sx_steps.specs.declared.stop.Stop.{Stop}
 use Rattle.sx_steps.proofs.Ones.{ok_same, ok_no_err}
 use Rattle.sx_steps.proofs.StepsOn.{went_on}
@@ -70,7 +70,7 @@ module _ (Q : Stop → Type 0) where
 
   no_defect : (file : List ℕ) (r : Refusing) (name : List ℕ) (d : RuleRefusal) → ((b : Blame) → d ≡ rule_defect.Rejected b → (stop : Stop) → stop.file ≡ file → stop.refusal.place ≡ places.Rule name → Q stop) →
       OnTypeError Q (acceptance_stop file r (Rule name d))
-  no_defect file r name (rule_defect.Rejected b) so = λ h. so b refl (at (places.Rule name) file (defect_of r name (rule_defect.Rejected b))) refl refl
+  no_defect file r name (rule_defect.Rejected b) so = λ h. so b refl (defect_at (places.Rule name) file (defect_of r name (rule_defect.Rejected b))) refl refl
   no_defect file r name (rule_defect.BudgetSpent n) so = λ h. absurd h
   no_defect file r name (rule_defect.DepthSpent n) so = λ h. absurd h
   no_defect file r name (rule_defect.TooDeep n) so = λ h. absurd h
@@ -103,7 +103,7 @@ module _ (l : BaseLanguage) (budgets : Budgets) where
     },
   )
   one_more (f ∷ files) file x y z m n h k =
-      let at = went_on _ _ _ m h in
+      let defect_at = went_on _ _ _ m h in
       let rest = one_more files file at.given y z at.after n at.goes k in
       (at.before + rest.0, record { given = Ok at.given; before = at.before; after = rest.0; begins = at.begins; goes = rest.1; sum = refl })
 

@@ -13,7 +13,7 @@ use Rattle.sx_words.specs.declared.budget_defect.BudgetDefect.TheVariants as bud
 use Rattle.sx_words.specs.declared.refusal.Defect.{Defect}
 use Rattle.sx_words.specs.declared.refusal.Defect.TheVariants as defect
 use Rattle.sx_steps.specs.declared.stop.Stop.{Stop}
-use Rattle.sx_steps.specs.Stops.{at}
+use Rattle.sx_steps.specs.Stops.{defect_at}
 use Rattle.sx_extcheck.specs.declared.accept_error.AcceptError.{AcceptError}
 use Rattle.sx_extcheck.specs.declared.accept_error.AcceptError.TheVariants.{Memory, Rule}
 use Rattle.sx_extcheck.specs.declared.rule_refusal.RuleRefusal.{RuleRefusal}
@@ -83,4 +83,4 @@ defect_of r name rule_defect.RewriteDeep = defect.Budget budget_defect.RewriteDe
 -- the stop of an extension that is not accepted; out of memory has none
 abbrev pub acceptance_stop : Text → Refusing → AcceptError → Option Stop
 acceptance_stop file r Memory = None
-acceptance_stop file r (Rule name what) = Some (at (place.Rule name) file (defect_of r name what))
+acceptance_stop file r (Rule name what) = Some (defect_at (place.Rule name) file (defect_of r name what))

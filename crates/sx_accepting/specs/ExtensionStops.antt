@@ -8,7 +8,7 @@ use Rattle.sx_words.specs.declared.refusal.Defect.{Defect}
 use Rattle.sx_words.specs.declared.refusal.Defect.TheVariants as defect
 use Rattle.sx_steps.specs.declared.stop.Stop.{Stop}
 use Rattle.sx_steps.specs.Refusal.{about}
-use Rattle.sx_steps.specs.Stops.{at}
+use Rattle.sx_steps.specs.Stops.{defect_at}
 use Rattle.sx_extension.specs.declared.plain_defect.PlainDefect.{PlainDefect}
 use Rattle.sx_extension.specs.declared.plain_defect.PlainDefect.TheVariants as plain_defect
 use Rattle.sx_extension.specs.declared.extension_error.ExtensionError.{ExtensionError}
@@ -19,7 +19,7 @@ use Rattle.sx_accepting.specs.LanguageStops.{language_stop}
 
 -- a defect of the plain body of the production with this label
 abbrev pub of_plain : List ℕ → List ℕ → Defect → Stop
-of_plain file label what = at (place.Plain label) file what
+of_plain file label what = defect_at (place.Plain label) file what
 
 -- the body does not use the part with this name
 abbrev pub dropped_part : List ℕ → List ℕ → List ℕ → Stop
@@ -41,13 +41,13 @@ bad_plain file label (plain_defect.TooBig size) =
 -- the plain production with this label has no plain body
 abbrev pub without_plain : List ℕ → List ℕ → Stop
 without_plain file label =
-    at (place.Production label) file (defect.Extension extension_defect.NoPlain)
+    defect_at (place.Production label) file (defect.Extension extension_defect.NoPlain)
 
 -- ---- rules
 
 -- a defect of the rule with this name
 abbrev pub extension_rule_stop : List ℕ → List ℕ → ExtensionDefect → Stop
-extension_rule_stop file name what = at (place.Rule name) file (defect.Extension what)
+extension_rule_stop file name what = defect_at (place.Rule name) file (defect.Extension what)
 
 -- ---- whole files
 

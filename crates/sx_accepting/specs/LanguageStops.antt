@@ -18,23 +18,23 @@ use Rattle.sx_words.specs.declared.grammar_defect.GrammarDefect.TheVariants as g
 use Rattle.sx_words.specs.declared.refusal.Defect.TheVariants as defect
 use Rattle.sx_steps.specs.declared.stop.Stop.{Stop}
 use Rattle.sx_steps.specs.Refusal.{about}
-use Rattle.sx_steps.specs.Stops.{at, not_utf8, bad_kind_text, bad_line, bad_rules}
+use Rattle.sx_steps.specs.Stops.{defect_at, not_utf8, bad_kind_text, bad_line, bad_rules}
 
 -- ---- lines of rules
 
 -- a defect of a line as a whole
 abbrev pub at_line : List ℕ → ℕ → TextDefect → Stop
-at_line file line what = at (Line line) file (defect.Text what)
+at_line file line what = defect_at (Line line) file (defect.Text what)
 
 -- a defect of a line at this place in it; places count from 0 and columns from 1
 abbrev pub at_place : List ℕ → ℕ → ℕ → TextDefect → Stop
-at_place file line place what = at (Spot line (place + 1)) file (defect.Text what)
+at_place file line place what = defect_at (Spot line (place + 1)) file (defect.Text what)
 
 -- a line is not cut into tokens; out of memory is no stop
 abbrev pub uncut_line : List ℕ → ℕ → TokenError → Option Stop
 uncut_line file line token_error.Memory = None
 uncut_line file line (token_error.NotUtf8 place) =
-    Some (at (Line line) file (defect.File (file_defect.NotUtf8 place)))
+    Some (defect_at (Line line) file (defect.File (file_defect.NotUtf8 place)))
 uncut_line file line (token_error.BadToken place) =
     Some (at_place file line place text_defect.BadToken)
 uncut_line file line token_error.TooManyTokens = Some (at_line file line text_defect.TooManyTokens)

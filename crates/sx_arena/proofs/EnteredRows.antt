@@ -16,7 +16,7 @@ use Rattle.sx_arena.specs.declared.pairs.Pair.{Pair}
 use Rattle.sx_arena.specs.Arena.{trees, IsArena, IsHeld}
 use Rattle.sx_arena.specs.Facts.{IsFact, AreFacts}
 use Rattle.sx_arena.specs.Entered.{IsFactIn, AreFactsIn, ArePairsShallow, IsPairIn, ArePairsIn}
-use Rattle.sx_arena.specs.Pairs.{pair_of, pairs_of, ArePairs}
+use Rattle.sx_arena.specs.Pairs.{entered_pair, pairs_of, ArePairs}
 use Rattle.sx_arena.specs.Places.{AreHeld}
 use Rattle.sx_arena.specs.Views.{judgement_of}
 use Rattle.sx_arena.proofs.Growing.{extends-same, extends-then, extends-length, extends-at}
@@ -108,7 +108,7 @@ pairs_more old mid new ps pairs more i p q a l e b g =
       arena = b.arena;
       extends = extends-then (trees old) (trees mid) (trees new) a.extends b.extends;
       within = subst (λ (qs : List Pair). ArePairs (length (trees new)) qs) (sym g) (pairs_push (length (trees new)) pairs q (pairs_more_terms (length (trees mid)) (length (trees new)) x pairs a.within) b.first b.second);
-      are = ap (pairs_of (trees new)) g ∙ map_push (pair_of (trees new)) pairs q ∙ (λ k. (pairs_stay (trees mid) (trees new) b.extends pairs a.within ∙ a.are) k ++ b.is k ∷ []) ∙ sym c;
+      are = ap (pairs_of (trees new)) g ∙ map_push (entered_pair (trees new)) pairs q ∙ (λ k. (pairs_stay (trees mid) (trees new) b.extends pairs a.within ∙ a.are) k ++ b.is k ∷ []) ∙ sym c;
     }
 
 pub pairs_end : (old new : Arena) (ps : List (Term × Term)) (pairs : List Pair) (i : ℕ) → ArePairsIn old new (map pair (take i ps)) pairs → length ps ≤ i → ArePairsIn old new (map pair ps) pairs

@@ -8,7 +8,7 @@ use Rattle.sx_arena.specs.declared.fact.Fact.{Fact}
 use Rattle.sx_arena.specs.declared.pairs.Pair.{Pair}
 use Rattle.sx_arena.specs.Arena.{trees, IsArena, Extends}
 use Rattle.sx_arena.specs.Facts.{IsFact, AreFacts}
-use Rattle.sx_arena.specs.Pairs.{pair_of, pairs_of, ArePairs}
+use Rattle.sx_arena.specs.Pairs.{entered_pair, pairs_of, ArePairs}
 use Rattle.sx_term.specs.Limits.{most_depth}
 
 -- the arena goes on from the other, and has the judgements by their numbers
@@ -43,4 +43,4 @@ pub record IsPairIn (old new : Arena) (p : Tree × Tree) (pair : Pair) : Type 0 
   pub extends : Extends (trees old) (trees new)
   pub first : pair.first < length (trees new)
   pub second : pair.second < length (trees new)
-  pub is : pair_of (trees new) pair ≡ p
+  pub is : entered_pair (trees new) pair ≡ p

@@ -5,11 +5,11 @@ use Rattle.sx_arena.specs.declared.pairs.Pair.{Pair}
 use Rattle.sx_arena.specs.declared.arena.Arena.{Arena}
 use Rattle.sx_arena.specs.Arena.{trees, tree_at, IsArena, Extends}
 
-abbrev pub pair_of : List Tree → Pair → Tree × Tree
-pair_of ts p = (tree_at ts p.first, tree_at ts p.second)
+abbrev pub entered_pair : List Tree → Pair → Tree × Tree
+entered_pair ts p = (tree_at ts p.first, tree_at ts p.second)
 
 abbrev pub pairs_of : List Tree → List Pair → List (Tree × Tree)
-pairs_of ts ps = map (pair_of ts) ps
+pairs_of ts ps = map (entered_pair ts) ps
 
 abbrev pub ArePairs : ℕ → List Pair → Type 0
 ArePairs n [] = Unit {0}

@@ -9,14 +9,14 @@ use Rattle.std.proofs.lemmas.List.{take-append-drop, take_more, take_all, drop_m
 use Rattle.std.proofs.lemmas.List.{append-nil, get_or_at, get_or_default, get_or-map, with_items_is}
 use Rattle.std.proofs.lemmas.List.Edits.{map_over_more}
 use Rattle.sx_audit.specs.Meaning.{Node, Meaning, after_node, verdict}
-use Rattle.sx_audit.specs.Shown.{after_nodes, after, AllAdmit, Refusal, IsShowTold, IsShownAfter}
+use Rattle.sx_audit.specs.Shown.{after_nodes, shown_after, AllAdmit, Refusal, IsShowTold, IsShownAfter}
 use Rattle.sx_audit.specs.declared.show_error.ShowError.{ShowError}
 use Rattle.sx_audit.specs.Kinds.{as_count}
 use Rattle.sx_audit.proofs.ShownNodes.{all-none, all-join, told-of}
 
 -- so many of the auditors have admitted the node, and the others have not seen it
 pub record Passing (n : Node) (old now : List Meaning) (i : ℕ) : Type 0 where
-  pub states : now ≡ map (after (n ∷ [])) (take i old) ++ drop i old
+  pub states : now ≡ map (shown_after (n ∷ [])) (take i old) ++ drop i old
   pub admitted : AllAdmit (n ∷ []) (take i old)
 
 -- what is shown of one node
@@ -30,7 +30,7 @@ after_nodes-verdict : (b : Bool) (m : Meaning) →
 after_nodes-verdict true m = refl
 after_nodes-verdict false m = refl
 
-after-one : (n : Node) (m : Meaning) → after (n ∷ []) m ≡ after_node m n
+after-one : (n : Node) (m : Meaning) → shown_after (n ∷ []) m ≡ after_node m n
 after-one n m = after_nodes-state (verdict m n) (after_node m n)
 
 admits-one : (n : Node) (m : Meaning) → (after_nodes m (n ∷ [])).1 ≡ verdict m n
@@ -44,8 +44,8 @@ passing-none f n xs ys e = record { states = ap (map f) e; admitted = tt }
 module _ {A : Type 0} (f : A → Meaning) (n : Node) (old : List Meaning) (items : List A) (i : ℕ)
     (x y : A) (h : i < length old) (w : i < length items) (p : Passing n old (map f items) i)
     (e : x ≡ get_or items i x) (s : f y ≡ after_node (f x) n) where
-  many : length (map (after (n ∷ [])) (take i old)) ≡ i
-  many = length-map (take i old) (after (n ∷ [])) ∙ length-take i old ∙ omega (arith, h)
+  many : length (map (shown_after (n ∷ [])) (take i old)) ≡ i
+  many = length-map (take i old) (shown_after (n ∷ [])) ∙ length-take i old ∙ omega (arith, h)
 
   -- the auditor at the place
   there : f x ≡ get_or (map f items) i (f x)
@@ -54,7 +54,7 @@ module _ {A : Type 0} (f : A → Meaning) (n : Node) (old : List Meaning) (items
   -- it has not seen the node
   is-old : f x ≡ get_or old i (f x)
   is-old =
-      let before = map (after (n ∷ [])) (take i old) in
+      let before = map (shown_after (n ∷ [])) (take i old) in
       there ∙ ap (λ (ms : List Meaning). get_or ms i (f x)) p.states
       ∙ ap (λ (ms : List Meaning). get_or (before ++ ms) i (f x)) (drop_more old i (f x) h)
       ∙ get_or_at before (get_or old i (f x)) (drop (i + 1) old) (f x) i many
@@ -62,11 +62,11 @@ module _ {A : Type 0} (f : A → Meaning) (n : Node) (old : List Meaning) (items
   more : take (i + 1) old ≡ take i old ++ f x ∷ []
   more = take_more old i (f x) h ∙ ap (λ (m : Meaning). take i old ++ m ∷ []) (sym is-old)
 
-  written : map f (set items i y) ≡ map (after (n ∷ [])) (take (i + 1) old) ++ drop (i + 1) old
+  written : map f (set items i y) ≡ map (shown_after (n ∷ [])) (take (i + 1) old) ++ drop (i + 1) old
   written =
       map-set f items i y
       ∙ ap (set (map f items) i) (s ∙ sym (after-one n (f x)))
-      ∙ map_over_more (after (n ∷ [])) old (map f items) i (f x) h p.states there
+      ∙ map_over_more (shown_after (n ∷ [])) old (map f items) i (f x) h p.states there
 
   passing-more : verdict (f x) n ≡ true → Passing n old (map f (set items i y)) (i + 1)
   passing-more v = record {
@@ -90,20 +90,20 @@ module _ {A : Type 0} (f : A → Meaning) (n : Node) (old : List Meaning) (items
     passed = all-none old;
     admitted = p.admitted;
     refused = admits-one n (f x) ∙ v;
-    states = written ∙ ap (λ (ms : List Meaning). map (after (n ∷ [])) ms ++ drop (i + 1) old) more
-        ∙ ap (λ (ms : List Meaning). map (after (n ∷ [])) (take i old ++ f x ∷ []) ++ ms)
+    states = written ∙ ap (λ (ms : List Meaning). map (shown_after (n ∷ [])) ms ++ drop (i + 1) old) more
+        ∙ ap (λ (ms : List Meaning). map (shown_after (n ∷ [])) (take i old ++ f x ∷ []) ++ ms)
         (sym (map-id (drop (i + 1) old)));
   }
 
 -- all have admitted the node
 passing-all : (n : Node) (old now : List Meaning) (i : ℕ) → length old ≤ i →
-    Passing n old now i → AllAdmit (n ∷ []) old × (now ≡ map (after (n ∷ [])) old)
+    Passing n old now i → AllAdmit (n ∷ []) old × (now ≡ map (shown_after (n ∷ [])) old)
 passing-all n old now i h p = (
   subst (AllAdmit (n ∷ [])) (take_all i old h) p.admitted,
   p.states
-      ∙ ap (λ (ms : List Meaning). map (after (n ∷ [])) (take i old) ++ ms) (drop_all i old h)
-      ∙ append-nil (map (after (n ∷ [])) (take i old))
-      ∙ ap (map (after (n ∷ []))) (take_all i old h),
+      ∙ ap (λ (ms : List Meaning). map (shown_after (n ∷ [])) (take i old) ++ ms) (drop_all i old h)
+      ∙ append-nil (map (shown_after (n ∷ [])) (take i old))
+      ∙ ap (map (shown_after (n ∷ []))) (take_all i old h),
 )
 
 module _ {A : Type 0} (f : A → Meaning) (n : Node) (list : Vec A Global) (items : List A)

@@ -6,7 +6,7 @@ use Rattle.std.proofs.lemmas.Bool.{false≢true}
 use Rattle.std.proofs.lemmas.List.{length-append, map-append, map-id}
 use Rattle.sx_audit.specs.Meaning.{Node, Kind, Meaning, after_node, verdict}
 use Rattle.sx_audit.specs.Kinds.{as_count}
-use Rattle.sx_audit.specs.Shown.{after_nodes, after, Admits, AllAdmit, Refusal, IsShowTold}
+use Rattle.sx_audit.specs.Shown.{after_nodes, shown_after, Admits, AllAdmit, Refusal, IsShowTold}
 use Rattle.sx_audit.specs.Shown.{IsShownAfter}
 use Rattle.sx_audit.specs.declared.show_error.ShowError.{ShowError}
 use Rattle.sx_audit.specs.declared.show_error.ShowError.TheVariants.{Objected, Memory}
@@ -33,7 +33,7 @@ admits-rest m n ns h =
 
 -- nodes that are admitted, and then more
 after_nodes-append : (m : Meaning) (a b : List Node) → Admits a m →
-    after_nodes m (a ++ b) ≡ after_nodes (after a m) b
+    after_nodes m (a ++ b) ≡ after_nodes (shown_after a m) b
 after_nodes-append m [] b h = refl
 after_nodes-append m (n ∷ ns) b h =
     let v = admits-first m n ns h in
@@ -47,7 +47,7 @@ kind-by : (b : Bool) (m one : Meaning) (rest : Meaning × Bool) → rest.0.kind 
 kind-by true m one rest h k = h
 kind-by false m one rest h k = k
 
-kind-stays : (ns : List Node) (m : Meaning) → (after ns m).kind ≡ m.kind
+kind-stays : (ns : List Node) (m : Meaning) → (shown_after ns m).kind ≡ m.kind
 kind-stays [] m = refl
 kind-stays (n ∷ ns) m =
     kind-by (verdict m n) m (after_node m n) (after_nodes (after_node m n) ns)
@@ -55,7 +55,7 @@ kind-stays (n ∷ ns) m =
 
 module _ (a b : List Node) where
   -- what admits the nodes, and then more, admits all
-  pub all-both : (ms : List Meaning) → AllAdmit a ms → AllAdmit b (map (after a) ms) →
+  pub all-both : (ms : List Meaning) → AllAdmit a ms → AllAdmit b (map (shown_after a) ms) →
       AllAdmit (a ++ b) ms
   all-both [] h k = tt
   all-both (m ∷ ms) h k =
@@ -63,12 +63,12 @@ module _ (a b : List Node) where
 
   -- the auditors after the nodes, and then more
   pub after-both : (ms : List Meaning) → AllAdmit a ms →
-      map (after b) (map (after a) ms) ≡ map (after (a ++ b)) ms
+      map (shown_after b) (map (shown_after a) ms) ≡ map (shown_after (a ++ b)) ms
   after-both [] h = refl
   after-both (m ∷ ms) h =
-      ap (λ (x : Meaning). x ∷ map (after b) (map (after a) ms))
+      ap (λ (x : Meaning). x ∷ map (shown_after b) (map (shown_after a) ms))
       (sym (ap (λ (s : Meaning × Bool). s.0) (after_nodes-append m a b h.0)))
-      ∙ ap (λ (xs : List Meaning). after (a ++ b) m ∷ xs) (after-both ms h.1)
+      ∙ ap (λ (xs : List Meaning). shown_after (a ++ b) m ∷ xs) (after-both ms h.1)
 
 -- auditors before others, and behind them
 all-front : (ns : List Node) (xs ys : List Meaning) → AllAdmit ns (xs ++ ys) → AllAdmit ns xs
@@ -140,9 +140,9 @@ told-of Memory one it n m h k t = tt
 
 -- a node that is refused after nodes that are admitted
 module _ (a b : List Node) (old new : List Meaning) (h : AllAdmit a old)
-    (r : Refusal (map (after a) old) b new) where
-  abbrev part : Split (after a) old r.before r.one r.behind
-  part = split (after a) old r.before r.one r.behind r.auditors
+    (r : Refusal (map (shown_after a) old) b new) where
+  abbrev part : Split (shown_after a) old r.before r.one r.behind
+  part = split (shown_after a) old r.before r.one r.behind r.auditors
 
   abbrev last : List Node
   last = r.seen ++ r.node ∷ []
@@ -160,19 +160,19 @@ module _ (a b : List Node) (old new : List Meaning) (h : AllAdmit a old)
   it-and-behind = all-back a part.before (part.it ∷ part.behind) each
 
   -- what has seen the node, and what has not
-  saw : map (after last) (r.before ++ r.one ∷ [])
-      ≡ map (after ((a ++ r.seen) ++ r.node ∷ [])) (part.before ++ part.it ∷ [])
+  saw : map (shown_after last) (r.before ++ r.one ∷ [])
+      ≡ map (shown_after ((a ++ r.seen) ++ r.node ∷ [])) (part.before ++ part.it ∷ [])
   saw =
-      ap (λ (xs : List Meaning). map (after last) (xs ++ r.one ∷ [])) part.front_is
-      ∙ ap (λ (m : Meaning). map (after last) (map (after a) part.before ++ m ∷ [])) part.one_is
-      ∙ ap (map (after last)) (sym (map-append (after a) part.before (part.it ∷ [])))
+      ap (λ (xs : List Meaning). map (shown_after last) (xs ++ r.one ∷ [])) part.front_is
+      ∙ ap (λ (m : Meaning). map (shown_after last) (map (shown_after a) part.before ++ m ∷ [])) part.one_is
+      ∙ ap (map (shown_after last)) (sym (map-append (shown_after a) part.before (part.it ∷ [])))
       ∙ after-both a last (part.before ++ part.it ∷ [])
       (all-join a part.before (part.it ∷ []) before (it-and-behind.0, tt))
-      ∙ ap (λ (ns : List Node). map (after ns) (part.before ++ part.it ∷ [])) (sym same-last)
+      ∙ ap (λ (ns : List Node). map (shown_after ns) (part.before ++ part.it ∷ [])) (sym same-last)
 
-  saw-not : map (after r.seen) r.behind ≡ map (after (a ++ r.seen)) part.behind
+  saw-not : map (shown_after r.seen) r.behind ≡ map (shown_after (a ++ r.seen)) part.behind
   saw-not =
-      ap (map (after r.seen)) part.back_is ∙ after-both a r.seen part.behind it-and-behind.1
+      ap (map (shown_after r.seen)) part.back_is ∙ after-both a r.seen part.behind it-and-behind.1
 
   abbrev refused-later : Refusal old (a ++ b) new
   refused-later = record {
@@ -193,8 +193,8 @@ module _ (a b : List Node) (old new : List Meaning) (h : AllAdmit a old)
         ∙ ap (λ (s : Meaning × Bool). s.1)
         (after_nodes-append part.it a last it-and-behind.0)
         ∙ ap (λ (m : Meaning). (after_nodes m last).1) (sym part.one_is) ∙ r.refused;
-    states = r.states ∙ ap (λ (xs : List Meaning). xs ++ map (after r.seen) r.behind) saw
-        ∙ ap (λ (xs : List Meaning). map (after ((a ++ r.seen) ++ r.node ∷ []))
+    states = r.states ∙ ap (λ (xs : List Meaning). xs ++ map (shown_after r.seen) r.behind) saw
+        ∙ ap (λ (xs : List Meaning). map (shown_after ((a ++ r.seen) ++ r.node ∷ []))
         (part.before ++ part.it ∷ []) ++ xs) saw-not;
   }
 
@@ -233,7 +233,7 @@ after_nodes-on k j old mid new a b (Ok i) h s =
     let c = h.2 in
     let d = s.2 in (
       all-both a b old h.0 (subst (AllAdmit b) h.1 s.0),
-      s.1 ∙ ap (map (after b)) h.1 ∙ after-both a b old h.0,
+      s.1 ∙ ap (map (shown_after b)) h.1 ∙ after-both a b old h.0,
       omega (arith, n, c, d),
     )
 after_nodes-on k j old mid new a b (Err e) h s =

@@ -5,7 +5,7 @@ use Rattle.std.specs.Prelude.{Option, Some, None, option_map, option_and_then, s
 use Rattle.std.specs.List.{list_all, list_any, flat_map, slice_split, zip}
 use Rattle.std.specs.Str.{bytes_eq}
 use Rattle.std.specs.Fmt.{decimal}
-use Rattle.sx_lines.specs.Words.{is_name, number_within}
+use Rattle.sx_lines.specs.Words.{is_name, count_of}
 use Rattle.sx_audit.specs.Meaning.{AuditState, Kind}
 use Rattle.sx_rules.specs.Limits.{most_levels}
 use Rattle.sx_term.specs.Limits.{most_budget}
@@ -33,17 +33,8 @@ abbrev pub listed_names : List ℕ → Option (List (List ℕ))
 listed_names setting = rule_names (slice_split (λ b. b == 44) setting)
 
 -- the names, where none stands twice
-abbrev pub distinct : List (List ℕ) → Option (List (List ℕ))
-distinct names = if are_distinct names then Some names else None
-
--- the number, where it is not 0
-abbrev pub positive : ℕ → Option ℕ
-positive zero = None
-positive (suc n) = Some (suc n)
-
--- the number from 1 to `most` that a setting spells
-abbrev pub limit_in : ℕ → List ℕ → Option ℕ
-limit_in most setting = option_and_then positive (number_within most setting)
+abbrev pub unless_repeated : List (List ℕ) → Option (List (List ℕ))
+unless_repeated names = if are_distinct names then Some names else None
 
 -- the state of `deny`: its names
 abbrev pub of_names : List (List ℕ) → AuditState
@@ -98,7 +89,7 @@ abbrev pub depth_kind : List ℕ → Kind
 depth_kind name = record {
   name = name;
   step = λ s n. (of_limit (limit_of s) (max (so_far_of s) n.depth), nat_le n.depth (limit_of s));
-  takes = λ setting. option_map (λ n. of_limit n 0) (limit_in most_levels setting);
+  takes = λ setting. option_map (λ n. of_limit n 0) (count_of most_levels setting);
   text = limit_text (codes "depth");
 }
 
@@ -108,7 +99,7 @@ nodes_kind name = record {
   name = name;
   step = λ s n. let seen = as_count (so_far_of s + 1) in
       (of_limit (limit_of s) seen, nat_le seen (limit_of s));
-  takes = λ setting. option_map (λ n. of_limit n 0) (limit_in most_budget setting);
+  takes = λ setting. option_map (λ n. of_limit n 0) (count_of most_budget setting);
   text = limit_text (codes "nodes");
 }
 
@@ -118,6 +109,6 @@ tally_kind name = record {
   name = name;
   step = λ s n. (of_counts s.texts (counted n.rule s.texts s.numbers), true);
   takes = λ setting. option_map (λ names. of_counts names (map (λ x. 0) names))
-      (option_and_then distinct (listed_names setting));
+      (option_and_then unless_repeated (listed_names setting));
   text = λ s. codes "tally" ++ counts_text s.texts s.numbers;
 }

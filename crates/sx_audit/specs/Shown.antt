@@ -15,8 +15,8 @@ after_nodes m (n ∷ ns) = if verdict m n then after_nodes (after_node m n) ns e
     (after_node m n, false)
 
 -- the auditor alone
-abbrev pub after : List Node → Meaning → Meaning
-after ns m = (after_nodes m ns).0
+abbrev pub shown_after : List Node → Meaning → Meaning
+shown_after ns m = (after_nodes m ns).0
 
 -- it refuses none of the nodes
 abbrev pub Admits : List Node → Meaning → Type 0
@@ -40,8 +40,8 @@ pub record Refusal (old : List Meaning) (ns : List Node) (new : List Meaning) : 
   pub passed : AllAdmit seen old
   pub admitted : AllAdmit (seen ++ node ∷ []) before
   pub refused : (after_nodes one (seen ++ node ∷ [])).1 ≡ false
-  pub states : new ≡ map (after (seen ++ node ∷ [])) (before ++ one ∷ [])
-      ++ map (after seen) behind
+  pub states : new ≡ map (shown_after (seen ++ node ∷ [])) (before ++ one ∷ [])
+      ++ map (shown_after seen) behind
 
 -- a refusal is told by the auditor's name and by the number of the node
 abbrev pub IsShowTold : ShowError → Meaning → ℕ → Type 0
@@ -50,12 +50,12 @@ IsShowTold Memory one n = Unit {0}
 
 -- the nodes are shown to the auditors, up to the first that one of them refuses
 abbrev pub IsShown : List Meaning → List Node → Result (Unit {0}) ShowError → List Meaning → Type 0
-IsShown old ns (Ok x) new = AllAdmit ns old × (new ≡ map (after ns) old)
+IsShown old ns (Ok x) new = AllAdmit ns old × (new ≡ map (shown_after ns) old)
 IsShown old ns (Err e) new = (r : Refusal old ns new) × IsShowTold e r.one (length r.seen + 1)
 
 -- so they are after so many others, and then this many were shown
 abbrev pub IsShownAfter : ℕ → List Meaning → List Node → Result ℕ ShowError → List Meaning → Type 0
-IsShownAfter k old ns (Ok count) new = AllAdmit ns old × (new ≡ map (after ns) old)
+IsShownAfter k old ns (Ok count) new = AllAdmit ns old × (new ≡ map (shown_after ns) old)
     × (count ≡ as_count (k + length ns))
 IsShownAfter k old ns (Err e) new = (r : Refusal old ns new)
     × IsShowTold e r.one (k + length r.seen + 1)

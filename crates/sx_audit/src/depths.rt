@@ -4,9 +4,9 @@ ghost use Rattle.sx_audit.specs.Kinds.{depth_kind, of_limit};
 
 use crate::auditor::Auditor;
 use crate::set_error::SetError;
-use crate::settings::limit;
 use crate::texts::limit_text;
 use std::alloc::Global;
+use sx_lines::count_of;
 use sx_term::{NoMemory, Text};
 
 /// The greatest limit, which stands until another is set.
@@ -31,7 +31,7 @@ impl Auditor for Depth {
     }
 
     fn set(&mut self, setting: &Text) -> Result<(), SetError> {
-        match limit(MOST_DEPTH, setting) {
+        match count_of(MOST_DEPTH, setting.bytes()) {
             Some(limit) => {
                 self.limit = limit;
                 self.greatest = 0;

@@ -5,7 +5,7 @@ ghost use Rattle.std.specs.List.{slice_split};
 ghost use Rattle.sx_audit.specs.Kinds as spec;
 
 use std::alloc::{AllocError, Global};
-use sx_lines::{is_name, number_within};
+use sx_lines::is_name;
 use sx_term::{NoMemory, Text};
 
 /// The most names that a setting lists.
@@ -53,15 +53,5 @@ pub(crate) fn are_distinct(names: &[Text]) -> bool
     match names.split_first() {
         None => true,
         Some((first, others)) => !others.contains(first) && are_distinct(others),
-    }
-}
-
-/// The number from 1 to `most` that the setting spells, or None where it spells none.
-pub(crate) fn limit(most: u64, setting: &Text) -> Option<u64>
-    ensures { result ≡ spec.limit_in most setting.now }
-{
-    match number_within(most, setting.bytes()) {
-        Some(0) => None,
-        other => other,
     }
 }

@@ -11,7 +11,7 @@ use Rattle.sx_rules.specs.Views.{NamedRule}
 use Rattle.sx_audit.specs.Kinds.{is_among}
 use Rattle.sx_audit.specs.Meaning.{Node, Meaning, verdict}
 use Rattle.sx_audit.specs.Preorder.{nodes, nodes_of_each}
-use Rattle.sx_audit.specs.Shown.{after_nodes, after, Admits}
+use Rattle.sx_audit.specs.Shown.{after_nodes, shown_after, Admits}
 use Rattle.sx_audit.proofs.ShownNodes.{admits-first, admits-rest}
 use Rattle.sx_auditing.specs.Laws.{denying, IsByOther}
 use Rattle.sx_auditing.specs.Shows.{Shows}
@@ -41,7 +41,7 @@ module _ (name : List ℕ) (names : List (List ℕ)) where
   stays true m rest h = h
   stays false m rest h = refl
 
-  denying-after : (ns : List Node) → after ns (denying name names) ≡ denying name names
+  denying-after : (ns : List Node) → shown_after ns (denying name names) ≡ denying name names
   denying-after [] = refl
   denying-after (n ∷ ns) =
       stays (verdict (denying name names) n) (denying name names) (after_nodes (denying name names) ns)
@@ -98,5 +98,5 @@ module _ (name : List ℕ) (names : List (List ℕ)) where
     pub denying-there : Contains new (denying name names)
     denying-there =
         subst (λ (ms : List Meaning). Contains ms (denying name names)) (sym s.shows.1)
-        (there-after (after (nodes rules 1 s.proof)) old (denying name names)
+        (there-after (shown_after (nodes rules 1 s.proof)) old (denying name names)
         (denying-after (nodes rules 1 s.proof)) there)

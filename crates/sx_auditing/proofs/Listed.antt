@@ -18,7 +18,7 @@ use Rattle.sx_audit.specs.declared.show_error.ShowError.{ShowError}
 use Rattle.sx_audit.specs.declared.show_error.ShowError.TheVariants as show_error
 use Rattle.sx_audit.specs.Meaning.{Node, Meaning}
 use Rattle.sx_audit.specs.Preorder.{nodes, nodes_of_each, IsDerivationList}
-use Rattle.sx_audit.specs.Shown.{after, Refusal, IsShown}
+use Rattle.sx_audit.specs.Shown.{shown_after, Refusal, IsShown}
 use Rattle.sx_audit.proofs.NodeLaws.{some-below}
 use Rattle.sx_auditing.specs.Listed.{IsRuleAt}
 use Rattle.sx_auditing.specs.Shows.{Shows}
@@ -181,7 +181,7 @@ module _ (set : RuleSet) (list : List Entry) (p : Proof)
 -- ---- how far showing went
 
 pub seen-all : (old new : List Meaning) (ns : List Node) → IsShown old ns (Ok tt) new →
-    new ≡ map (after ns) old
+    new ≡ map (shown_after ns) old
 seen-all old new ns h = h.1
 
 pub seen-refused : (old new : List Meaning) (ns : List Node) (e : ShowError) →

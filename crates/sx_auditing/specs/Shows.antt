@@ -9,7 +9,7 @@ use Rattle.sx_steps.specs.declared.stop.Stop.{Stop}
 use Rattle.sx_steps.specs.Refusal.{about}
 use Rattle.sx_audit.specs.Meaning.{Node, Meaning}
 use Rattle.sx_audit.specs.Preorder.{nodes, IsDerivationList}
-use Rattle.sx_audit.specs.Shown.{after, AllAdmit, Refusal}
+use Rattle.sx_audit.specs.Shown.{shown_after, AllAdmit, Refusal}
 
 -- the auditor objects to the node with this number, counted from 1
 abbrev pub objection : List ℕ → Meaning → ℕ → Node → Stop
@@ -17,7 +17,7 @@ objection file one number n = about file (defect.Objected one.kind.name number n
 
 -- the auditors after these nodes, or the stop of the first that objects to one of them
 abbrev pub ShowsNodes : List ℕ → List Meaning → List Node → Result (List Meaning) Stop → Type 0
-ShowsNodes file old ns (Ok new) = AllAdmit ns old × (new ≡ map (after ns) old)
+ShowsNodes file old ns (Ok new) = AllAdmit ns old × (new ≡ map (shown_after ns) old)
 ShowsNodes file old ns (Err stop) = (new : List Meaning) × (r : Refusal old ns new)
     × (stop ≡ objection file r.one (length r.seen + 1) r.node)
 
@@ -32,5 +32,5 @@ pub record Shows (file : List ℕ) (rules : List NamedRule) (old : List Meaning)
 -- first objection
 abbrev pub HasSeen : {X : Type 0} → List Meaning → List Node → Result X StepError → List Meaning →
     Type 0
-HasSeen old ns (Ok x) new = new ≡ map (after ns) old
+HasSeen old ns (Ok x) new = new ≡ map (shown_after ns) old
 HasSeen old ns (Err e) new = Refusal old ns new

@@ -31,7 +31,7 @@ use Rattle.sx_closure.specs.Closures.{HaveLanguage}
 use Rattle.sx_headers.specs.ModuleFiles.{module_file}
 use Rattle.sx_closure.specs.ReadModules.{ReadsModules}
 use Rattle.sx_closure.proofs.Agreeing.{modules_alike}
-use Rattle.sx_build.specs.BuildModules.{BuildProgress, none_made, grown, ShowsUnit, MakesWith}
+use Rattle.sx_build.specs.BuildModules.{BuildProgress, none_made, with_unit, ShowsUnit, MakesWith}
 use Rattle.sx_build.specs.BuildModules.{MakesNext, MakesAfter, whole_plan, language_in, BuildsOver}
 use Rattle.sx_build.specs.BuildModules.{BuildsRead, BuildsModule}
 use Rattle.sx_build.specs.Laws.{IsClosureFound, IsTurnOf, given_at, BuildsAlikeButShown, BuildsAgree}
@@ -45,10 +45,10 @@ shows_one : ShowsOnce → (l : Stated) (before : BuildProgress) (m : Module) (un
     IsOne (ShowsUnit l before m unit)
 shows_one once l before m unit =
     then_one (Shows (module_file m.header.name) l.language.rules before.auditors unit.list)
-    (λ auditors result. result ≡ Ok (grown before m unit auditors))
+    (λ auditors result. result ≡ Ok (with_unit before m unit auditors))
     (λ x y h k f g. once (module_file m.header.name) l.language.rules before.auditors unit.list x y
     h k)
-    (λ auditors shown. is_given (Ok (grown before m unit auditors)))
+    (λ auditors shown. is_given (Ok (with_unit before m unit auditors)))
 
 module _ (name : List ℕ) (files : Files) where
   answer_gives : (x : Result (List Module) Stop) → ReadsModules name files x →

@@ -20,7 +20,7 @@ use Rattle.sx_compiling.proofs.MadeUnits.{units_keep_promise}
 use Rattle.sx_closure.specs.Closures.{HaveLanguage}
 use Rattle.sx_headers.specs.ModuleFiles.{module_file}
 use Rattle.sx_closure.specs.ReadModules.{module_name}
-use Rattle.sx_build.specs.BuildModules.{BuildProgress, grown, given_in, ShowsUnit, MakesWith, MakesNext}
+use Rattle.sx_build.specs.BuildModules.{BuildProgress, with_unit, given_in, ShowsUnit, MakesWith, MakesNext}
 use Rattle.sx_build.specs.BuildModules.{MakesAfter}
 use Rattle.sx_build.specs.MadeModules.{Made, made_of, with_made}
 use Rattle.sx_build.proofs.Languages.{HasBytes, given_language}
@@ -67,9 +67,9 @@ module _ (budgets : Budgets) (old : Files) (language : List ℕ) (l : Stated)
       let unit = made.given in
       let shown = went
       (Shows (module_file m.header.name) l.language.rules before.auditors unit.list)
-      (λ auditors result. result ≡ Ok (grown before m unit auditors)) next made.goes.0 in
-      let is : next ≡ grown before m unit shown.given =
-      ok_same next (grown before m unit shown.given) shown.goes in
+      (λ auditors result. result ≡ Ok (with_unit before m unit auditors)) next made.goes.0 in
+      let is : next ≡ with_unit before m unit shown.given =
+      ok_same next (with_unit before m unit shown.given) shown.goes in
       record {
         own = made_of m.header.name unit;
         built = record {

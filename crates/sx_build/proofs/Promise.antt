@@ -6,7 +6,7 @@ use Rattle.std.specs.List.{AllByRecursion}
 use Rattle.std.proofs.lemmas.List.{map-append}
 use Rattle.sx_audit.specs.Meaning.{Meaning}
 use Rattle.sx_extcheck.specs.declared.budgets.Budgets.{Budgets}
-use Rattle.sx_outside.specs.Files.{Files, after}
+use Rattle.sx_outside.specs.Files.{Files, after_writes}
 use Rattle.sx_steps.specs.Steps.{Untried}
 use Rattle.sx_steps.specs.Unit.{base_file, list_file, interface_file}
 use Rattle.sx_steps.specs.Work.{Plan}
@@ -146,14 +146,14 @@ module _ (name : List ℕ) (budgets : Budgets) (auditors : List Meaning) (old ne
   -- where these were built, and the plan is theirs
   kept_by : (made : List Made) (left : List Meaning) (plan : Plan) →
       AreMade budgets old l [] auditors left ms made → plan ≡ whole_plan (end_of made left) →
-      new ≡ after plan.files old → BuiltModules name budgets auditors old new plan.lines
+      new ≡ after_writes plan.files old → BuiltModules name budgets auditors old new plan.lines
   kept_by made left plan makes is files_are =
       let closure = (are_closure name old ms reads).0 in
       let names = made_named budgets old (language_in ms) l bytes [] auditors left ms made makes in
       let once : AreOnce (map (λ x. x.name) made) =
       subst (λ (ns : List (List ℕ)). AreOnce ns) (sym names) (names_once ms closure.order) in
       let files : new ≡ with_made made old =
-      files_are ∙ ap (λ (p : Plan). after p.files old) is in
+      files_are ∙ ap (λ (p : Plan). after_writes p.files old) is in
       let holds = holds_all made old new once files in
       record {
         modules = ms;
@@ -173,7 +173,7 @@ module _ (name : List ℕ) (budgets : Budgets) (auditors : List Meaning) (old ne
   -- where all were made so
   made_by : (end : BuildProgress) (plan : Plan) (tries : ℕ) →
       MakesAfter budgets old l (none_made auditors) ms (Ok end) tries → plan ≡ whole_plan end →
-      new ≡ after plan.files old → BuiltModules name budgets auditors old new plan.lines
+      new ≡ after_writes plan.files old → BuiltModules name budgets auditors old new plan.lines
   made_by end plan tries makes planned files_are =
       let more = all_more budgets old (language_in ms) l bytes (none_made auditors) ms end tries
       (have_language name old ms reads) makes in

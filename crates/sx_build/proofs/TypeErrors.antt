@@ -35,7 +35,7 @@ use Rattle.sx_headers.specs.ModuleFiles.{module_file}
 use Rattle.sx_closure.specs.ReadImport.{language_differs, ReadsNamed, ReadsImportedModule as ReadsOther}
 use Rattle.sx_closure.specs.ReadImport.{HasSameLanguage as HasSame}
 use Rattle.sx_closure.specs.ReadModules.{imports_of, ReachesModules, ReadsModules}
-use Rattle.sx_build.specs.BuildModules.{BuildProgress, none_made, grown, ShowsUnit, MakesWith}
+use Rattle.sx_build.specs.BuildModules.{BuildProgress, none_made, with_unit, ShowsUnit, MakesWith}
 use Rattle.sx_build.specs.BuildModules.{MakesNext, MakesAfter, whole_plan, language_in, BuildsOver}
 use Rattle.sx_build.specs.BuildModules.{BuildsRead}
 use Rattle.sx_build.specs.Laws.{IsClosureFound, IsTurnOf, given_at, BuildTypeErrorsAreFinal}
@@ -107,11 +107,11 @@ module _ (Q : Stop → Type 0) where
   shows_final l before m unit =
       then_final Q
       (Shows (module_file m.header.name) l.language.rules before.auditors unit.list)
-      (λ auditors result. result ≡ Ok (grown before m unit auditors))
+      (λ auditors result. result ≡ Ok (with_unit before m unit auditors))
       (λ stop h. no_type_error Q
       (objection (module_file m.header.name) h.shows.1.one _ h.shows.1.node) stop (λ e. e)
       h.shows.2)
-      (λ auditors shown stop h. absurd (ok_no_err (grown before m unit auditors) stop (sym h)))
+      (λ auditors shown stop h. absurd (ok_no_err (with_unit before m unit auditors) stop (sym h)))
 
 -- ---- the command
 

@@ -32,8 +32,8 @@ abbrev pub none_made : List Meaning → BuildProgress
 none_made auditors = record { made = []; auditors = auditors }
 
 -- the unit of one module more, and the auditors after they were shown it
-abbrev pub grown : BuildProgress → Module → UnitData → List Meaning → BuildProgress
-grown before m unit auditors =
+abbrev pub with_unit : BuildProgress → Module → UnitData → List Meaning → BuildProgress
+with_unit before m unit auditors =
     record { made = before.made ++ made_of m.header.name unit ∷ []; auditors = auditors }
 
 -- the module, in this language, with these imports
@@ -52,7 +52,7 @@ abbrev pub ShowsUnit : Stated → BuildProgress → Module → UnitData →
     Result BuildProgress Stop → Type 0
 ShowsUnit l before m unit =
     Then (Shows (module_file m.header.name) l.language.rules before.auditors unit.list)
-    (λ auditors result. result ≡ Ok (grown before m unit auditors))
+    (λ auditors result. result ≡ Ok (with_unit before m unit auditors))
 
 -- the module's unit is made with these imports, and shown
 abbrev pub MakesWith : Budgets → Files → Stated → BuildProgress → Module → List ImportData →

@@ -5,7 +5,7 @@ use Rattle.sx_lines.specs.Words.{is_name}
 use Rattle.sx_extcheck.specs.declared.budgets.Budgets.{Budgets}
 use Rattle.sx_unit.specs.Written.{UnitData}
 use Rattle.sx_audit.specs.Meaning.{Meaning}
-use Rattle.sx_outside.specs.Files.{Files, after}
+use Rattle.sx_outside.specs.Files.{Files, after_writes}
 use Rattle.sx_steps.specs.Unit.{base_file, list_file, interface_file, built_line}
 use Rattle.sx_steps.specs.Work.{Plan}
 use Rattle.sx_accepting.specs.ReadLanguage.{Stated, ReadsLanguage}
@@ -79,7 +79,7 @@ abbrev pub BuildsKeepPromise : Type 0
 BuildsKeepPromise =
     (name : List ℕ) (budgets : Budgets) (auditors : List Meaning) (old new : Files) (plan : Plan)
     (tries : ℕ) → BuildsModule name budgets auditors old (Ok plan) tries →
-    new ≡ after plan.files old → BuiltModules name budgets auditors old new plan.lines
+    new ≡ after_writes plan.files old → BuiltModules name budgets auditors old new plan.lines
 
 -- and the three texts of each of the modules that is built so have the headline
 abbrev pub BuiltHaveHeadline : Type 0

@@ -2,7 +2,7 @@
 use Rattle.std.specs.Prelude.{ℕ, List}
 use Rattle.std.specs.List.{flat_map}
 use Rattle.sx_unit.specs.Written.{UnitData}
-use Rattle.sx_outside.specs.Files.{Files, File, after}
+use Rattle.sx_outside.specs.Files.{Files, File, after_writes}
 use Rattle.sx_steps.specs.Unit.{built_plan}
 use Rattle.sx_steps.specs.Work.{Plan}
 
@@ -34,4 +34,4 @@ made_files mades = flat_map (λ m. (made_plan m).files) mades
 
 -- the files as they are once those of these modules were written
 abbrev pub with_made : List Made → Files → Files
-with_made mades files = after (made_files mades) files
+with_made mades files = after_writes (made_files mades) files

@@ -2,7 +2,7 @@
 use Rattle.std.proofs.Common.{◌≡◌, ℕ, List, [], ◌∷◌, sym, ap, ◌∙◌, subst}
 use Rattle.std.specs.Prelude.{Ok, Some}
 use Rattle.sx_extcheck.specs.declared.budgets.Budgets.{Budgets}
-use Rattle.sx_outside.specs.Files.{Files, after}
+use Rattle.sx_outside.specs.Files.{Files, after_writes}
 use Rattle.sx_steps.specs.Work.{Plan}
 use Rattle.sx_steps.proofs.Ones.{ok_same}
 use Rattle.sx_steps.proofs.StepsOn.{went, went_on}
@@ -23,7 +23,7 @@ use Rattle.sx_check.proofs.ComingLast.{own_is_last, comes_last}
 module _ (name language : List ℕ) (budgets : Budgets) (old : Files) (bytes : List ℕ) (l : Stated) (held : old (language_file language) ≡ Some bytes) (stated : IsLanguageStated language bytes l)
     (xs : List Extension) (reached : ReadsUses (extension_file name) language (name ∷ []) old (Ok xs))
     (x : ExtendedData) (tries : ℕ) (extends : ExtendsLanguage (base_in l) budgets xs (unextended l.language) (Ok x) tries) where
-  kept : (plan : Plan) (new : Files) → plan ≡ check_plan name x → new ≡ after plan.files old → CheckedExtension name budgets old new plan.lines
+  kept : (plan : Plan) (new : Files) → plan ≡ check_plan name x → new ≡ after_writes plan.files old → CheckedExtension name budgets old new plan.lines
   kept plan new made files_are =
       let last = own_is_last (extension_file name) language name old xs reached in
       let as_own = sym last.written_for in
@@ -43,7 +43,7 @@ module _ (name language : List ℕ) (budgets : Budgets) (old : Files) (bytes : L
         accepted = extended_is_accepted language bytes l stated budgets xs x tries extends;
         last = comes_last (base_in l) budgets (accepted_begin language bytes l stated) last.own last.before xs x tries last.parts extends;
         certified = have_certificates x (all_counted (base_in l) budgets xs (unextended l.language) x tries (begin_counted l.language) extends);
-        same = files_are ∙ ap (λ (p : Plan). after p.files old) made;
+        same = files_are ∙ ap (λ (p : Plan). after_writes p.files old) made;
         lines = ap (λ (p : Plan). p.lines) made;
       }
 

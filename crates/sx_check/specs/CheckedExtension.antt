@@ -10,7 +10,7 @@ use Rattle.sx_rewrite.specs.Sound.{AreSoundBy}
 use Rattle.sx_rewrite.specs.Stored.{certificate_at}
 use Rattle.sx_extcheck.specs.declared.budgets.Budgets.{Budgets}
 use Rattle.sx_outline.specs.Headers.{IsHeaderAnswer}
-use Rattle.sx_outside.specs.Files.{Files, after}
+use Rattle.sx_outside.specs.Files.{Files, after_writes}
 use Rattle.sx_steps.specs.Work.{Plan}
 use Rattle.sx_uses.specs.ExtensionFile.{Extension, extension_file}
 use Rattle.sx_uses.specs.ReadUses.{ReadsUses}
@@ -87,5 +87,5 @@ pub record CheckedExtension (name : List ℕ) (budgets : Budgets) (old new : Fil
 abbrev pub ChecksKeepPromise : Type 0
 ChecksKeepPromise =
     (name : List ℕ) (budgets : Budgets) (old new : Files) (plan : Plan) (tries : ℕ) →
-    ChecksExtension name budgets old (Ok plan) tries → new ≡ after plan.files old →
+    ChecksExtension name budgets old (Ok plan) tries → new ≡ after_writes plan.files old →
     CheckedExtension name budgets old new plan.lines

@@ -4,7 +4,7 @@ use Rattle.std.specs.Prelude.{Ok}
 use Rattle.sx_audit.specs.Meaning.{Meaning}
 use Rattle.sx_extcheck.specs.declared.budgets.Budgets.{Budgets}
 use Rattle.sx_unit.specs.Written.{UnitData}
-use Rattle.sx_outside.specs.Files.{Files, after}
+use Rattle.sx_outside.specs.Files.{Files, after_writes}
 use Rattle.sx_steps.specs.Steps.{Untried}
 use Rattle.sx_steps.specs.Unit.{base_file, list_file, interface_file}
 use Rattle.sx_steps.specs.Work.{Plan}
@@ -33,12 +33,12 @@ module _ (name : List ℕ) (budgets : Budgets) (auditors : List Meaning) (old ne
   kept_by : (plan : Plan) (f : IsModuleFound name old) (unit : UnitData) (kept : List Meaning) →
       HasUnit budgets old (given_from f) unit →
       Shows (module_file name) f.language.language.rules auditors unit.list (Ok kept) →
-      plan ≡ audited_plan name unit kept → new ≡ after plan.files old →
+      plan ≡ audited_plan name unit kept → new ≡ after_writes plan.files old →
       CompiledModule name budgets auditors old new plan.lines
   kept_by plan f unit kept compiled shown made files_are =
       let stands = written name unit.base unit.derivation unit.interface old in
-      let files : new ≡ after ((audited_plan name unit kept).files) old =
-      files_are ∙ ap (λ (p : Plan). after p.files old) made in
+      let files : new ≡ after_writes ((audited_plan name unit kept).files) old =
+      files_are ∙ ap (λ (p : Plan). after_writes p.files old) made in
       record {
         found = f;
         unit = unit;

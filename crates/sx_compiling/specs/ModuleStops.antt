@@ -8,12 +8,12 @@ use Rattle.sx_words.specs.declared.goal_defect.GoalDefect.{GoalDefect}
 use Rattle.sx_words.specs.declared.refusal.Defect.TheVariants as defect
 use Rattle.sx_steps.specs.declared.stop.Stop.{Stop}
 use Rattle.sx_steps.specs.Refusal.{about}
-use Rattle.sx_steps.specs.Stops.{at, too_deep, too_big, tries_spent, depth_spent}
+use Rattle.sx_steps.specs.Stops.{defect_at, too_deep, too_big, tries_spent, depth_spent}
 use Rattle.sx_headers.specs.TextStops.{uncut_text, unread_text}
 
 -- the body has no type
 abbrev pub untyped : List ℕ → ℕ → ℕ → GoalDefect → Stop
-untyped file line column why = at (Spot line column) file (defect.Goal why)
+untyped file line column why = defect_at (Spot line column) file (defect.Goal why)
 
 -- the stop of a module's refusal; out of memory has none
 abbrev pub module_stop : List ℕ → ModuleError → Option Stop

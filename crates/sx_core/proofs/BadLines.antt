@@ -14,7 +14,7 @@ use Rattle.sx_rules.specs.Views.{FormData, places_at, modes_of, sorts_of}
 use Rattle.sx_core.specs.File.{JudgementRow, CoreFile}
 use Rattle.sx_core.specs.Statements.{IsFormRead}
 use Rattle.sx_core.specs.TermsText.{terms_text, HaveCores, IsDeepRow}
-use Rattle.sx_core.specs.Table.{Row, row, row_text, declaration_row, rule_rows, rows_of, parts_text}
+use Rattle.sx_core.specs.Table.{Row, row_with, row_text, declaration_row, rule_rows, rows_of, parts_text}
 use Rattle.sx_core.specs.Table.{IsKeyword, NoKeyword, Has}
 use Rattle.sx_core.specs.Fitting.{Context, PartsFit, IsFitting, IsDeep, IsDeepLine}
 use Rattle.sx_core.specs.Order.{AreRowsInOrder, Phase, at_start, at_declarations, at_rules, at_premises}
@@ -44,10 +44,10 @@ pub front_less : (xs : List Row) (r : Row) (more : List Row) → AreRowsInOrder 
 front_less xs r more f = (f.0, more ++ f.1, f.2 ∙ append_assoc xs (r ∷ more) f.1 ∙ sym (append_assoc xs (r ∷ []) (more ++ f.1)))
 
 first : List Row → Row
-first [] = row Head tt
+first [] = row_with Head tt
 first (r ∷ rows) = r
 
-head_first : (xs : List Row) (r : Row) (more : List Row) → AreRowsInOrder (xs ++ r ∷ more) → xs ≡ [] → r ≡ row Head tt
+head_first : (xs : List Row) (r : Row) (more : List Row) → AreRowsInOrder (xs ++ r ∷ more) → xs ≡ [] → r ≡ row_with Head tt
 unfolding first
 head_first xs r more f e = sym (ap first f.2 ∙ ap (λ (z : List Row). first ((z ++ r ∷ more) ++ f.1)) e)
 
@@ -240,7 +240,7 @@ one_open rows f g o p h =
       ]
     ]
 
-has_last : (xs : List Row) (g : JudgementRow) → Has Goal (xs ++ row Goal g ∷ [])
+has_last : (xs : List Row) (g : JudgementRow) → Has Goal (xs ++ row_with Goal g ∷ [])
 has_last [] g = inl refl
 has_last (x ∷ xs) g = inr (has_last xs g)
 
@@ -286,7 +286,7 @@ module _ (lines : Lines) (file : CoreFile) where
   pub none_missing : (end n : ℕ) (k : Kind) → IsMissingRow lines (rows_of file) end n k → ⊥
   none_missing end n BadHead h = no_rows h.0
   none_missing end n Unfinished h = open_inside h.0 h.2.inside h.2.rule at_end h.2.begins h.2.not_ended (subst (λ (z : List Row). Reaches at_start z at_end) h.2.parts (file_reaches file))
-  none_missing end n Main h = h.0.1 (has_last (row Head tt ∷ (map declaration_row file.declarations ++ flat_map rule_rows file.rules)) file.goal)
+  none_missing end n Main h = h.0.1 (has_last (row_with Head tt ∷ (map declaration_row file.declarations ++ flat_map rule_rows file.rules)) file.goal)
   none_missing end n Directive h = h
   none_missing end n Shape h = h
   none_missing end n Order h = h

@@ -14,7 +14,7 @@ use Rattle.sx_core.specs.Stated.{IsCoreName, AreStatedNames, AreCons, AreForms, 
 use Rattle.sx_core.specs.Stated.{con_rows, form_rows, SaysCore}
 use Rattle.sx_core.specs.Resolving.{sort_names, rows_in}
 use Rattle.sx_core.specs.Statements.{known_in}
-use Rattle.sx_core.specs.Table.{RowParts, parts_text, Row, row, row_text, declaration_row, premise_row}
+use Rattle.sx_core.specs.Table.{RowParts, parts_text, Row, row_with, row_text, declaration_row, premise_row}
 use Rattle.sx_core.specs.Table.{rule_rows, IsKeyword}
 use Rattle.sx_core.specs.Fitting.{Context, PartsFit, core_sorts_at, cons_at, forms_at, sorts_among}
 use Rattle.sx_core.specs.Fitting.{cons_among, forms_among, AllRowsFit, AreSorts}
@@ -35,29 +35,29 @@ flat_append : {A B : Type 0} (f : A → List B) (xs ys : List A) → flat_map f 
 flat_append f [] ys = refl
 flat_append f (x ∷ xs) ys = ap (λ z. f x ++ z) (flat_append f xs ys) ∙ sym (append_assoc (f x) (flat_map f xs) (flat_map f ys))
 
-module _ {B : Type 0} (f : Row → List B) (fh : f (row Head tt) ≡ []) (fr : (p : RowParts Rule) → f (row Rule p) ≡ []) (fi : (p : RowParts If) → f (row If p) ≡ []) (fn : (p : RowParts Not) → f (row Not p) ≡ []) (ft : (p : RowParts Then) → f (row Then p) ≡ [])
-    (fe : f (row End tt) ≡ []) (fg : (p : RowParts Goal) → f (row Goal p) ≡ []) where
+module _ {B : Type 0} (f : Row → List B) (fh : f (row_with Head tt) ≡ []) (fr : (p : RowParts Rule) → f (row_with Rule p) ≡ []) (fi : (p : RowParts If) → f (row_with If p) ≡ []) (fn : (p : RowParts Not) → f (row_with Not p) ≡ []) (ft : (p : RowParts Then) → f (row_with Then p) ≡ [])
+    (fe : f (row_with End tt) ≡ []) (fg : (p : RowParts Goal) → f (row_with Goal p) ≡ []) where
   premises_none : (ps : List PremiseRow) → flat_map f (map premise_row ps) ≡ []
   premises_none [] = refl
   premises_none (if_line x ∷ ps) = ap (λ z. z ++ flat_map f (map premise_row ps)) (fi x) ∙ premises_none ps
   premises_none (not_line l m ∷ ps) = ap (λ z. z ++ flat_map f (map premise_row ps)) (fn (record { left = l; right = m })) ∙ premises_none ps
 
-  tail_none : (q : JudgementRow) → flat_map f (row Then q ∷ row End tt ∷ []) ≡ []
-  tail_none q = ap (λ z. z ++ (f (row End tt) ++ [])) (ft q) ∙ ap (λ z. z ++ []) fe
+  tail_none : (q : JudgementRow) → flat_map f (row_with Then q ∷ row_with End tt ∷ []) ≡ []
+  tail_none q = ap (λ z. z ++ (f (row_with End tt) ++ [])) (ft q) ∙ ap (λ z. z ++ []) fe
 
   rule_none : (r : RuleRows) → flat_map f (rule_rows r) ≡ []
   rule_none r =
-      ap (λ z. z ++ flat_map f (map premise_row r.premises ++ row Then r.conclusion ∷ row End tt ∷ [])) (fr (record { name = r.name; sorts = r.sorts }))
-      ∙ flat_append f (map premise_row r.premises) (row Then r.conclusion ∷ row End tt ∷ []) ∙ ap (λ z. z ++ flat_map f (row Then r.conclusion ∷ row End tt ∷ [])) (premises_none r.premises) ∙ tail_none r.conclusion
+      ap (λ z. z ++ flat_map f (map premise_row r.premises ++ row_with Then r.conclusion ∷ row_with End tt ∷ [])) (fr (record { name = r.name; sorts = r.sorts }))
+      ∙ flat_append f (map premise_row r.premises) (row_with Then r.conclusion ∷ row_with End tt ∷ []) ∙ ap (λ z. z ++ flat_map f (row_with Then r.conclusion ∷ row_with End tt ∷ [])) (premises_none r.premises) ∙ tail_none r.conclusion
 
   rules_none : (rs : List RuleRows) → flat_map f (flat_map rule_rows rs) ≡ []
   rules_none [] = refl
   rules_none (r ∷ rs) = flat_append f (rule_rows r) (flat_map rule_rows rs) ∙ ap (λ z. z ++ flat_map f (flat_map rule_rows rs)) (rule_none r) ∙ rules_none rs
 
-  pub declared_rows : (ds : List Declaration) (rs : List RuleRows) (q : JudgementRow) → flat_map f (front_rows ds rs ++ row Goal q ∷ []) ≡ flat_map f (map declaration_row ds)
+  pub declared_rows : (ds : List Declaration) (rs : List RuleRows) (q : JudgementRow) → flat_map f (front_rows ds rs ++ row_with Goal q ∷ []) ≡ flat_map f (map declaration_row ds)
   declared_rows ds rs q =
-      ap (λ z. z ++ flat_map f ((map declaration_row ds ++ flat_map rule_rows rs) ++ row Goal q ∷ [])) fh
-      ∙ flat_append f (map declaration_row ds ++ flat_map rule_rows rs) (row Goal q ∷ [])
+      ap (λ z. z ++ flat_map f ((map declaration_row ds ++ flat_map rule_rows rs) ++ row_with Goal q ∷ [])) fh
+      ∙ flat_append f (map declaration_row ds ++ flat_map rule_rows rs) (row_with Goal q ∷ [])
       ∙ ap (λ z. flat_map f (map declaration_row ds ++ flat_map rule_rows rs) ++ (z ++ [])) (fg q)
       ∙ append-nil (flat_map f (map declaration_row ds ++ flat_map rule_rows rs))
       ∙ flat_append f (map declaration_row ds) (flat_map rule_rows rs)
@@ -84,7 +84,7 @@ forms_declared (form_line x ∷ ds) = ap (λ z. x ∷ z) (forms_declared ds)
 
 -- ---- the sorts of the file are those of its rows
 
-pub sort_or_none : (k : Keyword) (p : RowParts k) → ((x : SortRow) × (row k p ≡ row Sort x)) ⊎ (core_sorts_at k p ≡ [])
+pub sort_or_none : (k : Keyword) (p : RowParts k) → ((x : SortRow) × (row_with k p ≡ row_with Sort x)) ⊎ (core_sorts_at k p ≡ [])
 sort_or_none Head p = inr refl
 sort_or_none Sort p = inl (p, refl)
 sort_or_none Con p = inr refl
@@ -100,12 +100,12 @@ abbrev sort_part : Row → List SortRow
 sort_part r = core_sorts_at r.keyword r.parts
 
 -- a row with the line of a sort is the row of that sort
-pub only_sort : (text : List ℕ) (x : SortRow) → IsCoreName x.name → text ≡ row_text (row Sort x) → (r : Row) → text ≡ row_text r → ((y : SortRow) → r ≡ row Sort y → IsCoreName y.name) → r ≡ row Sort x
+pub only_sort : (text : List ℕ) (x : SortRow) → IsCoreName x.name → text ≡ row_text (row_with Sort x) → (r : Row) → text ≡ row_text r → ((y : SortRow) → r ≡ row_with Sort y → IsCoreName y.name) → r ≡ row_with Sort x
 only_sort text x n e r f named =
-    only_row text Sort (parts_text Sort x) (subst (λ (t : List ℕ). IsKeyword t Sort (parts_text Sort x)) (sym e) (row_keyword (row Sort x)))
-    (λ (z : Row). ((y : SortRow) → z ≡ row Sort y → IsCoreName y.name) → z ≡ row Sort x) (λ y q h. ap (row Sort) (sort_same y x (h y refl) n (sym q))) r f named
+    only_row text Sort (parts_text Sort x) (subst (λ (t : List ℕ). IsKeyword t Sort (parts_text Sort x)) (sym e) (row_keyword (row_with Sort x)))
+    (λ (z : Row). ((y : SortRow) → z ≡ row_with Sort y → IsCoreName y.name) → z ≡ row_with Sort x) (λ y q h. ap (row_with Sort) (sort_same y x (h y refl) n (sym q))) r f named
 
-sort_fits : (c : Context) (r : Row) (y : SortRow) → PartsFit c r.keyword r.parts → r ≡ row Sort y → IsCoreName y.name × (Contains c.taken y.name → ⊥)
+sort_fits : (c : Context) (r : Row) (y : SortRow) → PartsFit c r.keyword r.parts → r ≡ row_with Sort y → IsCoreName y.name × (Contains c.taken y.name → ⊥)
 sort_fits c r y h e = subst (λ (z : Row). PartsFit c z.keyword z.parts) e h
 
 module _ (all : List SortRow) where
@@ -141,7 +141,7 @@ module _ (all : List SortRow) (lines : Lines) (rows : List Row) (r : Reader) (ne
   pub file : CoreFile
   file = record { declarations = at.staged.declarations; rules = at.staged.ended; goal = there.1 }
 
-  rows_are : rows ≡ front_rows at.staged.declarations at.staged.ended ++ row Goal there.1 ∷ []
+  rows_are : rows ≡ front_rows at.staged.declarations at.staged.ended ++ row_with Goal there.1 ∷ []
   rows_are = at.staged.parts ∙ ap (λ (z : List Row). z ++ at.staged.inside) there.0 ∙ ap (λ (z : List Row). front_rows at.staged.declarations at.staged.ended ++ z) there.2
 
   pub lines_are : AreLinesOf lines file

@@ -10,7 +10,7 @@ use Rattle.sx_lines.specs.Distinct.{AreTextsDistinct}
 use Rattle.sx_core.specs.Rows.{sort_row, IsDeclarationLine, NoRow}
 use Rattle.sx_core.specs.declared.rows.SortRow.{SortRow as SortRowOf}
 use Rattle.sx_core.specs.Resolving.{sort_names, rows_in, IsSortTable}
-use Rattle.sx_core.specs.Table.{parts_text, row, row_text, IsKeyword, NoKeyword}
+use Rattle.sx_core.specs.Table.{parts_text, row_with, row_text, IsKeyword, NoKeyword}
 use Rattle.sx_core.specs.Fitting.{AreSorts}
 use Rattle.sx_core.specs.Machine.{IsSortLine, FindsSort}
 use Rattle.sx_core.specs.declared.keyword.Keyword.{Keyword}
@@ -33,7 +33,7 @@ sort_is text rest k r h = (k.parts ∙ h.line, h.spelled)
 pub sort_not : (text rest : List ℕ) → IsKeyword text Sort rest → NoRow sort_line (codes "sort") rest Bad → (r : SortRow) → IsSortLine text r → ⊥
 sort_not text rest k n r h = n r (record { line = sym k.parts ∙ h.0; spelled = h.1 })
 
-keyword_here : (text : List ℕ) (r : SortRow) → text ≡ row_text (row Sort r) → IsKeyword text Sort (parts_text Sort r)
+keyword_here : (text : List ℕ) (r : SortRow) → text ≡ row_text (row_with Sort r) → IsKeyword text Sort (parts_text Sort r)
 keyword_here text r e = record { parts = e; stops = parts_stop Sort r }
 
 pub other_word : (text : List ℕ) (k : Keyword) (rest : List ℕ) → IsKeyword text k rest → (k ≡ Sort → ⊥) → (r : SortRow) → IsSortLine text r → ⊥

@@ -17,7 +17,7 @@ use Rattle.sx_core.specs.Rows.{sort_row, con_row}
 use Rattle.sx_core.specs.Stated.{NameSorts}
 use Rattle.sx_core.specs.Resolving.{rows_in, IsConOf, IsFormOf}
 use Rattle.sx_core.specs.Statements.{form_names, known_in}
-use Rattle.sx_core.specs.Table.{Row, row, row_text, premise_row, rule_rows, rows_of, Has}
+use Rattle.sx_core.specs.Table.{Row, row_with, row_text, premise_row, rule_rows, rows_of, Has}
 use Rattle.sx_core.specs.Fitting.{Context, IsFitting, Declare, AllRowsFit, AreSorts}
 use Rattle.sx_core.specs.Reading.{context, AreNamesFound, IsCoreLineRead}
 use Rattle.sx_core.specs.Order.{AreRowsInOrder, phase_of, step, at_start, at_declarations, at_rules}
@@ -67,16 +67,16 @@ module _ (all : List SortRow) (lines : Lines) (rows : List Row) (r s : Reader) (
   Now = (x : Row) × IsAt all lines (rows ++ x ∷ []) s more
 
   pub next_at : (x : LineRead) → IsCoreLineRead (context r.found) text x → CoreSteps r n x s → Now
-  next_at HeadRead h k = (row Head tt, head_at all lines rows r s next more n text after at e h k)
-  next_at (SortRead y) h k = (row Sort (sort_row y), sort_at all lines rows r s next more n text after at e (sort_row y) h k.0 k.1 k.2 k.3)
-  next_at (ConRead y c) h k = (row Con (con_row y), con_at all lines rows r s next more n text after at e (con_row y) (shape c) h.0 (subst (λ (z : List SortRow). IsConOf z (con_row y) (shape c)) at.same h.1) k.0 k.1 k.2 k.3)
-  next_at (FormRead f) h k = (row Form h.0, form_at all lines rows r s next more n text after at e h.0 (form f) h.1 (subst (λ (z : List SortRow). IsFormOf z h.0 (form f)) at.same h.2) few k.0 k.1 k.2 k.3)
-  next_at (RuleRead name sorts) h k = (row Rule h.0, rule_at all lines rows r s next more n text after at e h.0 k.1 h.1 k.0 k.2 k.3.line (h.2 ∙ sym k.3.name_is) (subst (λ (z : List SortRow). NameSorts z h.0.sorts k.1.sorts.items) at.same (subst (NameSorts (rows_in r.found.sorts) h.0.sorts) (sym k.3.sorts_are) h.3)) k.3.premises k.4)
-  next_at (IfRead j) h k = (row If h.0, premise_at all lines rows r s next more n text after at e (if_line h.0) (holds (judgement j)) k.0 k.1 h.1 k.2 k.3 (h.2.1, tt) k.4 k.5 refl refl refl refl)
-  next_at (NotRead l m) h k = (row Not (record { left = tree l; right = tree m }), premise_at all lines rows r s next more n text after at e (not_line (tree l) (tree m)) (apart (tree l) (tree m)) k.0 k.1 h k.2 k.3 (refl, refl, h.1, tt) k.4 k.5 refl refl refl refl)
-  next_at (ThenRead j) h k = (row Then h.0, then_at all lines rows r s next more n text after at e h.0 k.0 j h.1 k.1 k.2 h.2.1 k.3)
-  next_at EndRead h k = (row End tt, end_at all lines rows r s next more n text after at e k.0 k.1 h k.2 k.3 k.4 k.5)
-  next_at (GoalRead g) h k = (row Goal h.0, goal_at all lines rows r s next more n text after at e h.0 g h.1 k.0 k.1 h.2 k.2)
+  next_at HeadRead h k = (row_with Head tt, head_at all lines rows r s next more n text after at e h k)
+  next_at (SortRead y) h k = (row_with Sort (sort_row y), sort_at all lines rows r s next more n text after at e (sort_row y) h k.0 k.1 k.2 k.3)
+  next_at (ConRead y c) h k = (row_with Con (con_row y), con_at all lines rows r s next more n text after at e (con_row y) (shape c) h.0 (subst (λ (z : List SortRow). IsConOf z (con_row y) (shape c)) at.same h.1) k.0 k.1 k.2 k.3)
+  next_at (FormRead f) h k = (row_with Form h.0, form_at all lines rows r s next more n text after at e h.0 (form f) h.1 (subst (λ (z : List SortRow). IsFormOf z h.0 (form f)) at.same h.2) few k.0 k.1 k.2 k.3)
+  next_at (RuleRead name sorts) h k = (row_with Rule h.0, rule_at all lines rows r s next more n text after at e h.0 k.1 h.1 k.0 k.2 k.3.line (h.2 ∙ sym k.3.name_is) (subst (λ (z : List SortRow). NameSorts z h.0.sorts k.1.sorts.items) at.same (subst (NameSorts (rows_in r.found.sorts) h.0.sorts) (sym k.3.sorts_are) h.3)) k.3.premises k.4)
+  next_at (IfRead j) h k = (row_with If h.0, premise_at all lines rows r s next more n text after at e (if_line h.0) (holds (judgement j)) k.0 k.1 h.1 k.2 k.3 (h.2.1, tt) k.4 k.5 refl refl refl refl)
+  next_at (NotRead l m) h k = (row_with Not (record { left = tree l; right = tree m }), premise_at all lines rows r s next more n text after at e (not_line (tree l) (tree m)) (apart (tree l) (tree m)) k.0 k.1 h k.2 k.3 (refl, refl, h.1, tt) k.4 k.5 refl refl refl refl)
+  next_at (ThenRead j) h k = (row_with Then h.0, then_at all lines rows r s next more n text after at e h.0 k.0 j h.1 k.1 k.2 h.2.1 k.3)
+  next_at EndRead h k = (row_with End tt, end_at all lines rows r s next more n text after at e k.0 k.1 h k.2 k.3 k.4 k.5)
+  next_at (GoalRead g) h k = (row_with Goal h.0, goal_at all lines rows r s next more n text after at e h.0 g h.1 k.0 k.1 h.2 k.2)
 
 -- ---- what the stage says of the rows
 
@@ -84,15 +84,15 @@ dummy : JudgementRow
 dummy = record { form = []; terms = [] }
 
 goal_rows : JudgementRow → List Row
-goal_rows g = row Goal g ∷ []
+goal_rows g = row_with Goal g ∷ []
 
 extends : (ds : List Declaration) (rs : List RuleRows) (whole : RuleRows) (g : JudgementRow) (xs ys : List Row) → rule_rows whole ≡ xs ++ ys
-    → rows_of (record { declarations = ds; rules = rs ++ whole ∷ []; goal = g }) ≡ (front_rows ds rs ++ xs) ++ (ys ++ row Goal g ∷ [])
+    → rows_of (record { declarations = ds; rules = rs ++ whole ∷ []; goal = g }) ≡ (front_rows ds rs ++ xs) ++ (ys ++ row_with Goal g ∷ [])
 extends ds rs whole g xs ys e =
-    ap (λ (z : List Row). z ++ row Goal g ∷ []) (sym (ruled_front ds rs whole))
-    ∙ ap (λ (z : List Row). (front_rows ds rs ++ z) ++ row Goal g ∷ []) e
-    ∙ ap (λ (z : List Row). z ++ row Goal g ∷ []) (sym (append_assoc (front_rows ds rs) xs ys))
-    ∙ append_assoc (front_rows ds rs ++ xs) ys (row Goal g ∷ [])
+    ap (λ (z : List Row). z ++ row_with Goal g ∷ []) (sym (ruled_front ds rs whole))
+    ∙ ap (λ (z : List Row). (front_rows ds rs ++ z) ++ row_with Goal g ∷ []) e
+    ∙ ap (λ (z : List Row). z ++ row_with Goal g ∷ []) (sym (append_assoc (front_rows ds rs) xs ys))
+    ∙ append_assoc (front_rows ds rs ++ xs) ys (row_with Goal g ∷ [])
 
 module _ (all : List SortRow) (S : List Shape) (known : List FormData) (lines : Lines) (rows : List Row) (ds : List Declaration) (rs : List RuleRows) (front inside : List Row) (parts : rows ≡ front ++ inside) where
   parts_are : (f i : List Row) → front ≡ f → inside ≡ i → rows ≡ f ++ i
@@ -103,23 +103,23 @@ module _ (all : List SortRow) (S : List Shape) (known : List FormData) (lines : 
 
   pub front_at : (stage : Stage) → Stands all S known lines stage ds rs front inside → AreRowsInOrder rows
   front_at Start h = is_front [] [] [] dummy (rows_of (record { declarations = []; rules = []; goal = dummy })) (parts_are [] [] h.0 h.2) refl
-  front_at Declaring h = is_front (front_rows ds rs) ds rs dummy (row Goal dummy ∷ []) (parts_are (front_rows ds rs) [] h.0 h.2 ∙ append-nil (front_rows ds rs)) refl
-  front_at Between h = is_front (front_rows ds rs) ds rs dummy (row Goal dummy ∷ []) (parts_are (front_rows ds rs) [] h.0 h.1 ∙ append-nil (front_rows ds rs)) refl
+  front_at Declaring h = is_front (front_rows ds rs) ds rs dummy (row_with Goal dummy ∷ []) (parts_are (front_rows ds rs) [] h.0 h.2 ∙ append-nil (front_rows ds rs)) refl
+  front_at Between h = is_front (front_rows ds rs) ds rs dummy (row_with Goal dummy ∷ []) (parts_are (front_rows ds rs) [] h.0 h.1 ∙ append-nil (front_rows ds rs)) refl
   front_at (Premising o) h =
       let whole : RuleRows = record { name = h.1.name; sorts = h.1.sorts; premises = h.2; conclusion = dummy } in
-      is_front (front_rows ds rs ++ (row Rule h.1 ∷ map premise_row h.2)) ds (rs ++ whole ∷ []) dummy (row Then dummy ∷ row End tt ∷ row Goal dummy ∷ [])
-      (parts_are (front_rows ds rs) (row Rule h.1 ∷ map premise_row h.2) h.0 h.4)
-      (extends ds rs whole dummy (row Rule h.1 ∷ map premise_row h.2) (row Then dummy ∷ row End tt ∷ []) refl)
+      is_front (front_rows ds rs ++ (row_with Rule h.1 ∷ map premise_row h.2)) ds (rs ++ whole ∷ []) dummy (row_with Then dummy ∷ row_with End tt ∷ row_with Goal dummy ∷ [])
+      (parts_are (front_rows ds rs) (row_with Rule h.1 ∷ map premise_row h.2) h.0 h.4)
+      (extends ds rs whole dummy (row_with Rule h.1 ∷ map premise_row h.2) (row_with Then dummy ∷ row_with End tt ∷ []) refl)
   front_at (Concluded o j) h =
       let whole : RuleRows = record { name = h.1.name; sorts = h.1.sorts; premises = h.2; conclusion = h.4 } in
-      is_front (front_rows ds rs ++ (row Rule h.1 ∷ (map premise_row h.2 ++ row Then h.4 ∷ []))) ds (rs ++ whole ∷ []) dummy (row End tt ∷ row Goal dummy ∷ [])
-      (parts_are (front_rows ds rs) (row Rule h.1 ∷ (map premise_row h.2 ++ row Then h.4 ∷ [])) h.0 h.5)
-      (extends ds rs whole dummy (row Rule h.1 ∷ (map premise_row h.2 ++ row Then h.4 ∷ [])) (row End tt ∷ [])
-      (ap (λ (z : List Row). row Rule h.1 ∷ z) (sym (append_assoc (map premise_row h.2) (row Then h.4 ∷ []) (row End tt ∷ [])))))
+      is_front (front_rows ds rs ++ (row_with Rule h.1 ∷ (map premise_row h.2 ++ row_with Then h.4 ∷ []))) ds (rs ++ whole ∷ []) dummy (row_with End tt ∷ row_with Goal dummy ∷ [])
+      (parts_are (front_rows ds rs) (row_with Rule h.1 ∷ (map premise_row h.2 ++ row_with Then h.4 ∷ [])) h.0 h.5)
+      (extends ds rs whole dummy (row_with Rule h.1 ∷ (map premise_row h.2 ++ row_with Then h.4 ∷ [])) (row_with End tt ∷ [])
+      (ap (λ (z : List Row). row_with Rule h.1 ∷ z) (sym (append_assoc (map premise_row h.2) (row_with Then h.4 ∷ []) (row_with End tt ∷ [])))))
   front_at (Over g) h =
-      is_front (front_rows ds rs ++ row Goal h.1 ∷ []) ds rs h.1 [] (parts_are (front_rows ds rs) (row Goal h.1 ∷ []) h.0 h.2) (sym (append-nil (front_rows ds rs ++ row Goal h.1 ∷ [])))
+      is_front (front_rows ds rs ++ row_with Goal h.1 ∷ []) ds rs h.1 [] (parts_are (front_rows ds rs) (row_with Goal h.1 ∷ []) h.0 h.2) (sym (append-nil (front_rows ds rs ++ row_with Goal h.1 ∷ [])))
 
-  has_last : (xs : List Row) (g : JudgementRow) → Has Goal (xs ++ row Goal g ∷ [])
+  has_last : (xs : List Row) (g : JudgementRow) → Has Goal (xs ++ row_with Goal g ∷ [])
   has_last [] g = inl refl
   has_last (x ∷ xs) g = inr (has_last xs g)
 
@@ -129,7 +129,7 @@ module _ (all : List SortRow) (S : List Shape) (known : List FormData) (lines : 
   goal_there Between h e = absurd cc
   goal_there (Premising o) h e = absurd cc
   goal_there (Concluded o j) h e = absurd cc
-  goal_there (Over g) h e = subst (Has Goal) (sym (parts_are (front_rows ds rs) (row Goal h.1 ∷ []) h.0 h.2)) (has_last (front_rows ds rs) h.1)
+  goal_there (Over g) h e = subst (Has Goal) (sym (parts_are (front_rows ds rs) (row_with Goal h.1 ∷ []) h.0 h.2)) (has_last (front_rows ds rs) h.1)
 
   pub nothing_there : (stage : Stage) → Stands all S known lines stage ds rs front inside → phase_of stage ≡ at_start → rows ≡ []
   nothing_there Start h e = parts_are [] [] h.0 h.2
@@ -142,16 +142,16 @@ module _ (all : List SortRow) (S : List Shape) (known : List FormData) (lines : 
 -- ---- refusals
 
 read_row : (c : Context) (text : List ℕ) (x : LineRead) → IsCoreLineRead c text x → (r : Row) × IsFitting c text r × (r.keyword ≡ keyword_of x)
-read_row c text HeadRead h = (row Head tt, h, refl)
-read_row c text (SortRead r) h = (row Sort (sort_row r), h, refl)
-read_row c text (ConRead r k) h = (row Con (con_row r), h.0, refl)
-read_row c text (FormRead f) h = (row Form h.0, h.1, refl)
-read_row c text (RuleRead name sorts) h = (row Rule h.0, h.1, refl)
-read_row c text (IfRead j) h = (row If h.0, h.1, refl)
-read_row c text (NotRead l r) h = (row Not (record { left = tree l; right = tree r }), h, refl)
-read_row c text (ThenRead j) h = (row Then h.0, h.1, refl)
-read_row c text EndRead h = (row End tt, h, refl)
-read_row c text (GoalRead g) h = (row Goal h.0, h.1, refl)
+read_row c text HeadRead h = (row_with Head tt, h, refl)
+read_row c text (SortRead r) h = (row_with Sort (sort_row r), h, refl)
+read_row c text (ConRead r k) h = (row_with Con (con_row r), h.0, refl)
+read_row c text (FormRead f) h = (row_with Form h.0, h.1, refl)
+read_row c text (RuleRead name sorts) h = (row_with Rule h.0, h.1, refl)
+read_row c text (IfRead j) h = (row_with If h.0, h.1, refl)
+read_row c text (NotRead l r) h = (row_with Not (record { left = tree l; right = tree r }), h, refl)
+read_row c text (ThenRead j) h = (row_with Then h.0, h.1, refl)
+read_row c text EndRead h = (row_with End tt, h, refl)
+read_row c text (GoalRead g) h = (row_with Goal h.0, h.1, refl)
 
 module _ (all : List SortRow) (lines : Lines) (rows : List Row) (r : Reader) (next : Lines) (at : IsAt all lines rows r next) where
   pub read_to : AreSorts [] lines all → ReadTo lines rows (context r.found) next
@@ -207,7 +207,7 @@ premises_end (if_line x ∷ ps) (inr h) = premises_end ps h
 premises_end (not_line l m ∷ ps) (inl e) = not_end e
 premises_end (not_line l m ∷ ps) (inr h) = premises_end ps h
 
-conclusion_end : (q : JudgementRow) → Has End (row Then q ∷ []) → ⊥
+conclusion_end : (q : JudgementRow) → Has End (row_with Then q ∷ []) → ⊥
 conclusion_end q (inl e) = then_end e
 conclusion_end q (inr h) = h
 
@@ -216,17 +216,17 @@ module _ (all : List SortRow) (lines : Lines) (rows : List Row) (r : Reader) (ne
       → (front : List Row) × (after : Lines) × IsRuleOpen rows front × Takes (map row_text front) lines after × (o.line ≡ line_number after)
   open_rows stage o (inl e) h =
       let w = subst (λ (z : Stage). Stands all (shapes r.found.shapes) (known_in r.found.forms) lines z at.staged.declarations at.staged.ended at.staged.front at.staged.inside) e h in
-      (at.staged.front, w.3.after, record { rule = row Rule w.1; inside = map premise_row w.2; parts = at.staged.parts ∙ ap (λ (z : List Row). at.staged.front ++ z) w.4; begins = refl; not_ended = premises_end w.2 }, w.3.takes, w.3.number)
+      (at.staged.front, w.3.after, record { rule = row_with Rule w.1; inside = map premise_row w.2; parts = at.staged.parts ∙ ap (λ (z : List Row). at.staged.front ++ z) w.4; begins = refl; not_ended = premises_end w.2 }, w.3.takes, w.3.number)
   open_rows stage o (inr (j, e)) h =
       let w = subst (λ (z : Stage). Stands all (shapes r.found.shapes) (known_in r.found.forms) lines z at.staged.declarations at.staged.ended at.staged.front at.staged.inside) e h in (
         at.staged.front,
         w.3.after,
         record {
-          rule = row Rule w.1;
-          inside = map premise_row w.2 ++ row Then w.4 ∷ [];
+          rule = row_with Rule w.1;
+          inside = map premise_row w.2 ++ row_with Then w.4 ∷ [];
           parts = at.staged.parts ∙ ap (λ (z : List Row). at.staged.front ++ z) w.5;
           begins = refl;
-          not_ended = λ z. has_split (map premise_row w.2) (row Then w.4 ∷ []) End z (premises_end w.2) (conclusion_end w.4);
+          not_ended = λ z. has_split (map premise_row w.2) (row_with Then w.4 ∷ []) End z (premises_end w.2) (conclusion_end w.4);
         },
         w.3.takes,
         w.3.number,

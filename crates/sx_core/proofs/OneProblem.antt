@@ -28,7 +28,7 @@ use Rattle.sx_core.specs.Stated.{AreForms, NamesForm, IsJudgement, AreCorePremis
 use Rattle.sx_core.specs.Stated.{IsGoal, SaysCore}
 use Rattle.sx_core.specs.Statements.{form_names}
 use Rattle.sx_core.specs.TermsText.{terms_text, HaveCores}
-use Rattle.sx_core.specs.Table.{RowParts, parts_text, Row, row, row_text, ApartRow, declaration_row}
+use Rattle.sx_core.specs.Table.{RowParts, parts_text, Row, row_with, row_text, ApartRow, declaration_row}
 use Rattle.sx_core.specs.Table.{premise_row, rule_rows, rows_of}
 use Rattle.sx_core.specs.CoreRead.{AreLinesOf}
 use Rattle.sx_core.specs.Laws.{OneProblemIsStated}
@@ -97,7 +97,7 @@ parts_same Goal p q h j e = judgement_same p q h j e
 pub row_same : (r s : Row) → Spelled r.keyword r.parts → Spelled s.keyword s.parts → row_text r ≡ row_text s → r ≡ s
 row_same r s h k e =
     only_row (row_text r) r.keyword (parts_text r.keyword r.parts) (row_keyword r) (λ (z : Row). Spelled z.keyword z.parts → r ≡ z)
-    (λ p q j. ap (row r.keyword) (parts_same r.keyword r.parts p h j q)) s e k
+    (λ p q j. ap (row_with r.keyword) (parts_same r.keyword r.parts p h j q)) s e k
 
 head_is : (a b : List ℕ) (x y : List (List ℕ)) → a ∷ x ≡ b ∷ y → (a ≡ b) × (x ≡ y)
 head_is a b x y e = (cc, cc)
@@ -153,14 +153,14 @@ back_premises (not_line l m ∷ ps) more c rs g h = ap (λ (t : Tail). put Not (
 back_rule : (r : RuleRows) (more : List Row) (rs : List RuleRows) (g : JudgementRow) → back more ≡ tail [] [] nothing rs g → back (rule_rows r ++ more) ≡ tail [] [] nothing (r ∷ rs) g
 back_rule r more rs g h =
     ap (λ (t : Tail). put Rule (record { name = r.name; sorts = r.sorts }) t)
-    (ap back (append_assoc (map premise_row r.premises) (row Then r.conclusion ∷ row End tt ∷ []) more)
-    ∙ back_premises r.premises (row Then r.conclusion ∷ row End tt ∷ more) r.conclusion rs g (ap (λ (t : Tail). put Then r.conclusion t) h))
+    (ap back (append_assoc (map premise_row r.premises) (row_with Then r.conclusion ∷ row_with End tt ∷ []) more)
+    ∙ back_premises r.premises (row_with Then r.conclusion ∷ row_with End tt ∷ more) r.conclusion rs g (ap (λ (t : Tail). put Then r.conclusion t) h))
 
-back_rules : (rs : List RuleRows) (g : JudgementRow) → back (flat_map rule_rows rs ++ row Goal g ∷ []) ≡ tail [] [] nothing rs g
+back_rules : (rs : List RuleRows) (g : JudgementRow) → back (flat_map rule_rows rs ++ row_with Goal g ∷ []) ≡ tail [] [] nothing rs g
 back_rules [] g = refl
 back_rules (r ∷ rs) g =
-    ap back (append_assoc (rule_rows r) (flat_map rule_rows rs) (row Goal g ∷ []))
-    ∙ back_rule r (flat_map rule_rows rs ++ row Goal g ∷ []) rs g (back_rules rs g)
+    ap back (append_assoc (rule_rows r) (flat_map rule_rows rs) (row_with Goal g ∷ []))
+    ∙ back_rule r (flat_map rule_rows rs ++ row_with Goal g ∷ []) rs g (back_rules rs g)
 
 back_declarations : (ds : List Declaration) (more : List Row) (rs : List RuleRows) (g : JudgementRow) → back more ≡ tail [] [] nothing rs g → back (map declaration_row ds ++ more) ≡ tail ds [] nothing rs g
 back_declarations [] more rs g h = h
@@ -170,8 +170,8 @@ back_declarations (form_line r ∷ ds) more rs g h = ap (λ (t : Tail). put Form
 
 back_file : (f : CoreFile) → back (rows_of f) ≡ tail f.declarations [] nothing f.rules f.goal
 back_file f =
-    ap back (append_assoc (map declaration_row f.declarations) (flat_map rule_rows f.rules) (row Goal f.goal ∷ []))
-    ∙ back_declarations f.declarations (flat_map rule_rows f.rules ++ row Goal f.goal ∷ []) f.rules f.goal (back_rules f.rules f.goal)
+    ap back (append_assoc (map declaration_row f.declarations) (flat_map rule_rows f.rules) (row_with Goal f.goal ∷ []))
+    ∙ back_declarations f.declarations (flat_map rule_rows f.rules ++ row_with Goal f.goal ∷ []) f.rules f.goal (back_rules f.rules f.goal)
 
 pub file_same : (f g : CoreFile) → rows_of f ≡ rows_of g → f ≡ g
 file_same f g e = ap (λ (t : Tail). record { declarations = t.declarations; rules = t.rules; goal = t.goal }) (sym (back_file f) ∙ ap back e ∙ back_file g)
@@ -240,7 +240,7 @@ module _ (all : List SortRow) (known : List FormData) (named : AreStatedNames (m
   rules_spelled (l ∷ ls) (r ∷ rs) h =
       all_spelled (rule_rows l) (flat_map rule_rows ls) (
         (subst IsCoreName (sym h.0.name) h.0.is_name, sorts_named all l.sorts r.rule.sorts named h.0.sorts),
-        all_spelled (map premise_row l.premises) (row Then l.conclusion ∷ row End tt ∷ []) (premises_spelled l.premises r.rule.premises h.0.premises) (judgement_spelled l.conclusion r.rule.conclusion h.0.conclusion, (tt, tt)),
+        all_spelled (map premise_row l.premises) (row_with Then l.conclusion ∷ row_with End tt ∷ []) (premises_spelled l.premises r.rule.premises h.0.premises) (judgement_spelled l.conclusion r.rule.conclusion h.0.conclusion, (tt, tt)),
       )
       (rules_spelled ls rs h.1)
 
@@ -249,7 +249,7 @@ file_spelled f p s =
     let all = sort_rows f.declarations in
     let named : AreStatedNames (map (λ row. row.name) (sort_rows f.declarations)) = subst AreStatedNames s.sorts s.sort_names in (
       tt,
-      all_spelled (map declaration_row f.declarations ++ flat_map rule_rows f.rules) (row Goal f.goal ∷ [])
+      all_spelled (map declaration_row f.declarations ++ flat_map rule_rows f.rules) (row_with Goal f.goal ∷ [])
           (all_spelled (map declaration_row f.declarations) (flat_map rule_rows f.rules)
           (declarations_spelled (sort_rows f.declarations) named f.declarations p.cons p.shapes p.forms named s.cons s.con_names s.forms s.form_names)
           (rules_spelled (sort_rows f.declarations) p.forms named s.form_names f.rules p.rules s.rules))

@@ -2,7 +2,7 @@
 use Rattle.std.proofs.Common.{◌≡◌, List, [], ◌∷◌, ◌++◌, Some, None, inl, inr, map, refl, sym, ap, ◌∙◌, subst, append_assoc}
 use Rattle.std.specs.List.{flat_map}
 use Rattle.sx_core.specs.File.{Declaration, sort_line, con_line, form_line, PremiseRow, if_line, not_line, JudgementRow, RuleRows, CoreFile}
-use Rattle.sx_core.specs.Table.{Row, row, declaration_row, premise_row, rule_rows, rows_of, Has}
+use Rattle.sx_core.specs.Table.{Row, row_with, declaration_row, premise_row, rule_rows, rows_of, Has}
 use Rattle.sx_core.specs.Order.{AreRowsInOrder, Phase, at_start, at_declarations, at_rules, at_premises, at_conclusion, at_end, step}
 use Rattle.sx_core.specs.declared.keyword.Keyword.{Keyword}
 use Rattle.sx_core.specs.declared.keyword.Keyword.TheVariants.{Head, Sort, Con, Form, Rule, If, Not, Then, End, Goal}
@@ -48,17 +48,17 @@ premises_reach (not_line l r ∷ ps) = (at_premises, refl, premises_reach ps)
 
 rule_reaches : (p : Phase) (r : RuleRows) → step p Rule ≡ Some at_premises → Reaches p (rule_rows r) at_rules
 rule_reaches p r e =
-    (at_premises, e, reach_append (map premise_row r.premises) (row Then r.conclusion ∷ row End tt ∷ []) at_premises at_premises at_rules (premises_reach r.premises) (at_conclusion, refl, (at_rules, refl, refl)))
+    (at_premises, e, reach_append (map premise_row r.premises) (row_with Then r.conclusion ∷ row_with End tt ∷ []) at_premises at_premises at_rules (premises_reach r.premises) (at_conclusion, refl, (at_rules, refl, refl)))
 
-rules_reach : (p : Phase) (rs : List RuleRows) (goal : JudgementRow) → step p Rule ≡ Some at_premises → step p Goal ≡ Some at_end → Reaches p (flat_map rule_rows rs ++ row Goal goal ∷ []) at_end
+rules_reach : (p : Phase) (rs : List RuleRows) (goal : JudgementRow) → step p Rule ≡ Some at_premises → step p Goal ≡ Some at_end → Reaches p (flat_map rule_rows rs ++ row_with Goal goal ∷ []) at_end
 rules_reach p [] goal e f = (at_end, f, refl)
 rules_reach p (r ∷ rs) goal e f =
-    subst (λ (x : List Row). Reaches p x at_end) (sym (append_assoc (rule_rows r) (flat_map rule_rows rs) (row Goal goal ∷ [])))
-    (reach_append (rule_rows r) (flat_map rule_rows rs ++ row Goal goal ∷ []) p at_rules at_end (rule_reaches p r e) (rules_reach at_rules rs goal refl refl))
+    subst (λ (x : List Row). Reaches p x at_end) (sym (append_assoc (rule_rows r) (flat_map rule_rows rs) (row_with Goal goal ∷ [])))
+    (reach_append (rule_rows r) (flat_map rule_rows rs ++ row_with Goal goal ∷ []) p at_rules at_end (rule_reaches p r e) (rules_reach at_rules rs goal refl refl))
 
 pub file_reaches : (file : CoreFile) → Reaches at_start (rows_of file) at_end
 file_reaches file =
-    let goal = row Goal file.goal ∷ [] in (
+    let goal = row_with Goal file.goal ∷ [] in (
       at_declarations,
       refl,
       subst (λ (x : List Row). Reaches at_declarations x at_end) (sym (append_assoc (map declaration_row file.declarations) (flat_map rule_rows file.rules) goal))

@@ -21,7 +21,7 @@ use Rattle.sx_core.specs.Resolving.{NoCoreRowIs, IsConOf, IsFormOf}
 use Rattle.sx_core.specs.Statements.{form_names, IsJudgementRead, IsDeepJudgement, IsGoalRead}
 use Rattle.sx_core.specs.Statements.{IsDeepGoal}
 use Rattle.sx_core.specs.TermsText.{terms_text, RowRead, IsDeepRow, RefusedAs}
-use Rattle.sx_core.specs.Table.{core_keyword_text, RowParts, parts_text, Row, row, RuleRow, IsKeyword}
+use Rattle.sx_core.specs.Table.{core_keyword_text, RowParts, parts_text, Row, row_with, RuleRow, IsKeyword}
 use Rattle.sx_core.specs.Fitting.{Context, PartsFit, IsFullJudgement, IsDeep, IsFitting, IsDeepLine}
 use Rattle.sx_core.specs.declared.keyword.Keyword.{Keyword}
 use Rattle.sx_core.specs.declared.keyword.Keyword.TheVariants.{Head, Sort, Con, Form, Rule, If, Not}
@@ -118,7 +118,7 @@ rule_same a b h k e =
 abbrev pub IsPart : Context → (k : Keyword) → List ℕ → RowParts k → Type 0
 IsPart c k rest p = (rest ≡ parts_text k p) × PartsFit c k p
 
-pub line_fits : (c : Context) (k : Keyword) (text rest : List ℕ) → IsKeyword text k rest → (p : RowParts k) → IsPart c k rest p → IsFitting c text (row k p)
+pub line_fits : (c : Context) (k : Keyword) (text rest : List ℕ) → IsKeyword text k rest → (p : RowParts k) → IsPart c k rest p → IsFitting c text (row_with k p)
 line_fits c k text rest h p q = (h.parts ∙ ap (λ (x : List ℕ). core_keyword_text k ++ x) q.0, q.1)
 
 deep_same : (c : Context) (k : Keyword) (text rest : List ℕ) → IsKeyword text k rest → (depth : ℕ) → IsDeepLine c text depth → IsDeep c k rest depth
@@ -239,7 +239,7 @@ module _ (c : Context) (rest : List ℕ) where
 
   -- ---- judgements
 
-  full_of : (row : JudgementRow) (j : Judgement) → rest ≡ judgement_text row → IsFullJudgement c.forms row j → IsJudgementRead c.forms rest j
+  full_of : (row_with : JudgementRow) (j : Judgement) → rest ≡ judgement_text row → IsFullJudgement c.forms row j → IsJudgementRead c.forms rest j
   full_of row j e h = record { row = row; parts = e; named = h.0; is = h.1 }
 
   pub if_part : (j : Judgement) (h : IsJudgementRead c.forms rest j) → IsPart c If rest h.row
@@ -281,7 +281,7 @@ module _ (c : Context) (rest : List ℕ) where
       let is : IsGoal c.shapes c.forms (record { form = h.form.word; terms = g.terms }) g = record { form = h.form.is; terms = refl; readable = readable_of g.terms h.terms.row.1 h.terms.row.2; subject = h.subject; sorted = h.terms.sorted } in
       ((h.form.parts ∙ ap (λ (x : List ℕ). 32 ∷ (h.form.word ++ x)) h.terms.row.3 ∙ sym (judgement_open (record { form = h.form.word; terms = g.terms })), (h.form.named, g, is)), is)
 
-  goal_of : (row : JudgementRow) (g : GoalOf) → rest ≡ judgement_text row → IsCoreName row.form → IsGoal c.shapes c.forms row g → IsGoalRead c.shapes c.forms rest g
+  goal_of : (row_with : JudgementRow) (g : GoalOf) → rest ≡ judgement_text row → IsCoreName row.form → IsGoal c.shapes c.forms row g → IsGoalRead c.shapes c.forms rest g
   goal_of row g e n h = record {
     rest = terms_text row.terms;
     form = record { word = row.form; parts = e ∙ judgement_open row; named = n; stops = terms_stop row.terms; is = h.form };

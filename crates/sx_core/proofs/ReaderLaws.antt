@@ -17,7 +17,7 @@ use Rattle.sx_lines.specs.Distinct.{AreTextsDistinct}
 use Rattle.sx_core.specs.Stated.{AreForms, IsJudgement, AreCorePremises, IsCoreRule, AreCoreRules, IsGoal}
 use Rattle.sx_core.specs.Resolving.{sort_names, rows_in, IsSortTable, IsConOf, IsFormOf}
 use Rattle.sx_core.specs.Statements.{form_names, known_in, IsFormTable}
-use Rattle.sx_core.specs.Table.{Row, row, row_text, RuleRow, declaration_row, premise_row}
+use Rattle.sx_core.specs.Table.{Row, row_with, row_text, RuleRow, declaration_row, premise_row}
 use Rattle.sx_core.specs.Table.{rule_rows}
 use Rattle.sx_core.specs.Fitting.{Context, PartsFit, IsFitting, core_sorts_at, cons_at, forms_at}
 use Rattle.sx_core.specs.Fitting.{sorts_among, cons_among, forms_among, Declare, AllRowsFit}
@@ -59,7 +59,7 @@ fit_snoc all before (x ∷ rows) r h k =
 -- ---- what stands so far
 
 abbrev pub front_rows : List Declaration → List RuleRows → List Row
-front_rows ds rs = row Head tt ∷ (map declaration_row ds ++ flat_map rule_rows rs)
+front_rows ds rs = row_with Head tt ∷ (map declaration_row ds ++ flat_map rule_rows rs)
 
 -- the rule that is not ended
 pub record Opened (all : List SortRow) (known : List FormData) (lines : Lines) (front : List Row) (o : Open) (head : RuleRow) (premises : List PremiseRow) : Type 0 where
@@ -76,11 +76,11 @@ Stands all S known lines Start ds rs front inside = (front ≡ []) × (rs ≡ []
 Stands all S known lines Declaring ds rs front inside = (front ≡ front_rows ds rs) × (rs ≡ []) × (inside ≡ [])
 Stands all S known lines Between ds rs front inside = (front ≡ front_rows ds rs) × (inside ≡ [])
 Stands all S known lines (Premising o) ds rs front inside =
-    (front ≡ front_rows ds rs) × (head : RuleRow) × (ps : List PremiseRow) × Opened all known lines front o head ps × (inside ≡ row Rule head ∷ map premise_row ps)
+    (front ≡ front_rows ds rs) × (head : RuleRow) × (ps : List PremiseRow) × Opened all known lines front o head ps × (inside ≡ row_with Rule head ∷ map premise_row ps)
 Stands all S known lines (Concluded o j) ds rs front inside =
     (front ≡ front_rows ds rs) × (head : RuleRow) × (ps : List PremiseRow) × Opened all known lines front o head ps
-    × (q : JudgementRow) × (inside ≡ row Rule head ∷ (map premise_row ps ++ row Then q ∷ [])) × IsJudgement known q (judgement j)
-Stands all S known lines (Over g) ds rs front inside = (front ≡ front_rows ds rs) × (q : JudgementRow) × (inside ≡ row Goal q ∷ []) × IsGoal S known q (goal g)
+    × (q : JudgementRow) × (inside ≡ row_with Rule head ∷ (map premise_row ps ++ row_with Then q ∷ [])) × IsJudgement known q (judgement j)
+Stands all S known lines (Over g) ds rs front inside = (front ≡ front_rows ds rs) × (q : JudgementRow) × (inside ≡ row_with Goal q ∷ []) × IsGoal S known q (goal g)
 
 pub record Staged (all : List SortRow) (lines : Lines) (rows : List Row) (r : Reader) : Type 0 where
   pub declarations : List Declaration
@@ -179,14 +179,14 @@ map_declarations ds x = map_last declaration_row ds x
 declared_front : (ds : List Declaration) (rs : List RuleRows) (x : Declaration) → rs ≡ [] → front_rows ds rs ++ declaration_row x ∷ [] ≡ front_rows (ds ++ x ∷ []) []
 declared_front ds rs x e =
     ap (λ (y : List RuleRows). front_rows ds y ++ declaration_row x ∷ []) e
-    ∙ ap (λ (y : List Row). row Head tt ∷ (y ++ declaration_row x ∷ [])) (append-nil (map declaration_row ds))
-    ∙ ap (λ (y : List Row). row Head tt ∷ y) (sym (map_declarations ds x))
-    ∙ ap (λ (y : List Row). row Head tt ∷ y) (sym (append-nil (map declaration_row (ds ++ x ∷ []))))
+    ∙ ap (λ (y : List Row). row_with Head tt ∷ (y ++ declaration_row x ∷ [])) (append-nil (map declaration_row ds))
+    ∙ ap (λ (y : List Row). row_with Head tt ∷ y) (sym (map_declarations ds x))
+    ∙ ap (λ (y : List Row). row_with Head tt ∷ y) (sym (append-nil (map declaration_row (ds ++ x ∷ []))))
 
 -- a rule more at the front
 pub ruled_front : (ds : List Declaration) (rs : List RuleRows) (x : RuleRows) → front_rows ds rs ++ rule_rows x ≡ front_rows ds (rs ++ x ∷ [])
 ruled_front ds rs x =
-    ap (λ (y : List Row). row Head tt ∷ y) (append_assoc (map declaration_row ds) (flat_map rule_rows rs) (rule_rows x) ∙ ap (λ (y : List Row). map declaration_row ds ++ y) (sym (flat_snoc rs x)))
+    ap (λ (y : List Row). row_with Head tt ∷ y) (append_assoc (map declaration_row ds) (flat_map rule_rows rs) (rule_rows x) ∙ ap (λ (y : List Row). map declaration_row ds ++ y) (sym (flat_snoc rs x)))
 
 stage_phase : (s t : Stage) → s ≡ t → phase_of s ≡ phase_of t
 stage_phase s t e = ap phase_of e
@@ -224,21 +224,21 @@ module _ (all : List SortRow) (lines : Lines) (rows : List Row) (r s : Reader) (
         (subst (λ (y : Found). Stands all (shapes y.shapes) (known_in y.forms) lines q ds rs front inside) (sym g) t);
   }
 
-  pub head_at : IsFitting (context r.found) text (row Head tt) → (r.stage ≡ Start) × (s.stage ≡ Declaring) × IsReaderKept r s → IsAt all lines (rows ++ row Head tt ∷ []) s more
+  pub head_at : IsFitting (context r.found) text (row_with Head tt) → (r.stage ≡ Start) × (s.stage ≡ Declaring) × IsReaderKept r s → IsAt all lines (rows ++ row_with Head tt ∷ []) s more
   head_at q h =
       let w = stood Start h.0 in
-      kept all lines rows r s next more n text after at e (row Head tt) q (step_of Head Start Declaring h.0 h.1 refl) h.2.0 refl refl refl
-      (stage_now (rows ++ row Head tt ∷ []) Declaring h.1 h.2.0 h.2.1 [] [] (row Head tt ∷ []) []
-      (ap (λ (y : List Row). y ++ row Head tt ∷ []) (rows_front rows at.staged.front at.staged.inside at.staged.parts w.2 ∙ w.0))
+      kept all lines rows r s next more n text after at e (row_with Head tt) q (step_of Head Start Declaring h.0 h.1 refl) h.2.0 refl refl refl
+      (stage_now (rows ++ row_with Head tt ∷ []) Declaring h.1 h.2.0 h.2.1 [] [] (row_with Head tt ∷ []) []
+      (ap (λ (y : List Row). y ++ row_with Head tt ∷ []) (rows_front rows at.staged.front at.staged.inside at.staged.parts w.2 ∙ w.0))
       (subst (λ (y : List RuleRows). AreCoreRules all (known_in r.found.forms) y (map named r.rules.items)) w.1 at.staged.are) (refl, refl, refl))
 
-  pub rule_at : (x : RuleRow) (o : Open) → IsFitting (context r.found) text (row Rule x) → MayBegin r.stage → (s.stage ≡ Premising o) → (o.line ≡ n) → (x.name ≡ o.name) → NameSorts all x.sorts o.sorts.items → (o.premises.items ≡ []) → IsReaderKept r s → IsAt all lines (rows ++ row Rule x ∷ []) s more
+  pub rule_at : (x : RuleRow) (o : Open) → IsFitting (context r.found) text (row_with Rule x) → MayBegin r.stage → (s.stage ≡ Premising o) → (o.line ≡ n) → (x.name ≡ o.name) → NameSorts all x.sorts o.sorts.items → (o.premises.items ≡ []) → IsReaderKept r s → IsAt all lines (rows ++ row_with Rule x ∷ []) s more
   rule_at x o q b f l m v p k =
       let w = begin_stands all (shapes r.found.shapes) (known_in r.found.forms) lines r.stage at.staged.declarations at.staged.ended at.staged.front at.staged.inside b at.staged.stands in
       let fr = rows_front rows at.staged.front at.staged.inside at.staged.parts w.1 in
-      kept all lines rows r s next more n text after at e (row Rule x) q ((begin_step r.stage b).0 ∙ sym (ap (λ (y : Stage). Some (phase_of y)) f)) k.0 refl refl refl
-      (stage_now (rows ++ row Rule x ∷ []) (Premising o) f k.0 k.1 at.staged.declarations at.staged.ended at.staged.front (row Rule x ∷ [])
-      (whole_front rows at.staged.front at.staged.inside (row Rule x) at.staged.parts w.1) at.staged.are (
+      kept all lines rows r s next more n text after at e (row_with Rule x) q ((begin_step r.stage b).0 ∙ sym (ap (λ (y : Stage). Some (phase_of y)) f)) k.0 refl refl refl
+      (stage_now (rows ++ row_with Rule x ∷ []) (Premising o) f k.0 k.1 at.staged.declarations at.staged.ended at.staged.front (row_with Rule x ∷ [])
+      (whole_front rows at.staged.front at.staged.inside (row_with Rule x) at.staged.parts w.1) at.staged.are (
         w.0,
         x,
         [],
@@ -278,26 +278,26 @@ module _ (all : List SortRow) (lines : Lines) (rows : List Row) (r s : Reader) (
           takes = op.takes;
           number = i.line ∙ op.number;
         },
-        ap (λ (z : List Row). z ++ premise_row x ∷ []) w.4 ∙ ap (λ (z : List Row). row Rule h ∷ z) (sym (map_premises ps x)),
+        ap (λ (z : List Row). z ++ premise_row x ∷ []) w.4 ∙ ap (λ (z : List Row). row_with Rule h ∷ z) (sym (map_premises ps x)),
       ))
 
-  pub then_at : (x : JudgementRow) (o : Open) (j : JudgementOf) → IsFitting (context r.found) text (row Then x) → (r.stage ≡ Premising o) → (s.stage ≡ Concluded o j) → IsJudgement (known_in r.found.forms) x (judgement j) → IsReaderKept r s → IsAt all lines (rows ++ row Then x ∷ []) s more
+  pub then_at : (x : JudgementRow) (o : Open) (j : JudgementOf) → IsFitting (context r.found) text (row_with Then x) → (r.stage ≡ Premising o) → (s.stage ≡ Concluded o j) → IsJudgement (known_in r.found.forms) x (judgement j) → IsReaderKept r s → IsAt all lines (rows ++ row_with Then x ∷ []) s more
   then_at x o j q f g a k =
       let w = stood (Premising o) f in
-      kept all lines rows r s next more n text after at e (row Then x) q (step_of Then (Premising o) (Concluded o j) f g refl) k.0 refl refl refl
-      (stage_now (rows ++ row Then x ∷ []) (Concluded o j) g k.0 k.1 at.staged.declarations at.staged.ended at.staged.front (at.staged.inside ++ row Then x ∷ [])
-      (parts_more rows at.staged.front at.staged.inside (row Then x) at.staged.parts) at.staged.are
-      (w.0, w.1, w.2, w.3, x, ap (λ (z : List Row). z ++ row Then x ∷ []) w.4, a))
+      kept all lines rows r s next more n text after at e (row_with Then x) q (step_of Then (Premising o) (Concluded o j) f g refl) k.0 refl refl refl
+      (stage_now (rows ++ row_with Then x ∷ []) (Concluded o j) g k.0 k.1 at.staged.declarations at.staged.ended at.staged.front (at.staged.inside ++ row_with Then x ∷ [])
+      (parts_more rows at.staged.front at.staged.inside (row_with Then x) at.staged.parts) at.staged.are
+      (w.0, w.1, w.2, w.3, x, ap (λ (z : List Row). z ++ row_with Then x ∷ []) w.4, a))
 
-  pub goal_at : (x : JudgementRow) (g : _) → IsFitting (context r.found) text (row Goal x) → MayBegin r.stage → (s.stage ≡ Over g) → IsGoal (shapes r.found.shapes) (known_in r.found.forms) x (goal g) → IsReaderKept r s → IsAt all lines (rows ++ row Goal x ∷ []) s more
+  pub goal_at : (x : JudgementRow) (g : _) → IsFitting (context r.found) text (row_with Goal x) → MayBegin r.stage → (s.stage ≡ Over g) → IsGoal (shapes r.found.shapes) (known_in r.found.forms) x (goal g) → IsReaderKept r s → IsAt all lines (rows ++ row_with Goal x ∷ []) s more
   goal_at x g q b f i k =
       let w = begin_stands all (shapes r.found.shapes) (known_in r.found.forms) lines r.stage at.staged.declarations at.staged.ended at.staged.front at.staged.inside b at.staged.stands in
-      kept all lines rows r s next more n text after at e (row Goal x) q ((begin_step r.stage b).1 ∙ sym (ap (λ (y : Stage). Some (phase_of y)) f)) k.0 refl refl refl
-      (stage_now (rows ++ row Goal x ∷ []) (Over g) f k.0 k.1 at.staged.declarations at.staged.ended at.staged.front (row Goal x ∷ [])
-      (whole_front rows at.staged.front at.staged.inside (row Goal x) at.staged.parts w.1) at.staged.are
+      kept all lines rows r s next more n text after at e (row_with Goal x) q ((begin_step r.stage b).1 ∙ sym (ap (λ (y : Stage). Some (phase_of y)) f)) k.0 refl refl refl
+      (stage_now (rows ++ row_with Goal x ∷ []) (Over g) f k.0 k.1 at.staged.declarations at.staged.ended at.staged.front (row_with Goal x ∷ [])
+      (whole_front rows at.staged.front at.staged.inside (row_with Goal x) at.staged.parts w.1) at.staged.are
       (w.0, x, refl, i))
 
-  pub end_at : (o : Open) (j : JudgementOf) → IsFitting (context r.found) text (row End tt) → (r.stage ≡ Concluded o j) → (s.stage ≡ Between) → (s.found ≡ r.found) → (map named s.rules.items ≡ map named r.rules.items ++ whole_rule o j ∷ []) → IsAt all lines (rows ++ row End tt ∷ []) s more
+  pub end_at : (o : Open) (j : JudgementOf) → IsFitting (context r.found) text (row_with End tt) → (r.stage ≡ Concluded o j) → (s.stage ≡ Between) → (s.found ≡ r.found) → (map named s.rules.items ≡ map named r.rules.items ++ whole_rule o j ∷ []) → IsAt all lines (rows ++ row_with End tt ∷ []) s more
   end_at o j q f g k u =
       let w = stood (Concluded o j) f in
       let h = w.1 in
@@ -306,14 +306,14 @@ module _ (all : List SortRow) (lines : Lines) (rows : List Row) (r s : Reader) (
       let c = w.4 in
       let whole : RuleRows = record { name = h.name; sorts = h.sorts; premises = ps; conclusion = c } in
       let is : IsCoreRule all (known_in r.found.forms) whole (whole_rule o j) = record { name = op.name; is_name = op.is_name; sorts = op.sorts; premises = op.are; conclusion = w.6 } in
-      let rows_are : at.staged.inside ++ row End tt ∷ [] ≡ rule_rows whole =
-      ap (λ (z : List Row). z ++ row End tt ∷ []) w.5 ∙ ap (λ (z : List Row). row Rule (record { name = h.name; sorts = h.sorts }) ∷ z) (append_assoc (map premise_row ps) (row Then c ∷ []) (row End tt ∷ [])) in
-      kept all lines rows r s next more n text after at e (row End tt) q (step_of End (Concluded o j) Between f g refl) k refl refl refl (record {
+      let rows_are : at.staged.inside ++ row_with End tt ∷ [] ≡ rule_rows whole =
+      ap (λ (z : List Row). z ++ row_with End tt ∷ []) w.5 ∙ ap (λ (z : List Row). row_with Rule (record { name = h.name; sorts = h.sorts }) ∷ z) (append_assoc (map premise_row ps) (row_with Then c ∷ []) (row_with End tt ∷ [])) in
+      kept all lines rows r s next more n text after at e (row_with End tt) q (step_of End (Concluded o j) Between f g refl) k refl refl refl (record {
         declarations = at.staged.declarations;
         ended = at.staged.ended ++ whole ∷ [];
         front = front_rows at.staged.declarations (at.staged.ended ++ whole ∷ []);
         inside = [];
-        parts = parts_more rows at.staged.front at.staged.inside (row End tt) at.staged.parts ∙ ap (λ (z : List Row). at.staged.front ++ z) rows_are ∙ ap (λ (z : List Row). z ++ rule_rows whole) w.0
+        parts = parts_more rows at.staged.front at.staged.inside (row_with End tt) at.staged.parts ∙ ap (λ (z : List Row). at.staged.front ++ z) rows_are ∙ ap (λ (z : List Row). z ++ rule_rows whole) w.0
             ∙ ruled_front at.staged.declarations at.staged.ended whole ∙ sym (append-nil (front_rows at.staged.declarations (at.staged.ended ++ whole ∷ [])));
         are = subst (λ (y : Found). AreCoreRules all (known_in y.forms) (at.staged.ended ++ whole ∷ []) (map named s.rules.items)) (sym k)
             (subst (λ (y : List NamedRule). AreCoreRules all (known_in r.found.forms) (at.staged.ended ++ whole ∷ []) y) (sym u) (rules_snoc all (known_in r.found.forms) at.staged.ended (map named r.rules.items) whole (whole_rule o j) at.staged.are is));
@@ -341,7 +341,7 @@ module _ (all : List SortRow) (lines : Lines) (rows : List Row) (r s : Reader) (
       no_rules a b [] k = tt
       no_rules a b (z ∷ zs) k = absurd k
 
-  pub sort_at : (x : SortRow) → IsFitting (context r.found) text (row Sort x) → (r.stage ≡ Declaring) → (s.stage ≡ Declaring) → (s.rules ≡ r.rules) → AddsSort r.found s.found x.name → IsAt all lines (rows ++ row Sort x ∷ []) s more
+  pub sort_at : (x : SortRow) → IsFitting (context r.found) text (row_with Sort x) → (r.stage ≡ Declaring) → (s.stage ≡ Declaring) → (s.rules ≡ r.rules) → AddsSort r.found s.found x.name → IsAt all lines (rows ++ row_with Sort x ∷ []) s more
   sort_at x q f g h a = record {
     same = ap rows_in a.sorts ∙ at.same;
     found = record {
@@ -351,25 +351,25 @@ module _ (all : List SortRow) (lines : Lines) (rows : List Row) (r s : Reader) (
     };
     declare = record {
       sorts = ap rows_in a.sorts ∙ at.same;
-      taken = a.taken ∙ ap (λ (z : List (List ℕ)). z ++ x.name ∷ []) at.declare.taken ∙ sym (ap sort_names (among_snoc sort_of rows (row Sort x)) ∙ names_snoc (sorts_among rows));
-      cons = subst (λ y. AreCons all y s.found.cons.items (shapes s.found.shapes)) (sym (none_more (λ (y : Row). cons_at y.keyword y.parts) rows (row Sort x) refl))
+      taken = a.taken ∙ ap (λ (z : List (List ℕ)). z ++ x.name ∷ []) at.declare.taken ∙ sym (ap sort_names (among_snoc sort_of rows (row_with Sort x)) ∙ names_snoc (sorts_among rows));
+      cons = subst (λ y. AreCons all y s.found.cons.items (shapes s.found.shapes)) (sym (none_more (λ (y : Row). cons_at y.keyword y.parts) rows (row_with Sort x) refl))
           (subst (λ z. AreCons all (cons_among rows) s.found.cons.items (shapes z)) (sym a.shapes_are) (subst (λ z. AreCons all (cons_among rows) z.items (shapes r.found.shapes)) (sym a.cons) at.declare.cons));
-      forms = subst (λ y. AreForms all y (known_in s.found.forms)) (sym (none_more (λ (y : Row). forms_at y.keyword y.parts) rows (row Sort x) refl))
+      forms = subst (λ y. AreForms all y (known_in s.found.forms)) (sym (none_more (λ (y : Row). forms_at y.keyword y.parts) rows (row_with Sort x) refl))
           (subst (λ z. AreForms all (forms_among rows) (known_in z)) (sym a.forms) at.declare.forms);
     };
-    fit = fit_more all lines rows r s next more n text after at e (row Sort x) q;
+    fit = fit_more all lines rows r s next more n text after at e (row_with Sort x) q;
     cons = subst (λ z. AreStatedNames z.items) (sym a.cons) at.cons;
     cons_distinct = subst (λ z. AreTextsDistinct z.items) (sym a.cons) at.cons_distinct;
     forms = subst (λ z. AreStatedNames (form_names (known_in z))) (sym a.forms) at.forms;
-    reach = reach_snoc rows (row Sort x) at_start (phase_of r.stage) (phase_of s.stage) at.reach (step_of Sort Declaring Declaring f g refl);
+    reach = reach_snoc rows (row_with Sort x) at_start (phase_of r.stage) (phase_of s.stage) at.reach (step_of Sort Declaring Declaring f g refl);
     staged = declared (sort_line x) f g h;
-    takes = takes_more all lines rows r s next more n text after at e (row Sort x) q.0;
+    takes = takes_more all lines rows r s next more n text after at e (row_with Sort x) q.0;
   }
     where
       names_snoc : (ys : List SortRow) → sort_names (ys ++ x ∷ []) ≡ sort_names ys ++ x.name ∷ []
       names_snoc ys = ap (λ (z : List (List ℕ)). codes "id" ∷ codes "num" ∷ codes "str" ∷ z) (map_last (λ (y : SortRow). y.name) ys x)
 
-  pub con_at : (x : ConRow) (c : Shape) → IsFitting (context r.found) text (row Con x) → IsConOf all x c → (r.stage ≡ Declaring) → (s.stage ≡ Declaring) → (s.rules ≡ r.rules) → AddsCon r.found s.found x.name c → IsAt all lines (rows ++ row Con x ∷ []) s more
+  pub con_at : (x : ConRow) (c : Shape) → IsFitting (context r.found) text (row_with Con x) → IsConOf all x c → (r.stage ≡ Declaring) → (s.stage ≡ Declaring) → (s.rules ≡ r.rules) → AddsCon r.found s.found x.name c → IsAt all lines (rows ++ row_with Con x ∷ []) s more
   con_at x c q i f g h a = record {
     same = ap rows_in a.sorts ∙ at.same;
     found = record {
@@ -379,23 +379,23 @@ module _ (all : List SortRow) (lines : Lines) (rows : List Row) (r s : Reader) (
     };
     declare = record {
       sorts = ap rows_in a.sorts ∙ at.same;
-      taken = a.taken ∙ at.declare.taken ∙ ap sort_names (sym (none_more sort_of rows (row Con x) refl));
-      cons = subst (λ y. AreCons all y s.found.cons.items (shapes s.found.shapes)) (sym (among_snoc (λ (y : Row). cons_at y.keyword y.parts) rows (row Con x)))
+      taken = a.taken ∙ at.declare.taken ∙ ap sort_names (sym (none_more sort_of rows (row_with Con x) refl));
+      cons = subst (λ y. AreCons all y s.found.cons.items (shapes s.found.shapes)) (sym (among_snoc (λ (y : Row). cons_at y.keyword y.parts) rows (row_with Con x)))
           (subst (λ z. AreCons all (cons_among rows ++ x ∷ []) s.found.cons.items z) (sym a.shapes_are) (subst (λ z. AreCons all (cons_among rows ++ x ∷ []) z (shapes r.found.shapes ++ c ∷ [])) (sym a.cons)
           (cons_snoc all (cons_among rows) r.found.cons.items (shapes r.found.shapes) x x.name c at.declare.cons refl i)));
-      forms = subst (λ y. AreForms all y (known_in s.found.forms)) (sym (none_more (λ (y : Row). forms_at y.keyword y.parts) rows (row Con x) refl))
+      forms = subst (λ y. AreForms all y (known_in s.found.forms)) (sym (none_more (λ (y : Row). forms_at y.keyword y.parts) rows (row_with Con x) refl))
           (subst (λ z. AreForms all (forms_among rows) (known_in z)) (sym a.forms) at.declare.forms);
     };
-    fit = fit_more all lines rows r s next more n text after at e (row Con x) q;
+    fit = fit_more all lines rows r s next more n text after at e (row_with Con x) q;
     cons = subst AreStatedNames (sym a.cons) (names_snoc r.found.cons.items x.name at.cons q.1.0.0);
     cons_distinct = subst AreTextsDistinct (sym a.cons) (distinct_snoc r.found.cons.items x.name at.cons_distinct q.1.1);
     forms = subst (λ z. AreStatedNames (form_names (known_in z))) (sym a.forms) at.forms;
-    reach = reach_snoc rows (row Con x) at_start (phase_of r.stage) (phase_of s.stage) at.reach (step_of Con Declaring Declaring f g refl);
+    reach = reach_snoc rows (row_with Con x) at_start (phase_of r.stage) (phase_of s.stage) at.reach (step_of Con Declaring Declaring f g refl);
     staged = declared (con_line x) f g h;
-    takes = takes_more all lines rows r s next more n text after at e (row Con x) q.0;
+    takes = takes_more all lines rows r s next more n text after at e (row_with Con x) q.0;
   }
 
-  pub form_at : (x : FormRow) (c : FormData) → IsFitting (context r.found) text (row Form x) → IsFormOf all x c → (length (known_in s.found.forms) < 2 ^ 32) → (r.stage ≡ Declaring) → (s.stage ≡ Declaring) → (s.rules ≡ r.rules) → AddsForm r.found s.found c → IsAt all lines (rows ++ row Form x ∷ []) s more
+  pub form_at : (x : FormRow) (c : FormData) → IsFitting (context r.found) text (row_with Form x) → IsFormOf all x c → (length (known_in s.found.forms) < 2 ^ 32) → (r.stage ≡ Declaring) → (s.stage ≡ Declaring) → (s.rules ≡ r.rules) → AddsForm r.found s.found c → IsAt all lines (rows ++ row_with Form x ∷ []) s more
   form_at x c q i few f g h a =
       let names : form_names (known_in s.found.forms) ≡ form_names (known_in r.found.forms) ++ c.name ∷ [] = ap form_names a.forms ∙ map_last (λ (y : FormData). y.name) (known_in r.found.forms) c in
       let fresh : Contains (form_names (known_in r.found.forms)) c.name → ⊥ = λ k. q.1.2 (subst (λ (z : List ℕ). Contains (form_names (known_in r.found.forms)) z) (sym i.name) k) in
@@ -412,17 +412,17 @@ module _ (all : List SortRow) (lines : Lines) (rows : List Row) (r s : Reader) (
         };
         declare = record {
           sorts = ap rows_in a.sorts ∙ at.same;
-          taken = a.taken ∙ at.declare.taken ∙ ap sort_names (sym (none_more sort_of rows (row Form x) refl));
-          cons = subst (λ y. AreCons all y s.found.cons.items (shapes s.found.shapes)) (sym (none_more (λ (y : Row). cons_at y.keyword y.parts) rows (row Form x) refl))
+          taken = a.taken ∙ at.declare.taken ∙ ap sort_names (sym (none_more sort_of rows (row_with Form x) refl));
+          cons = subst (λ y. AreCons all y s.found.cons.items (shapes s.found.shapes)) (sym (none_more (λ (y : Row). cons_at y.keyword y.parts) rows (row_with Form x) refl))
               (subst (λ z. AreCons all (cons_among rows) s.found.cons.items (shapes z)) (sym a.shapes_are) (subst (λ z. AreCons all (cons_among rows) z.items (shapes r.found.shapes)) (sym a.cons) at.declare.cons));
-          forms = subst (λ y. AreForms all y (known_in s.found.forms)) (sym (among_snoc (λ (y : Row). forms_at y.keyword y.parts) rows (row Form x)))
+          forms = subst (λ y. AreForms all y (known_in s.found.forms)) (sym (among_snoc (λ (y : Row). forms_at y.keyword y.parts) rows (row_with Form x)))
               (subst (λ z. AreForms all (forms_among rows ++ x ∷ []) z) (sym a.forms) (forms_snoc all (forms_among rows) (known_in r.found.forms) x c at.declare.forms i));
         };
-        fit = fit_more all lines rows r s next more n text after at e (row Form x) q;
+        fit = fit_more all lines rows r s next more n text after at e (row_with Form x) q;
         cons = subst (λ z. AreStatedNames z.items) (sym a.cons) at.cons;
         cons_distinct = subst (λ z. AreTextsDistinct z.items) (sym a.cons) at.cons_distinct;
         forms = subst AreStatedNames (sym names) (names_snoc (form_names (known_in r.found.forms)) c.name at.forms (subst IsCoreName i.name q.1.0));
-        reach = reach_snoc rows (row Form x) at_start (phase_of r.stage) (phase_of s.stage) at.reach (step_of Form Declaring Declaring f g refl);
+        reach = reach_snoc rows (row_with Form x) at_start (phase_of r.stage) (phase_of s.stage) at.reach (step_of Form Declaring Declaring f g refl);
         staged = declared (form_line x) f g h;
-        takes = takes_more all lines rows r s next more n text after at e (row Form x) q.0;
+        takes = takes_more all lines rows r s next more n text after at e (row_with Form x) q.0;
       }

@@ -17,7 +17,7 @@ use Rattle.sx_lines.specs.Distinct.{AreTextsDistinct}
 use Rattle.sx_core.specs.Stated.{IsGoal, SaysCore}
 use Rattle.sx_core.specs.Resolving.{sort_names, IsConOf, IsFormOf}
 use Rattle.sx_core.specs.Statements.{form_names}
-use Rattle.sx_core.specs.Table.{RowParts, Row, row, row_text, declaration_row, premise_row, rule_rows}
+use Rattle.sx_core.specs.Table.{RowParts, Row, row_with, row_text, declaration_row, premise_row, rule_rows}
 use Rattle.sx_core.specs.Table.{rows_of}
 use Rattle.sx_core.specs.Fitting.{Context, PartsFit, core_sorts_at, cons_at, forms_at, sorts_among}
 use Rattle.sx_core.specs.Fitting.{cons_among, forms_among, Declare, AllRowsFit, AreSorts}
@@ -72,28 +72,28 @@ abbrev with_form : Context → FormData → Context
 with_form c f = record { sorts = c.sorts; taken = c.taken; cons = c.cons; shapes = c.shapes; forms = c.forms ++ f ∷ [] }
 
 module _ (all : List SortRow) (rows : List Row) (c : Context) (h : Declare all rows c) where
-  next_sort : (x : SortRow) → Declare all (rows ++ row Sort x ∷ []) (with_sort c x.name)
+  next_sort : (x : SortRow) → Declare all (rows ++ row_with Sort x ∷ []) (with_sort c x.name)
   next_sort x = record {
     sorts = h.sorts;
-    taken = ap (λ (z : List (List ℕ)). z ++ x.name ∷ []) h.taken ∙ sym (ap sort_names (among_snoc sorts_of rows (row Sort x)) ∙ names_last (sorts_among rows) x);
-    cons = subst (λ (z : List ConRow). AreCons all z c.cons c.shapes) (sym (none_more cons_of rows (row Sort x) refl)) h.cons;
-    forms = subst (λ (z : List FormRow). AreForms all z c.forms) (sym (none_more forms_of rows (row Sort x) refl)) h.forms;
+    taken = ap (λ (z : List (List ℕ)). z ++ x.name ∷ []) h.taken ∙ sym (ap sort_names (among_snoc sorts_of rows (row_with Sort x)) ∙ names_last (sorts_among rows) x);
+    cons = subst (λ (z : List ConRow). AreCons all z c.cons c.shapes) (sym (none_more cons_of rows (row_with Sort x) refl)) h.cons;
+    forms = subst (λ (z : List FormRow). AreForms all z c.forms) (sym (none_more forms_of rows (row_with Sort x) refl)) h.forms;
   }
 
-  next_con : (x : ConRow) (name : List ℕ) (s : Shape) → x.name ≡ name → IsConOf all x s → Declare all (rows ++ row Con x ∷ []) (with_con c name s)
+  next_con : (x : ConRow) (name : List ℕ) (s : Shape) → x.name ≡ name → IsConOf all x s → Declare all (rows ++ row_with Con x ∷ []) (with_con c name s)
   next_con x name s e is = record {
     sorts = h.sorts;
-    taken = h.taken ∙ sym (ap sort_names (none_more sorts_of rows (row Con x) refl));
-    cons = subst (λ (z : List ConRow). AreCons all z (c.cons ++ name ∷ []) (c.shapes ++ s ∷ [])) (sym (among_snoc cons_of rows (row Con x))) (cons_snoc all (cons_among rows) c.cons c.shapes x name s h.cons e is);
-    forms = subst (λ (z : List FormRow). AreForms all z c.forms) (sym (none_more forms_of rows (row Con x) refl)) h.forms;
+    taken = h.taken ∙ sym (ap sort_names (none_more sorts_of rows (row_with Con x) refl));
+    cons = subst (λ (z : List ConRow). AreCons all z (c.cons ++ name ∷ []) (c.shapes ++ s ∷ [])) (sym (among_snoc cons_of rows (row_with Con x))) (cons_snoc all (cons_among rows) c.cons c.shapes x name s h.cons e is);
+    forms = subst (λ (z : List FormRow). AreForms all z c.forms) (sym (none_more forms_of rows (row_with Con x) refl)) h.forms;
   }
 
-  next_form : (x : FormRow) (f : FormData) → IsFormOf all x f → Declare all (rows ++ row Form x ∷ []) (with_form c f)
+  next_form : (x : FormRow) (f : FormData) → IsFormOf all x f → Declare all (rows ++ row_with Form x ∷ []) (with_form c f)
   next_form x f is = record {
     sorts = h.sorts;
-    taken = h.taken ∙ sym (ap sort_names (none_more sorts_of rows (row Form x) refl));
-    cons = subst (λ (z : List ConRow). AreCons all z c.cons c.shapes) (sym (none_more cons_of rows (row Form x) refl)) h.cons;
-    forms = subst (λ (z : List FormRow). AreForms all z (c.forms ++ f ∷ [])) (sym (among_snoc forms_of rows (row Form x))) (forms_snoc all (forms_among rows) c.forms x f h.forms is);
+    taken = h.taken ∙ sym (ap sort_names (none_more sorts_of rows (row_with Form x) refl));
+    cons = subst (λ (z : List ConRow). AreCons all z c.cons c.shapes) (sym (none_more cons_of rows (row_with Form x) refl)) h.cons;
+    forms = subst (λ (z : List FormRow). AreForms all z (c.forms ++ f ∷ [])) (sym (among_snoc forms_of rows (row_with Form x))) (forms_snoc all (forms_among rows) c.forms x f h.forms is);
   }
 
   next_kept : (r : Row) → sorts_of r ≡ [] → cons_of r ≡ [] → forms_of r ≡ [] → Declare all (rows ++ r ∷ []) c
@@ -145,23 +145,23 @@ module _ (all : List SortRow) where
     fit = tt;
   }
   said_declarations (sort_line x ∷ ds) before c ns ss fs h sp hc hf dt dc df =
-      declared_on before (row Sort x) (map declaration_row ds) c (with_sort c x.name) ss ss fs fs h
+      declared_on before (row_with Sort x) (map declaration_row ds) c (with_sort c x.name) ss ss fs fs h
       (sp.0, new_name c.taken x.name (map (λ row. row.name) (sort_rows ds)) dt) refl refl
-      (said_declarations ds (before ++ row Sort x ∷ []) (with_sort c x.name) ns ss fs (next_sort all before c h x) sp.1 hc hf
+      (said_declarations ds (before ++ row_with Sort x ∷ []) (with_sort c x.name) ns ss fs (next_sort all before c h x) sp.1 hc hf
       (distinct_on c.taken x.name (map (λ row. row.name) (sort_rows ds)) dt) dc df)
   said_declarations (con_line x ∷ ds) before c [] ss fs h sp hc hf dt dc df = absurd hc
   said_declarations (con_line x ∷ ds) before c (n ∷ ns) [] fs h sp hc hf dt dc df = absurd hc
   said_declarations (con_line x ∷ ds) before c (n ∷ ns) (s ∷ ss) fs h sp hc hf dt dc df =
       let is : IsConOf all x s = record { sort = hc.1; kids = hc.2; may = hc.3 } in
-      declared_on before (row Con x) (map declaration_row ds) c (with_con c n s) ss (s ∷ ss) fs fs h
+      declared_on before (row_with Con x) (map declaration_row ds) c (with_con c n s) ss (s ∷ ss) fs fs h
       (sp.0, (λ k. new_name c.cons n ns dc (subst (Contains c.cons) hc.0 k)), s, subst (λ (z : List SortRow). IsConOf z x s) (sym h.sorts) is) (append_assoc c.shapes (s ∷ []) ss) refl
-      (said_declarations ds (before ++ row Con x ∷ []) (with_con c n s) ns ss fs (next_con all before c h x n s hc.0 is) sp.1 hc.4 hf dt (distinct_on c.cons n ns dc) df)
+      (said_declarations ds (before ++ row_with Con x ∷ []) (with_con c n s) ns ss fs (next_con all before c h x n s hc.0 is) sp.1 hc.4 hf dt (distinct_on c.cons n ns dc) df)
   said_declarations (form_line x ∷ ds) before c ns ss [] h sp hc hf dt dc df = absurd hf
   said_declarations (form_line x ∷ ds) before c ns ss (f ∷ fs) h sp hc hf dt dc df =
       let is : IsFormOf all x f = record { name = hf.0; places = hf.1; one = hf.2 } in
-      declared_on before (row Form x) (map declaration_row ds) c (with_form c f) ss ss fs (f ∷ fs) h
+      declared_on before (row_with Form x) (map declaration_row ds) c (with_form c f) ss ss fs (f ∷ fs) h
       (sp.0.0, sp.0.1, (λ k. new_name (form_names c.forms) f.name (form_names fs) df (subst (Contains (form_names c.forms)) hf.0 k)), f, subst (λ (z : List SortRow). IsFormOf z x f) (sym h.sorts) is) refl (append_assoc c.forms (f ∷ []) fs)
-      (said_declarations ds (before ++ row Form x ∷ []) (with_form c f) ns ss fs (next_form all before c h x f is) sp.1 hc hf.3 dt dc
+      (said_declarations ds (before ++ row_with Form x ∷ []) (with_form c f) ns ss fs (next_form all before c h x f is) sp.1 hc hf.3 dt dc
       (subst (λ (z : List (List ℕ)). AreTextsDistinct (z ++ form_names fs)) (sym (map_last (λ (g : FormData). g.name) c.forms f)) (distinct_on (form_names c.forms) f.name (form_names fs) df)))
 
 -- ---- the rules and the goal
@@ -220,7 +220,7 @@ module _ (c : Context) (named : AreStatedNames (map (λ row. row.name) c.sorts))
   rule_later l r h = (
     tt,
     ((subst IsCoreName (sym h.name) h.is_name, sorts_named c.sorts l.sorts r.rule.sorts named h.sorts), r.rule.sorts, h.sorts),
-    later_append c (map premise_row l.premises) (row Then l.conclusion ∷ row End tt ∷ []) (premises_later l.premises r.rule.premises h.premises)
+    later_append c (map premise_row l.premises) (row_with Then l.conclusion ∷ row_with End tt ∷ []) (premises_later l.premises r.rule.premises h.premises)
         (tt, (r.rule.conclusion, (form_named c.forms l.conclusion.form r.rule.conclusion.form forms h.conclusion.form, h.conclusion)), (tt, tt, tt)),
   )
 
@@ -244,14 +244,14 @@ module _ (f : CoreFile) (p : Problem) (s : SaysCore f p) where
   sorts_are_distinct : AreTextsDistinct (sort_names said_sorts)
   sorts_are_distinct = subst (λ (x : List (List ℕ)). AreTextsDistinct (sort_names [] ++ x)) s.sorts s.sorts_distinct
 
-  at_head : Declare said_sorts (row Head tt ∷ []) (nothing_declared said_sorts)
+  at_head : Declare said_sorts (row_with Head tt ∷ []) (nothing_declared said_sorts)
   unfolding nothing_declared
   at_head = record { sorts = refl; taken = refl; cons = tt; forms = tt }
 
-  declared : Declared said_sorts (row Head tt ∷ []) (map declaration_row f.declarations) (nothing_declared said_sorts) p.shapes p.forms
+  declared : Declared said_sorts (row_with Head tt ∷ []) (map declaration_row f.declarations) (nothing_declared said_sorts) p.shapes p.forms
   unfolding nothing_declared
   declared =
-      said_declarations said_sorts f.declarations (row Head tt ∷ []) (nothing_declared said_sorts) p.cons p.shapes p.forms at_head
+      said_declarations said_sorts f.declarations (row_with Head tt ∷ []) (nothing_declared said_sorts) p.cons p.shapes p.forms at_head
       (declarations_spelled said_sorts sorts_are_named f.declarations p.cons p.shapes p.forms sorts_are_named s.cons s.con_names s.forms s.form_names)
       s.cons s.forms sorts_are_distinct s.cons_distinct s.forms_distinct
 
@@ -279,7 +279,7 @@ module _ (f : CoreFile) (p : Problem) (s : SaysCore f p) where
       rules_later last named_last forms_last f.rules p.rules
       (subst (λ (z : List SortRow). AreCoreRules z last.forms f.rules p.rules) (sym declared.declare.sorts) (subst (λ (z : List FormData). AreCoreRules said_sorts z f.rules p.rules) (sym last_forms) s.rules))
 
-  goal_last : AllLater last (row Goal f.goal ∷ [])
+  goal_last : AllLater last (row_with Goal f.goal ∷ [])
   goal_last = (
     tt,
     (
@@ -291,23 +291,23 @@ module _ (f : CoreFile) (p : Problem) (s : SaysCore f p) where
   )
 
   abbrev declared_front : List Row
-  declared_front = row Head tt ∷ map declaration_row f.declarations
+  declared_front = row_with Head tt ∷ map declaration_row f.declarations
 
   abbrev later_rows : List Row
-  later_rows = flat_map rule_rows f.rules ++ row Goal f.goal ∷ []
+  later_rows = flat_map rule_rows f.rules ++ row_with Goal f.goal ∷ []
 
   rows_parts : declared_front ++ later_rows ≡ rows_of f
-  rows_parts = ap (λ (z : List Row). row Head tt ∷ z) (sym (append_assoc (map declaration_row f.declarations) (flat_map rule_rows f.rules) (row Goal f.goal ∷ [])))
+  rows_parts = ap (λ (z : List Row). row_with Head tt ∷ z) (sym (append_assoc (map declaration_row f.declarations) (flat_map rule_rows f.rules) (row_with Goal f.goal ∷ [])))
 
   later : AllRowsFit said_sorts declared_front later_rows × Declare said_sorts (declared_front ++ later_rows) last
   unfolding last
-  later = later_fit said_sorts last later_rows declared_front declared.declare (later_append last (flat_map rule_rows f.rules) (row Goal f.goal ∷ []) rules_last goal_last)
+  later = later_fit said_sorts last later_rows declared_front declared.declare (later_append last (flat_map rule_rows f.rules) (row_with Goal f.goal ∷ []) rules_last goal_last)
 
   pub said_fit : AllRowsFit said_sorts [] (rows_of f)
   unfolding nothing_declared
   said_fit =
       subst (AllRowsFit said_sorts []) rows_parts
-      ((nothing_declared said_sorts, record { sorts = refl; taken = refl; cons = tt; forms = tt }, tt), fits_append said_sorts (map declaration_row f.declarations) (row Head tt ∷ []) later_rows declared.fit later.0)
+      ((nothing_declared said_sorts, record { sorts = refl; taken = refl; cons = tt; forms = tt }, tt), fits_append said_sorts (map declaration_row f.declarations) (row_with Head tt ∷ []) later_rows declared.fit later.0)
 
   pub said_declare : Declare said_sorts (rows_of f) last
   said_declare = subst (λ (z : List Row). Declare said_sorts z last) rows_parts later.1
@@ -326,7 +326,7 @@ texts_taken (line n text after more) (x ∷ xs) e =
     both : (a b : List ℕ) (u v : List (List ℕ)) → a ∷ u ≡ b ∷ v → (a ≡ b) × (u ≡ v)
     both a b u v e = (cc, cc)
 
-spelled_sort : (r : Row) (y : SortRow) → Spelled r.keyword r.parts → r ≡ row Sort y → IsCoreName y.name
+spelled_sort : (r : Row) (y : SortRow) → Spelled r.keyword r.parts → r ≡ row_with Sort y → IsCoreName y.name
 spelled_sort r y h e = subst (λ (z : Row). Spelled z.keyword z.parts) e h
 
 none_one : (x : SortRow) → [] ≡ x ∷ [] → ⊥

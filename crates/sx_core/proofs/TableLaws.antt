@@ -4,7 +4,7 @@ use Rattle.std.specs.Prelude.{◌==◌, if◌then◌else◌}
 use Rattle.std.proofs.lemmas.List.{take-append-drop}
 use Rattle.sx_lines.specs.Blanks.{NoSpace}
 use Rattle.sx_core.specs.Words.{BlankFirst, IsWordEnd}
-use Rattle.sx_core.specs.Table.{core_keyword_text, RowParts, parts_text, Row, row_text, row, IsKeyword}
+use Rattle.sx_core.specs.Table.{core_keyword_text, RowParts, parts_text, Row, row_text, row_with, IsKeyword}
 use Rattle.sx_core.specs.Table.{NoKeyword}
 use Rattle.sx_core.specs.declared.keyword.Keyword.{Keyword}
 use Rattle.sx_core.specs.declared.keyword.Keyword.TheVariants.{Head, Sort, Con, Form, Rule, If, Not}
@@ -86,10 +86,10 @@ pub row_keyword : (r : Row) → IsKeyword (row_text r) r.keyword (parts_text r.k
 row_keyword r = record { parts = refl; stops = parts_stop r.keyword r.parts }
 
 -- what a line that begins with a word is as a row
-pub only_row : (text : List ℕ) (k : Keyword) (rest : List ℕ) → IsKeyword text k rest → (P : Row → Type 0) → ((p : RowParts k) → rest ≡ parts_text k p → P (row k p)) → (r : Row) → text ≡ row_text r → P r
+pub only_row : (text : List ℕ) (k : Keyword) (rest : List ℕ) → IsKeyword text k rest → (P : Row → Type 0) → ((p : RowParts k) → rest ≡ parts_text k p → P (row_with k p)) → (r : Row) → text ≡ row_text r → P r
 only_row text k rest h P f r e =
     let q = one_keyword text k r.keyword rest (parts_text r.keyword r.parts) h (record { parts = e; stops = parts_stop r.keyword r.parts }) in
     at r.keyword q.0 r.parts q.1
   where
-    at : (l : Keyword) → k ≡ l → (p : RowParts l) → rest ≡ parts_text l p → P (row l p)
-    at l same = subst (λ (m : Keyword). (p : RowParts m) → rest ≡ parts_text m p → P (row m p)) same f
+    at : (l : Keyword) → k ≡ l → (p : RowParts l) → rest ≡ parts_text l p → P (row_with l p)
+    at l same = subst (λ (m : Keyword). (p : RowParts m) → rest ≡ parts_text m p → P (row_with m p)) same f

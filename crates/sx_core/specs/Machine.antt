@@ -20,7 +20,7 @@ use Rattle.sx_rules.specs.declared.rule.Judgement.{Judgement as JudgementOf}
 use Rattle.sx_core.specs.Statements.{known_in}
 use Rattle.sx_core.specs.TermsText.{RefusedAs}
 use Rattle.sx_core.specs.Stated.{IsCoreName}
-use Rattle.sx_core.specs.Table.{IsKeyword, NoKeyword, row, row_text}
+use Rattle.sx_core.specs.Table.{IsKeyword, NoKeyword, row_with, row_text}
 use Rattle.sx_core.specs.Fitting.{IsFitting, IsDeepLine, IsNewSort}
 use Rattle.sx_core.specs.Reading.{context, IsCoreLineRead}
 use Rattle.sx_core.specs.Order.{at_start, at_end, phase_of, step}
@@ -287,11 +287,11 @@ pub record IsReaderBegun (sorts : SortTable) (r : Reader) : Type 0 where
 
 -- the line is that of this sort
 abbrev pub IsSortLine : List ℕ → SortRow → Type 0
-IsSortLine text r = (text ≡ row_text (row Sort r)) × IsCoreName r.name
+IsSortLine text r = (text ≡ row_text (row_with Sort r)) × IsCoreName r.name
 
 -- the sort of the line is added, where it is that of a sort whose name is not taken
 abbrev pub FindsSort : SortTable → SortTable → List ℕ → Type 0
 FindsSort old new text =
-    ((row : SortRow) × IsNewSort (rows_in old) text row × (rows_in new ≡ rows_in old ++ row ∷ []) ×
+    ((row_with : SortRow) × IsNewSort (rows_in old) text row × (rows_in new ≡ rows_in old ++ row ∷ []) ×
     (new.names ≡ old.names ++ row.name ∷ []))
-    ⊎ (((row : SortRow) → IsNewSort (rows_in old) text row → ⊥) × (new ≡ old))
+    ⊎ (((row_with : SortRow) → IsNewSort (rows_in old) text row → ⊥) × (new ≡ old))

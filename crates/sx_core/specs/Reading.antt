@@ -8,7 +8,7 @@ use Rattle.sx_core.specs.Stated.{NameSorts, IsGoal}
 use Rattle.sx_core.specs.Rows.{sort_row, con_row}
 use Rattle.sx_core.specs.Resolving.{rows_in, IsSortTable, IsConOf, IsFormOf}
 use Rattle.sx_core.specs.Statements.{known_in, IsFormTable}
-use Rattle.sx_core.specs.Table.{row, RuleRow}
+use Rattle.sx_core.specs.Table.{row_with, RuleRow}
 use Rattle.sx_core.specs.TermsText.{RefusedAs}
 use Rattle.sx_core.specs.Fitting.{Context, IsDeepLine, IsFullJudgement, IsFitting}
 use Rattle.sx_core.specs.declared.found.Found.{Found}
@@ -41,22 +41,22 @@ pub record AreNamesFound (found : Found) : Type 0 where
 
 -- the line is that of what was read
 abbrev pub IsCoreLineRead : Context → List ℕ → LineRead → Type 0
-IsCoreLineRead c text HeadRead = IsFitting c text (row Head tt)
-IsCoreLineRead c text (SortRead r) = IsFitting c text (row Sort (sort_row r))
-IsCoreLineRead c text (ConRead r con) = IsFitting c text (row Con (con_row r)) ×
+IsCoreLineRead c text HeadRead = IsFitting c text (row_with Head tt)
+IsCoreLineRead c text (SortRead r) = IsFitting c text (row_with Sort (sort_row r))
+IsCoreLineRead c text (ConRead r con) = IsFitting c text (row_with Con (con_row r)) ×
     IsConOf c.sorts (con_row r) (shape con)
-IsCoreLineRead c text (FormRead f) = (r : FormRow) × IsFitting c text (row Form r) ×
+IsCoreLineRead c text (FormRead f) = (r : FormRow) × IsFitting c text (row_with Form r) ×
     IsFormOf c.sorts r (form f)
-IsCoreLineRead c text (RuleRead name sorts) = (r : RuleRow) × IsFitting c text (row Rule r) ×
+IsCoreLineRead c text (RuleRead name sorts) = (r : RuleRow) × IsFitting c text (row_with Rule r) ×
     (r.name ≡ name) × NameSorts c.sorts r.sorts sorts.items
-IsCoreLineRead c text (IfRead j) = (r : JudgementRow) × IsFitting c text (row If r) ×
+IsCoreLineRead c text (IfRead j) = (r : JudgementRow) × IsFitting c text (row_with If r) ×
     IsFullJudgement c.forms r (judgement j)
 IsCoreLineRead c text (NotRead left right) = IsFitting c text
-    (row Not (record { left = tree left; right = tree right }))
-IsCoreLineRead c text (ThenRead j) = (r : JudgementRow) × IsFitting c text (row Then r) ×
+    (row_with Not (record { left = tree left; right = tree right }))
+IsCoreLineRead c text (ThenRead j) = (r : JudgementRow) × IsFitting c text (row_with Then r) ×
     IsFullJudgement c.forms r (judgement j)
-IsCoreLineRead c text EndRead = IsFitting c text (row End tt)
-IsCoreLineRead c text (GoalRead g) = (r : JudgementRow) × IsFitting c text (row Goal r) ×
+IsCoreLineRead c text EndRead = IsFitting c text (row_with End tt)
+IsCoreLineRead c text (GoalRead g) = (r : JudgementRow) × IsFitting c text (row_with Goal r) ×
     IsGoal c.shapes c.forms r (goal g)
 
 -- what a line is read as in this context, or why it is refused

@@ -71,32 +71,32 @@ abbrev pub row_text : Row → List ℕ
 row_text row = core_keyword_text row.keyword ++ parts_text row.keyword row.parts
 
 -- a row with this word
-abbrev pub row : (k : Keyword) → RowParts k → Row
-row k parts = record { keyword = k; parts = parts }
+abbrev pub row_with : (k : Keyword) → RowParts k → Row
+row_with k parts = record { keyword = k; parts = parts }
 
 -- the row of a declaration
 abbrev pub declaration_row : Declaration → Row
-declaration_row (sort_line r) = row Sort r
-declaration_row (con_line r) = row Con r
-declaration_row (form_line r) = row Form r
+declaration_row (sort_line r) = row_with Sort r
+declaration_row (con_line r) = row_with Con r
+declaration_row (form_line r) = row_with Form r
 
 -- the row of a premise
 abbrev pub premise_row : PremiseRow → Row
-premise_row (if_line r) = row If r
-premise_row (not_line left right) = row Not (record { left = left; right = right })
+premise_row (if_line r) = row_with If r
+premise_row (not_line left right) = row_with Not (record { left = left; right = right })
 
 -- the rows of a rule
 abbrev pub rule_rows : RuleRows → List Row
 rule_rows rule =
-    row Rule (record { name = rule.name; sorts = rule.sorts }) ∷ map premise_row rule.premises
-    ++ row Then rule.conclusion ∷ row End tt ∷ []
+    row_with Rule (record { name = rule.name; sorts = rule.sorts }) ∷ map premise_row rule.premises
+    ++ row_with Then rule.conclusion ∷ row_with End tt ∷ []
 
 -- the rows of a core file
 abbrev pub rows_of : CoreFile → List Row
 rows_of file =
-    row Head tt ∷ map declaration_row file.declarations
+    row_with Head tt ∷ map declaration_row file.declarations
     ++ flat_map rule_rows file.rules
-    ++ row Goal file.goal ∷ []
+    ++ row_with Goal file.goal ∷ []
 
 -- the line begins with this word, and a blank or nothing comes after it
 pub record IsKeyword (text : List ℕ) (k : Keyword) (rest : List ℕ) : Type 0 where

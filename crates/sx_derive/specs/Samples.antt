@@ -14,12 +14,12 @@ abbrev pub sample_modes : Modes
 sample_modes form = false ∷ false ∷ true ∷ []
 
 -- the judgement that the term e has the type t in the environment c
-abbrev pub typing : Tree → Tree → Tree → Judgement
-typing c e t = record { form = 0; places = c ∷ e ∷ t ∷ [] }
+abbrev pub has_type : Tree → Tree → Tree → Judgement
+has_type c e t = record { form = 0; places = c ∷ e ∷ t ∷ [] }
 
 -- the judgement that the environment c says of the name x that it has the type t
-abbrev pub lookup : Tree → Tree → Tree → Judgement
-lookup c x t = record { form = 1; places = c ∷ x ∷ t ∷ [] }
+abbrev pub looks_up : Tree → Tree → Tree → Judgement
+looks_up c x t = record { form = 1; places = c ∷ x ∷ t ∷ [] }
 
 -- the environment with one more binding
 abbrev pub bind_in : Tree → Tree → Tree → Tree
@@ -35,15 +35,15 @@ here_rule = record {
   sorts = Plain 0 ∷ Lex Id ∷ Plain 1
       ∷ [];
   premises = [];
-  conclusion = lookup (bind_in (hole 0) (hole 1) (hole 2)) (hole 1) (hole 2);
+  conclusion = looks_up (bind_in (hole 0) (hole 1) (hole 2)) (hole 1) (hole 2);
 }
 
 -- a binding further out, past one of another name
 abbrev pub there_rule : Rule
 there_rule = record {
   sorts = Plain 0 ∷ Lex Id ∷ Plain 1 ∷ Lex Id ∷ Plain 1 ∷ [];
-  premises = apart (hole 1) (hole 3) ∷ holds (lookup (hole 0) (hole 1) (hole 2)) ∷ [];
-  conclusion = lookup (bind_in (hole 0) (hole 3) (hole 4)) (hole 1) (hole 2);
+  premises = apart (hole 1) (hole 3) ∷ holds (looks_up (hole 0) (hole 1) (hole 2)) ∷ [];
+  conclusion = looks_up (bind_in (hole 0) (hole 3) (hole 4)) (hole 1) (hole 2);
 }
 
 -- a name as a term has the type that the environment says
@@ -51,8 +51,8 @@ abbrev pub var_rule : Rule
 var_rule = record {
   sorts = Plain 0 ∷ Lex Id ∷ Plain 1
       ∷ [];
-  premises = holds (lookup (hole 0) (hole 1) (hole 2)) ∷ [];
-  conclusion = typing (hole 0) (var_of (hole 1)) (hole 2);
+  premises = holds (looks_up (hole 0) (hole 1) (hole 2)) ∷ [];
+  conclusion = has_type (hole 0) (var_of (hole 1)) (hole 2);
 }
 
 -- the three rules

@@ -7,17 +7,17 @@ use Rattle.sx_term.specs.declared.sort.Sort.{Sort}
 use Rattle.sx_token.specs.declared.token.Token.{Token}
 use Rattle.sx_grammar.specs.Grammar.{Text}
 use Rattle.sx_earley.specs.declared.shown.Shown.{Shown}
-use Rattle.sx_earley.specs.Tokens.{kept, without_digits, Stems, stem_sort}
+use Rattle.sx_earley.specs.Tokens.{kept_unless_digit, without_digits, Stems, stem_sort}
 use Rattle.sx_earley.specs.Showing.{TokenShows, AllShow}
 
-kept_more : (x c : ℕ) (xs : Text) → kept x (xs ++ c ∷ []) ≡ x ∷ xs ++ c ∷ []
+kept_more : (x c : ℕ) (xs : Text) → kept_unless_digit x (xs ++ c ∷ []) ≡ x ∷ xs ++ c ∷ []
 kept_more x c [] = refl
 kept_more x c (y ∷ ys) = refl
 
 digits_last : (xs : Text) (c : ℕ) (b : Bool) → is_ascii_digit c ≡ b → without_digits (xs ++ c ∷ []) ≡ (if b then without_digits xs else (xs ++ c ∷ []))
 digits_last [] c b e = ap (λ d. if d then [] else c ∷ []) e
-digits_last (x ∷ xs) c true e = ap (kept x) (digits_last xs c true e)
-digits_last (x ∷ xs) c false e = ap (kept x) (digits_last xs c false e) ∙ kept_more x c xs
+digits_last (x ∷ xs) c true e = ap (kept_unless_digit x) (digits_last xs c true e)
+digits_last (x ∷ xs) c false e = ap (kept_unless_digit x) (digits_last xs c false e) ∙ kept_more x c xs
 
 -- a digit at the end is left out
 pub digit_out : (text rest : Text) (c : ℕ) → text ≡ rest ++ c ∷ [] → is_ascii_digit c ≡ true → without_digits text ≡ without_digits rest

@@ -14,14 +14,14 @@ use Rattle.sx_grammar.specs.Grammar.{Text, Stem, of_kind, of_sort, is_literal, i
 use Rattle.sx_grammar.specs.Grammar.{is_variable}
 
 -- the first byte stays, unless it is a digit and nothing comes after it
-abbrev pub kept : ℕ → Text → Text
-kept c [] = if is_ascii_digit c then [] else c ∷ []
-kept c (d ∷ ds) = c ∷ d ∷ ds
+abbrev pub kept_unless_digit : ℕ → Text → Text
+kept_unless_digit c [] = if is_ascii_digit c then [] else c ∷ []
+kept_unless_digit c (d ∷ ds) = c ∷ d ∷ ds
 
 -- without the ASCII digits at its end
 abbrev pub without_digits : Text → Text
 without_digits [] = []
-without_digits (c ∷ cs) = kept c (without_digits cs)
+without_digits (c ∷ cs) = kept_unless_digit c (without_digits cs)
 
 -- the stem of a metavariable: its name, which comes after `~`, without the digits at its end
 abbrev pub meta_stem : Text → Text

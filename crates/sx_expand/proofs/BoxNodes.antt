@@ -25,7 +25,7 @@ use Rattle.sx_arena.specs.Limits.{first_values}
 use Rattle.sx_arena.specs.Matching.{Assignment, nothing_bound, match_all, filled}
 use Rattle.sx_expand.specs.declared.made.Made.{Made}
 use Rattle.sx_expand.specs.declared.origin.Origin.{Origin}
-use Rattle.sx_expand.specs.Boxes.{rules_from, modes_from, hyps_from, entries_from, CanBox}
+use Rattle.sx_expand.specs.Boxes.{rules_from, modes_from, hyps_from, listed_entries, CanBox}
 use Rattle.sx_expand.specs.Boxes.{HaveInputs, IsBoxNode, IsBoxed, IsFollowed}
 use Rattle.sx_expand.specs.ReadNodes.{NodeData, KidData}
 use Rattle.sx_expand.specs.Standing.{StandsInList}
@@ -104,7 +104,7 @@ ends_with {o} {at} {r} {j} {p} e = record { rule = e.rule; judgement = j; binds 
 module _ (o : Origin) (at : ℕ) (j : Judgement) (p : Proof) (can : CanBox o at j p) where
   pub box-within : at < length o.list.now
   box-within =
-      let w = stands-within (entries_from o) at p can.stands in
+      let w = stands-within (listed_entries o) at p can.stands in
       let n = nodes-some p in
       let m = length-map o.list.now entry in omega (arith, w, n, m)
 
@@ -118,13 +118,13 @@ module _ (o : Origin) (at : ℕ) (j : Judgement) (p : Proof) (can : CanBox o at 
     box-rule is =
         let b = rule-stands o.list.now at x n p box-within here is can.stands in
         let d = subst (Derives (rules_from o) (hyps_from o) j) b.is can.derives in
-        let s = subst (StandsInList (entries_from o) at) b.is can.stands in
+        let s = subst (StandsInList (listed_entries o) at) b.is can.stands in
         record {
           rule = d.0;
           binds = b.binds;
           kids = b.kids;
           is = b.is;
-          node = record { found = d.1; stand = kids-stand (entries_from o) at n b.binds b.kids s; derives = d };
+          node = record { found = d.1; stand = kids-stand (listed_entries o) at n b.binds b.kids s; derives = d };
         }
 
 -- so it is made

@@ -17,7 +17,7 @@ use Rattle.sx_arena.proofs.Growing.{extends-then}
 use Rattle.sx_expand.specs.declared.cursor.Cursor.{Cursor}
 use Rattle.sx_expand.specs.declared.origin.Origin.{Origin}
 use Rattle.sx_expand.specs.declared.work.Work.{Work}
-use Rattle.sx_expand.specs.Boxes.{rules_from, modes_from, hyps_from, entries_from, cursor_terms, Advances, IsBoxNode, IsBoxKid, IsFollowed}
+use Rattle.sx_expand.specs.Boxes.{rules_from, modes_from, hyps_from, listed_entries, cursor_terms, Advances, IsBoxNode, IsBoxKid, IsFollowed}
 use Rattle.sx_expand.specs.Followed.{IsWork, bindings_of}
 use Rattle.sx_expand.specs.ReadNodes.{NodeData, KidData}
 use Rattle.sx_expand.specs.Standing.{StandsInList, StandEach}
@@ -42,7 +42,7 @@ joined-none (p ⊳ ps) = ap (λ (qs : Proofs). p ⊳ qs) (joined-none ps)
 -- the kids up to a premise are made
 pub record BoxedSoFar (o : Origin) (ps : List PremiseOf) (i first at : ℕ) (terms : List Tree) (w : Work) (made : List (Box ProofOf Global)) (d : NodeData) : Type 0 where
   pub left : Proofs
-  pub row : StandEach (entries_from o) at left
+  pub row : StandEach (listed_entries o) at left
   pub each : DeriveEach (rules_from o) (hyps_from o) (map (judgement_instance (bound_by d.binds)) (judgements_of (map premise (drop i ps)))) left
   pub followed : IsFollowed o d.rule d.binds (map premise (drop i ps)) (bindings_of terms w)
   pub kids_are : joined (boxed made) left ≡ d.kids
@@ -114,8 +114,8 @@ module _ (o : Origin) (d : NodeData) (ps : List PremiseOf) where
           pub first_kid : Proof
           pub rest : Proofs
           pub is_left : so.left ≡ first_kid ⊳ rest
-          pub stands : StandsInList (entries_from o) at first_kid
-          pub next : StandEach (entries_from o) (at + nodes_of first_kid) rest
+          pub stands : StandsInList (listed_entries o) at first_kid
+          pub next : StandEach (listed_entries o) (at + nodes_of first_kid) rest
           pub derives : Derives (rules_from o) (hyps_from o) (judgement_instance (bound_by d.binds) (judgement j)) first_kid
           pub each : Asked (map premise (drop (i + 1) ps)) rest
 
@@ -125,7 +125,7 @@ module _ (o : Origin) (d : NodeData) (ps : List PremiseOf) where
             go : (left : Proofs) → so.left ≡ left → Asked (holds (judgement j) ∷ map premise (drop (i + 1) ps)) left → NextBox
             go no_more e h = absurd h
             go (q ⊳ qs) e h =
-                let s = first-stands (entries_from o) at q qs (subst (λ (x : Proofs). StandEach (entries_from o) at x) e so.row) in
+                let s = first-stands (listed_entries o) at q qs (subst (λ (x : Proofs). StandEach (listed_entries o) at x) e so.row) in
                 record { first_kid = q; rest = qs; is_left = e; stands = s.0; next = s.1; derives = h.0; each = h.1 }
 
         abbrev pub box-data : KidData
@@ -146,7 +146,7 @@ module _ (o : Origin) (d : NodeData) (ps : List PremiseOf) where
             let all = ap nodes_of_all q.is_left in
             record {
               left = q.rest;
-              row = subst (λ (m : ℕ). StandEach (entries_from o) m q.rest) (sym to) q.next;
+              row = subst (λ (m : ℕ). StandEach (listed_entries o) m q.rest) (sym to) q.next;
               each = q.each;
               followed = f;
               kids_are =

@@ -38,8 +38,8 @@ modes_from o = modes_of (forms_in o.rules.now)
 abbrev pub hyps_from : Origin → Hypotheses
 hyps_from o = hypotheses o.given.now
 
-abbrev pub entries_from : Origin → List Entry
-entries_from o = entries o.list.now
+abbrev pub listed_entries : Origin → List Entry
+listed_entries o = entries o.list.now
 
 -- no term of a hypothesis is deeper than 1,000
 abbrev pub HasShallowGiven : Origin → Type 0
@@ -56,7 +56,7 @@ pub record Advances (old new : Cursor) : Type 0 where
 
 -- a derivation of the judgement stands in the list from the number on
 pub record CanBox (o : Origin) (at : ℕ) (j : Judgement) (p : Proof) : Type 0 where
-  pub stands : StandsInList (entries_from o) at p
+  pub stands : StandsInList (listed_entries o) at p
   pub derives : Derives (rules_from o) (hyps_from o) j p
 
 -- the terms with these numbers are the inputs of the judgement
@@ -73,7 +73,7 @@ pub record IsBoxed (o : Origin) (terms : List Tree) (j : Judgement) (p : Proof) 
 -- the node is by the rule with the number, and its kids stand in the list from the other number on
 pub record IsBoxNode (o : Origin) (at r : ℕ) (d : NodeData) : Type 0 where
   pub found : slice_get (rules_from o) r ≡ Some d.rule
-  pub stand : StandEach (entries_from o) at d.kids
+  pub stand : StandEach (listed_entries o) at d.kids
   pub derives : Derives (rules_from o) (hyps_from o) d.judgement (by r d.binds d.kids)
 
 -- of a node with these terms so much is bound with these premises left

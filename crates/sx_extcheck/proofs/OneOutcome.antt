@@ -9,7 +9,7 @@ use Rattle.sx_rewrite.specs.declared.accepted.Accepted.{Accepted as AcceptedOf}
 use Rattle.sx_rewrite.specs.declared.ext_rule.ExtRule.{ExtRule as ExtRuleOf}
 use Rattle.sx_rewrite.specs.Accepted.{Accepted, Checked, IsAccepted}
 use Rattle.sx_rewrite.specs.AcceptedView.{accepted, signature}
-use Rattle.sx_rewrite.specs.Extensions.{extended}
+use Rattle.sx_rewrite.specs.Extensions.{extended_by}
 use Rattle.sx_rewrite.specs.ExtensionView.{ext_rule}
 use Rattle.sx_rewrite.specs.Stored.{checked_of}
 use Rattle.sx_rewrite.proofs.Growing.{longer}
@@ -79,7 +79,7 @@ one_outcome_is_due old all ext budgets ok goes_on m n one other h i = go one oth
     both one other h i = all-agree c (shapes_in old.base) all longer_set ext.rules.items m n one other h i
 
     with_stored : List Checked → Accepted
-    with_stored stored = extended (accepted old) (record { rules = map ext_rule ext.rules.items; stored = stored; table = table_of ext.plain })
+    with_stored stored = extended_by (accepted old) (record { rules = map ext_rule ext.rules.items; stored = stored; table = table_of ext.plain })
 
     refused : (x y : AcceptError) → Agree {X = List Checked} (λ ss ts. ss ≡ ts) m n (Err x) (Err y) → Agree AreSameSets m n (Err x) (Err y)
     refused Memory y a = tt

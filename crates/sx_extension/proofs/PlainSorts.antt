@@ -21,7 +21,7 @@ use Rattle.sx_grammar.specs.Parts.{numbered_line, symbol_sorts, sorts_named}
 use Rattle.sx_grammar.specs.Made.{IsGrammar}
 use Rattle.sx_grammar.specs.Told.{is_typed, sort_with, kid_sorts, shape_of, shapes_of}
 use Rattle.sx_grammar.proofs.Finding.{at_contains, is_head, past_head, in_flat_map}
-use Rattle.sx_earley.specs.Tokens.{Stems, stem_sort, kept, without_digits}
+use Rattle.sx_earley.specs.Tokens.{Stems, stem_sort, kept_unless_digit, without_digits}
 use Rattle.sx_directives.specs.Spelling.{lex_text}
 use Rattle.sx_directives.specs.declared.rows.FormLine.{FormLine}
 use Rattle.sx_directives.specs.declared.rows.VarLine.{VarLine}
@@ -46,13 +46,13 @@ use Rattle.sx_extension.proofs.Grounding.{sort_read}
 
 -- ---- stems
 
-same_kept : (c : ℕ) (cs : Text) → kept c cs ≡ kept_byte c cs
+same_kept : (c : ℕ) (cs : Text) → kept_unless_digit c cs ≡ kept_byte c cs
 same_kept c [] = refl
 same_kept c (d ∷ ds) = refl
 
 same_stem : (text : Text) → without_digits text ≡ stem_of text
 same_stem [] = refl
-same_stem (c ∷ cs) = ap (kept c) (same_stem cs) ∙ same_kept c (stem_of cs)
+same_stem (c ∷ cs) = ap (kept_unless_digit c) (same_stem cs) ∙ same_kept c (stem_of cs)
 
 -- the sort of the first stem that is this one
 found_sort : (p : Parts) (vs : List VarLine) (ss : Stems) (stem : Text) (v : VarLine) → AreStems p vs ss → find (λ w. bytes_eq w.stem stem) vs ≡ Some v → (s : Sort) × (stem_sort ss stem ≡ Some s) × IsSortNamed p v.sort s

@@ -15,7 +15,7 @@ use Rattle.sx_grammar.specs.Reading.{by_variable, ReadsAll, all_read, by_literal
 use Rattle.sx_grammar.specs.Reading.{by_lexical_variable, by_part}
 use Rattle.sx_earley.specs.Tokens.{Stems, read_token, plain_tokens}
 use Rattle.sx_forest.specs.Text.{IsWithin, AreWithin}
-use Rattle.sx_forest.specs.Names.{IsLexeme, IsMetavariable, IsMarked, AreMarked, reading_names, names_of}
+use Rattle.sx_forest.specs.Names.{IsLexeme, IsMetavariable, IsMarked, AreMarked, reading_names, names_of_kids}
 use Rattle.sx_forest.specs.Fitting.{ReadingsAreWithin, ReadingsAreMarked, ReadingsHaveFewNames}
 
 module _ (g : Grammar) (tokens : List plain.Token) where
@@ -38,15 +38,15 @@ module _ (g : Grammar) (tokens : List plain.Token) where
     few all (by_brackets {from = from} {to = to} {inner = inner} e a read b) = let h : suc from + length (reading_names all inner) ≤ to = few all read in omega arith
     few all (by_variable m) = omega arith
 
-    all_few : (all : List Token) {symbols : List Symbol} {from to : ℕ} {kids : Readings} → ReadsAll g tokens symbols from to kids → from + length (names_of all kids) ≤ to
+    all_few : (all : List Token) {symbols : List Symbol} {from to : ℕ} {kids : Readings} → ReadsAll g tokens symbols from to kids → from + length (names_of_kids all kids) ≤ to
     all_few all all_read = omega arith
-    all_few all (by_literal {from = from} {to = to} {kids = kids} h more) = let k : suc from + length (names_of all kids) ≤ to = all_few all more in omega arith
-    all_few all (by_lexeme {from = from} {to = to} {kids = kids} h more) = let k : suc from + length (names_of all kids) ≤ to = all_few all more in omega arith
-    all_few all (by_lexical_variable {from = from} {to = to} {kids = kids} h more) = let k : suc from + length (names_of all kids) ≤ to = all_few all more in omega arith
+    all_few all (by_literal {from = from} {to = to} {kids = kids} h more) = let k : suc from + length (names_of_kids all kids) ≤ to = all_few all more in omega arith
+    all_few all (by_lexeme {from = from} {to = to} {kids = kids} h more) = let k : suc from + length (names_of_kids all kids) ≤ to = all_few all more in omega arith
+    all_few all (by_lexical_variable {from = from} {to = to} {kids = kids} h more) = let k : suc from + length (names_of_kids all kids) ≤ to = all_few all more in omega arith
     all_few all (by_part {from = from} {middle = middle} {to = to} {kid = kid} {kids = kids} read more) =
         let h : from + length (reading_names all kid) ≤ middle = few all read in
-        let k : middle + length (names_of all kids) ≤ to = all_few all more in
-        omega (arith, length-append (reading_names all kid) (names_of all kids))
+        let k : middle + length (names_of_kids all kids) ≤ to = all_few all more in
+        omega (arith, length-append (reading_names all kid) (names_of_kids all kids))
 
 mark_kind : (stems : Stems) (mark : Mark) (text : Text) (kind : LexKind) → (read_token stems mark text).mark ≡ is_lexeme kind → (k : LexKind) × (mark ≡ marks.Lex k)
 mark_kind stems (marks.Lit n) text kind e = cc

@@ -20,7 +20,7 @@ use Rattle.sx_grammar.specs.Print.{term_of, terms_of, leaf_term, variable_term, 
 use Rattle.sx_earley.specs.Tokens.{Stems, read_token, plain_tokens}
 use Rattle.sx_forest.specs.declared.reading.Reading.{Reading, Node, Lex, Var}
 use Rattle.sx_forest.specs.Readings.{plain_reading, plain_readings}
-use Rattle.sx_forest.specs.Names.{IsLexeme, IsMetavariable, IsMarked, AreMarked, reading_names, names_of}
+use Rattle.sx_forest.specs.Names.{IsLexeme, IsMetavariable, IsMarked, AreMarked, reading_names, names_of_kids}
 use Rattle.sx_forest.specs.Names.{AddsEach, AddsFront}
 use Rattle.sx_forest.proofs.Kids.{reading-at_node, readings-drop, readings-drop_all}
 use Rattle.sx_forest.proofs.Naming.{number_at, each_long, each_append, front_after, front_more}
@@ -111,15 +111,15 @@ pub marked_step : (tokens : List Token) (rs : List Reading) (i : ℕ) (k : Readi
 marked_step tokens rs i k h e m = subst (AreMarked tokens) (readings-drop rs i k h e) m
 
 -- the names of a node are those of its kids
-pub names_at_node : (tokens : List Token) (r : Reading) (label : ℕ) (kids : Vec Reading Global) (from to : ℕ) (rs : List Reading) → r ≡ Node label kids from to → rs ≡ kids.items → reading_names tokens (plain_reading r) ≡ names_of tokens (plain_readings rs)
+pub names_at_node : (tokens : List Token) (r : Reading) (label : ℕ) (kids : Vec Reading Global) (from to : ℕ) (rs : List Reading) → r ≡ Node label kids from to → rs ≡ kids.items → reading_names tokens (plain_reading r) ≡ names_of_kids tokens (plain_readings rs)
 names_at_node tokens r label kids from to rs e s =
-    ap (reading_names tokens) (reading-at_node r label kids from to e) ∙ ap (λ x. names_of tokens (plain_readings x)) (sym s)
+    ap (reading_names tokens) (reading-at_node r label kids from to e) ∙ ap (λ x. names_of_kids tokens (plain_readings x)) (sym s)
 
-pub names_step : (tokens : List Token) (rs : List Reading) (i : ℕ) (k : Reading) → i < length rs → k ≡ get_or rs i k → names_of tokens (plain_readings (drop i rs)) ≡ reading_names tokens (plain_reading k) ++ names_of tokens (plain_readings (drop (i + 1) rs))
-names_step tokens rs i k h e = ap (names_of tokens) (readings-drop rs i k h e)
+pub names_step : (tokens : List Token) (rs : List Reading) (i : ℕ) (k : Reading) → i < length rs → k ≡ get_or rs i k → names_of_kids tokens (plain_readings (drop i rs)) ≡ reading_names tokens (plain_reading k) ++ names_of_kids tokens (plain_readings (drop (i + 1) rs))
+names_step tokens rs i k h e = ap (names_of_kids tokens) (readings-drop rs i k h e)
 
-pub names_done : (tokens : List Token) (rs : List Reading) (i : ℕ) → length rs ≤ i → names_of tokens (plain_readings (drop i rs)) ≡ []
-names_done tokens rs i h = ap (names_of tokens) (readings-drop_all rs i h)
+pub names_done : (tokens : List Token) (rs : List Reading) (i : ℕ) → length rs ≤ i → names_of_kids tokens (plain_readings (drop i rs)) ≡ []
+names_done tokens rs i h = ap (names_of_kids tokens) (readings-drop_all rs i h)
 
 -- the name of a metavariable is its token's
 pub names_at_variable : (tokens : List Token) (r : Reading) (i : ℕ) (t : Token) → r ≡ Var i → i < length tokens → t ≡ get_or tokens i t → reading_names tokens (plain_reading r) ≡ without_tilde t.text ∷ []
@@ -127,27 +127,27 @@ names_at_variable tokens r i t e h g =
     ap (λ x. reading_names tokens (plain_reading x)) e ∙ ap (λ x. without_tilde x ∷ []) (get_or-map (λ t. t.text) tokens i t [] h ∙ sym (ap (λ t. t.text) g))
 
 -- there is room for the names of a kid, and then for those of the others
-pub kid_room : (tokens : List Token) (rs : List Reading) (i : ℕ) (k : Reading) (n bound : ℕ) → i < length rs → k ≡ get_or rs i k → n + length (names_of tokens (plain_readings (drop i rs))) < bound → n + length (reading_names tokens (plain_reading k)) < bound
+pub kid_room : (tokens : List Token) (rs : List Reading) (i : ℕ) (k : Reading) (n bound : ℕ) → i < length rs → k ≡ get_or rs i k → n + length (names_of_kids tokens (plain_readings (drop i rs))) < bound → n + length (reading_names tokens (plain_reading k)) < bound
 kid_room tokens rs i k n bound h e room =
-    omega (arith, ap length (names_step tokens rs i k h e), length-append (reading_names tokens (plain_reading k)) (names_of tokens (plain_readings (drop (i + 1) rs))))
+    omega (arith, ap length (names_step tokens rs i k h e), length-append (reading_names tokens (plain_reading k)) (names_of_kids tokens (plain_readings (drop (i + 1) rs))))
 
 pub next_room : (tokens : List Token) (rs : List Reading) (i : ℕ) (k : Reading) (old new : List Text) (bound : ℕ) → i < length rs → k ≡ get_or rs i k → AddsEach old (reading_names tokens (plain_reading k)) new →
-    length old + length (names_of tokens (plain_readings (drop i rs))) < bound → length new + length (names_of tokens (plain_readings (drop (i + 1) rs))) < bound
+    length old + length (names_of_kids tokens (plain_readings (drop i rs))) < bound → length new + length (names_of_kids tokens (plain_readings (drop (i + 1) rs))) < bound
 next_room tokens rs i k old new bound h e each room =
-    omega (arith, each_long old (reading_names tokens (plain_reading k)) new each, ap length (names_step tokens rs i k h e), length-append (reading_names tokens (plain_reading k)) (names_of tokens (plain_readings (drop (i + 1) rs))))
+    omega (arith, each_long old (reading_names tokens (plain_reading k)) new each, ap length (names_step tokens rs i k h e), length-append (reading_names tokens (plain_reading k)) (names_of_kids tokens (plain_readings (drop (i + 1) rs))))
 
 -- the names of a kid are added, and then those of the others
 pub each_step : (tokens : List Token) (rs : List Reading) (i : ℕ) (k : Reading) (old now new : List Text) → i < length rs → k ≡ get_or rs i k → AddsEach old (reading_names tokens (plain_reading k)) now →
-    AddsEach now (names_of tokens (plain_readings (drop (i + 1) rs))) new → AddsEach old (names_of tokens (plain_readings (drop i rs))) new
+    AddsEach now (names_of_kids tokens (plain_readings (drop (i + 1) rs))) new → AddsEach old (names_of_kids tokens (plain_readings (drop i rs))) new
 each_step tokens rs i k old now new h e a b =
-    subst (λ names. AddsEach old names new) (sym (names_step tokens rs i k h e)) (each_append old now new (reading_names tokens (plain_reading k)) (names_of tokens (plain_readings (drop (i + 1) rs))) a b)
+    subst (λ names. AddsEach old names new) (sym (names_step tokens rs i k h e)) (each_append old now new (reading_names tokens (plain_reading k)) (names_of_kids tokens (plain_readings (drop (i + 1) rs))) a b)
 
 pub front_step : (tokens : List Token) (rs : List Reading) (i : ℕ) (k : Reading) (old now new : List Text) → i < length rs → k ≡ get_or rs i k → AddsEach old (reading_names tokens (plain_reading k)) now →
-    AddsFront now (names_of tokens (plain_readings (drop (i + 1) rs))) new → AddsFront old (names_of tokens (plain_readings (drop i rs))) new
+    AddsFront now (names_of_kids tokens (plain_readings (drop (i + 1) rs))) new → AddsFront old (names_of_kids tokens (plain_readings (drop i rs))) new
 front_step tokens rs i k old now new h e a b =
-    subst (λ names. AddsFront old names new) (sym (names_step tokens rs i k h e)) (front_after old now new (reading_names tokens (plain_reading k)) (names_of tokens (plain_readings (drop (i + 1) rs))) a b)
+    subst (λ names. AddsFront old names new) (sym (names_step tokens rs i k h e)) (front_after old now new (reading_names tokens (plain_reading k)) (names_of_kids tokens (plain_readings (drop (i + 1) rs))) a b)
 
 -- some names of a kid are added
-pub front_within : (tokens : List Token) (rs : List Reading) (i : ℕ) (k : Reading) (old new : List Text) → i < length rs → k ≡ get_or rs i k → AddsFront old (reading_names tokens (plain_reading k)) new → AddsFront old (names_of tokens (plain_readings (drop i rs))) new
+pub front_within : (tokens : List Token) (rs : List Reading) (i : ℕ) (k : Reading) (old new : List Text) → i < length rs → k ≡ get_or rs i k → AddsFront old (reading_names tokens (plain_reading k)) new → AddsFront old (names_of_kids tokens (plain_readings (drop i rs))) new
 front_within tokens rs i k old new h e a =
-    subst (λ names. AddsFront old names new) (sym (names_step tokens rs i k h e)) (front_more old new (reading_names tokens (plain_reading k)) (names_of tokens (plain_readings (drop (i + 1) rs))) a)
+    subst (λ names. AddsFront old names new) (sym (names_step tokens rs i k h e)) (front_more old new (reading_names tokens (plain_reading k)) (names_of_kids tokens (plain_readings (drop (i + 1) rs))) a)

@@ -35,16 +35,16 @@ abbrev mutual
 abbrev mutual
   -- the names of the metavariables in order of standing, without `~`
   pub reading_names : List Token → Reading → List Text
-  reading_names tokens (branch label kids from to) = names_of tokens kids
+  reading_names tokens (branch label kids from to) = names_of_kids tokens kids
   reading_names tokens (bracket inner from to) = reading_names tokens inner
   reading_names tokens (leaf token) = []
   reading_names tokens (variable token) = without_tilde
       (slice_index_or (token_texts tokens) token []) ∷
       []
 
-  pub names_of : List Token → Readings → List Text
-  names_of tokens done = []
-  names_of tokens (kid ▸ kids) = reading_names tokens kid ++ names_of tokens kids
+  pub names_of_kids : List Token → Readings → List Text
+  names_of_kids tokens done = []
+  names_of_kids tokens (kid ▸ kids) = reading_names tokens kid ++ names_of_kids tokens kids
 
 -- the new list is the old one and those of the names that are not in it, each added once, in order
 abbrev pub AddsEach : (old names new : List Text) → Type 0

@@ -5,7 +5,7 @@ use Rattle.std.specs.Prelude.{slice_get, slice_index_or}
 use Rattle.std.proofs.lemmas.Bool.{cases_lt}
 use Rattle.std.proofs.lemmas.Option.{slice_get_within, get_or_from_slice_get}
 use Rattle.sx_grammar.specs.Grammar.{Grammar}
-use Rattle.sx_grammar.specs.Cyclic.{LeadsTo, one_step, step_after, IsCyclic}
+use Rattle.sx_grammar.specs.Cyclic.{DerivesAlone, one_step, step_after, IsCyclic}
 use Rattle.sx_grammar.specs.Cycles.{AreStepsOf, NeverFalls, Rises}
 use Rattle.sx_grammar.proofs.Finding.{contains_place}
 
@@ -25,7 +25,7 @@ each_all P xs n whole each x has =
 
 -- where each step from the sort rises, and no step falls, what it leads to has a greater number
 rises_to : (g : Grammar) (lists : List (Vec ℕ Global)) → AreStepsOf g lists → (numbers : List ℕ) → NeverFalls numbers lists → {sort other : ℕ} → Rises numbers lists sort
-    → LeadsTo g sort other → slice_index_or numbers sort 0 < slice_index_or numbers other 0
+    → DerivesAlone g sort other → slice_index_or numbers sort 0 < slice_index_or numbers other 0
 rises_to g lists are numbers never rises (one_step {sort = sort} {other = other} step) = rises other ((are sort other).1 step)
 rises_to g lists are numbers never rises (step_after {sort = sort} {middle = middle} {other = other} leads step) =
     let before : slice_index_or numbers sort 0 < slice_index_or numbers middle 0 = rises_to g lists are numbers never rises leads in

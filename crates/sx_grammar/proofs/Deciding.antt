@@ -6,7 +6,7 @@ use Rattle.sx_grammar.specs.Grammar.{Text, Symbol, literal, lexical, part, Produ
 use Rattle.sx_grammar.specs.declared.head.Head.{Head}
 use Rattle.sx_grammar.specs.declared.head.Head.TheVariants.{Labelled, Bracketed}
 use Rattle.sx_grammar.specs.Reading.{IsLiteral, Reading, Readings, branch, bracket, leaf, variable, done, ◌▸◌, Reads, by_production, by_brackets, by_variable, ReadsAll, all_read, by_literal, by_lexeme, by_lexical_variable, by_part, reading_depth, readings_depth, ReadsBy}
-use Rattle.sx_grammar.specs.Tally.{Tally, no_way, one_way, plus, times, deeper, total, IsTally, Joined, ForSome, AllTallied, Among, EachOnce, IsLeafAt, ReadsVia, ReadsAt, IsVariableAt}
+use Rattle.sx_grammar.specs.Tally.{Tally, no_way, one_way, plus, times, deeper, tally_of_all, IsTally, Joined, ForSome, AllTallied, Among, EachOnce, IsLeafAt, ReadsVia, ReadsAt, IsVariableAt}
 use Rattle.sx_grammar.specs.TallyLaws.{TalliesAreCounted}
 use Rattle.sx_grammar.proofs.Tallies.{tally_same, plus_is, times_is, deeper_is, Made, Either, total_is, AllApart}
 
@@ -112,10 +112,10 @@ module _ (g : Grammar) (tokens : List Token) where
   pub part_tally : (sort least : ℕ) (rest : List Symbol) (from to : ℕ) (middles : List ℕ) (f : ℕ → Tally) → EachOnce middles →
       ((middle : ℕ) (ks : Readings) → ReadsVia g tokens sort least rest from to middle ks → Among middle middles) →
       AllTallied (ReadsVia g tokens sort least rest from to) readings_depth f middles →
-      IsTally (ReadsAll g tokens (part sort least ∷ rest) from to) readings_depth (total f middles)
+      IsTally (ReadsAll g tokens (part sort least ∷ rest) from to) readings_depth (tally_of_all f middles)
   part_tally sort least rest from to middles f once every tallied =
       let P = ReadsVia g tokens sort least rest from to in
-      tally_same (ForSome P middles) (ReadsAll g tokens (part sort least ∷ rest) from to) readings_depth (total f middles)
+      tally_same (ForSome P middles) (ReadsAll g tokens (part sort least ∷ rest) from to) readings_depth (tally_of_all f middles)
       (λ ks h. let v = some_index P ks middles h in read_part sort least rest from to v.0 ks v.1)
       (λ ks all. let v = part_read all in for_some_at P v.0 ks v.1 middles (every v.0 ks v.1))
       (total_is P readings_depth f middles tallied (apart_once P readings_depth one_end middles once))
@@ -225,14 +225,14 @@ module _ (g : Grammar) (tokens : List Token) where
   pub sort_tally : (sort least from to : ℕ) (heads : List Head) (t : Tally) (f : Head → Tally) → least ≤ 100 → EachOnce heads →
       ((head : Head) (r : Reading) → ReadsAt g tokens sort least from to head r → Among head heads) →
       IsTally (IsVariableAt tokens sort from to) reading_depth t → AllTallied (ReadsAt g tokens sort least from to) reading_depth f heads →
-      IsTally (Reads g tokens sort least from to) reading_depth (plus t (total f heads))
+      IsTally (Reads g tokens sort least from to) reading_depth (plus t (tally_of_all f heads))
   sort_tally sort least from to heads t f low once every variables tallied =
       let P = ReadsAt g tokens sort least from to in
       let V = IsVariableAt tokens sort from to in
-      tally_same (Either V (ForSome P heads)) (Reads g tokens sort least from to) reading_depth (plus t (total f heads))
+      tally_same (Either V (ForSome P heads)) (Reads g tokens sort least from to) reading_depth (plus t (tally_of_all f heads))
       (λ r. elim [ inl v ↦ variable_read sort least from to r v | inr h ↦ let at = some_index P r heads h in raised sort least from to at.0 r at.1 ])
       (λ r reads. kinds r heads every (by_kind reads low))
-      (plus_is V (ForSome P heads) reading_depth (λ r v h. variable_apart sort least from to heads r v h) t (total f heads) variables
+      (plus_is V (ForSome P heads) reading_depth (λ r v h. variable_apart sort least from to heads r v h) t (tally_of_all f heads) variables
       (total_is P reading_depth f heads tallied (apart_once P reading_depth (λ x y r a b. one_head sort least from to x y r a b) heads once)))
     where
       variable_read : (sort least from to : ℕ) (r : Reading) → IsVariableAt tokens sort from to r → Reads g tokens sort least from to r

@@ -8,7 +8,7 @@ use Rattle.sx_grammar.specs.declared.numbered.NumberedSymbol.{NumberedSymbol}
 use Rattle.sx_grammar.specs.declared.numbered.NumberedSymbol.TheVariants.{Lit, Lex, Part}
 use Rattle.sx_grammar.specs.declared.numbered.NumberedProduction.{NumberedProduction}
 use Rattle.sx_grammar.specs.Grammar.{Text, part, Grammar}
-use Rattle.sx_grammar.specs.Cyclic.{StepsTo, LeadsTo, one_step, step_after}
+use Rattle.sx_grammar.specs.Cyclic.{StepsTo, DerivesAlone, one_step, step_after}
 use Rattle.sx_grammar.specs.Numbered.{symbol, production, AreOf}
 use Rattle.sx_grammar.specs.Cycles.{list_at, AreEmptySorts, IsClosed, AllMarked, unmarked, HasStep, AreStepsOf, HaveSortsBelow, HavePartsBelow}
 use Rattle.sx_grammar.proofs.Emptying.{marked_vanish, vanish_marked, all_marked, none_unmarked, numbered_at, unmarked_cons}
@@ -99,7 +99,7 @@ step_below bound marks ps sort other below has =
     below has.0 has.1 target.0 other target.3.0 has.2 (target.2 ∙ ap Some target.3.1)
 
 -- a sort that leads anywhere is below the bound
-pub leads_below : (g : Grammar) (bound : ℕ) (ps : List NumberedProduction) → AreOf g ps → HaveSortsBelow bound ps → {sort other : ℕ} → LeadsTo g sort other → sort < bound
+pub leads_below : (g : Grammar) (bound : ℕ) (ps : List NumberedProduction) → AreOf g ps → HaveSortsBelow bound ps → {sort other : ℕ} → DerivesAlone g sort other → sort < bound
 leads_below g bound ps of below (one_step step) =
     let found = numbered_at of.0 ps step.label step.production (ap (λ t. slice_get t step.label) (sym of.1) ∙ step.is) in
     subst (λ s. s < bound) (ap (λ r. r.sort) found.2 ∙ step.same_sort) (below step.label found.0 found.1)

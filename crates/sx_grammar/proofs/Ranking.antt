@@ -14,7 +14,7 @@ use Rattle.sx_grammar.specs.declared.numbered.NumberedSymbol.{NumberedSymbol}
 use Rattle.sx_grammar.specs.declared.numbered.NumberedSymbol.TheVariants.{Lit, Lex, Part}
 use Rattle.sx_grammar.specs.declared.numbered.NumberedProduction.{NumberedProduction}
 use Rattle.sx_grammar.specs.Grammar.{Text, Grammar}
-use Rattle.sx_grammar.specs.Cyclic.{Vanishes, no_symbols, empty_part, StepsTo, LeadsTo, one_step, step_after, IsNotCyclic}
+use Rattle.sx_grammar.specs.Cyclic.{Vanishes, no_symbols, empty_part, StepsTo, DerivesAlone, one_step, step_after, IsNotCyclic}
 use Rattle.sx_grammar.specs.Order.{IsRanking, AreRanks, rank_at}
 use Rattle.sx_grammar.specs.Numbered.{symbol, production, AreOf}
 use Rattle.sx_grammar.specs.Ranks.{rank_in, HasRank, IsFounded, IsComplete, HasRanksBelow, AreRulesBelow}
@@ -193,7 +193,7 @@ list_within (v ∷ vs) zero x has = omega arith
 list_within (v ∷ vs) (suc s) x has = let h = list_within vs s x has in omega (arith, h)
 
 -- a sort that leads anywhere has steps
-pub leads_within : (g : Grammar) (lists : List (Vec ℕ Global)) → AreStepsOf g lists → {sort other : ℕ} → LeadsTo g sort other → sort < length lists
+pub leads_within : (g : Grammar) (lists : List (Vec ℕ Global)) → AreStepsOf g lists → {sort other : ℕ} → DerivesAlone g sort other → sort < length lists
 leads_within g lists steps (one_step {sort = sort} {other = other} step) = list_within lists sort other ((steps sort other).1 step)
 leads_within g lists steps (step_after leads step) = leads_within g lists steps leads
 
@@ -223,15 +223,15 @@ module _ (g : Grammar) (lists : List (Vec ℕ Global)) (steps : AreStepsOf g lis
   -- each sort of the path leads to the last
   abbrev AllFrom : List ℕ → ℕ → Type 0
   AllFrom [] x = Unit {0}
-  AllFrom (s ∷ path) x = ((s < length lists) × LeadsTo g s x) × AllFrom path x
+  AllFrom (s ∷ path) x = ((s < length lists) × DerivesAlone g s x) × AllFrom path x
 
   from_on : (path : List ℕ) (x y : ℕ) → AllFrom path x → StepsTo g x y → AllFrom path y
   from_on [] x y from step = tt
   from_on (s ∷ path) x y from step = ((from.0.0, step_after from.0.1 step), from_on path x y from.1 step)
 
-  apart_from : IsNotCyclic g → (x s : ℕ) → LeadsTo g s x → ((eqb x s ≡ true) × (x ≡ s)) ⊎ ((eqb x s ≡ false) × (x ≢ s)) → eqb x s ≡ false
+  apart_from : IsNotCyclic g → (x s : ℕ) → DerivesAlone g s x → ((eqb x s ≡ true) × (x ≡ s)) ⊎ ((eqb x s ≡ false) × (x ≢ s)) → eqb x s ≡ false
   apart_from none x s leads (inr h) = h.0
-  apart_from none x s leads (inl h) = absurd (none x (subst (λ s. LeadsTo g s x) (sym h.1) leads))
+  apart_from none x s leads (inl h) = absurd (none x (subst (λ s. DerivesAlone g s x) (sym h.1) leads))
 
   path_apart : IsNotCyclic g → (path : List ℕ) (x : ℕ) → AllFrom path x → AllByRecursion (λ s. eqb x s ≡ false) path
   path_apart none [] x from = tt

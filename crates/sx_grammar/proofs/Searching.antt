@@ -8,7 +8,7 @@ use Rattle.std.proofs.Math.Seq.{take-length}
 use Rattle.std.proofs.lemmas.List.Elements.{Contains-push, Contains-append_left, Contains-push_cases}
 use Rattle.std.proofs.lemmas.Option.{slice_get_within, get_or_from_slice_get}
 use Rattle.sx_grammar.specs.Grammar.{Grammar}
-use Rattle.sx_grammar.specs.Cyclic.{LeadsTo, one_step, step_after}
+use Rattle.sx_grammar.specs.Cyclic.{DerivesAlone, one_step, step_after}
 use Rattle.sx_grammar.specs.Cycles.{list_at, AreStepsOf}
 use Rattle.sx_grammar.proofs.Emptying.{marked_fewer}
 
@@ -99,14 +99,14 @@ visit_kept sorts old new before stack n s h at is = record {
 -- what the search has found: the sorts to which steps lead, of which those on the stack are not gone on from
 pub record SearchBefore (lists : List (Vec ℕ Global)) (sort : ℕ) (marks : List Bool) (stack : List ℕ) : Type 0 where
   pub same : length marks ≡ length lists
-  pub reached : (g : Grammar) → AreStepsOf g lists → (t : ℕ) → Marked marks t → LeadsTo g sort t
+  pub reached : (g : Grammar) → AreStepsOf g lists → (t : ℕ) → Marked marks t → DerivesAlone g sort t
   pub first : (t : ℕ) → Contains (list_at lists sort) t → Marked marks t
   pub stacked : (t : ℕ) → Contains stack t → Marked marks t
   pub closed : (x : ℕ) → Marked marks x → Contains stack x ⊎ ((t : ℕ) → Contains (list_at lists x) t → Marked marks t)
 
 -- at the end all sorts to which steps lead are marked
 pub search_ends : (g : Grammar) (lists : List (Vec ℕ Global)) → AreStepsOf g lists → (marks : List Bool) (stack : List ℕ) → stack ≡ [] → {sort t : ℕ} → SearchBefore lists sort marks stack
-    → LeadsTo g sort t → Marked marks t
+    → DerivesAlone g sort t → Marked marks t
 search_ends g lists are marks stack e h (one_step {sort = sort} {other = other} step) = h.first other ((are sort other).1 step)
 search_ends g lists are marks stack e h (step_after {middle = middle} {other = other} leads step) =
     let there = search_ends g lists are marks stack e h leads in

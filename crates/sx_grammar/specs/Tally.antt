@@ -54,9 +54,9 @@ IsTally {A} P depth (one_way d) = (a : A) × P a × (depth a ≡ d) × ((b : A) 
 IsTally {A} P depth (more_ways d) = (a : A) × (b : A) × P a × P b × (a ≢ b) × IsGreatest P depth d
 
 -- the tallies of several kinds together
-abbrev pub total : {X : Type 0} → (X → Tally) → List X → Tally
-total f [] = no_way
-total f (x ∷ xs) = plus (f x) (total f xs)
+abbrev pub tally_of_all : {X : Type 0} → (X → Tally) → List X → Tally
+tally_of_all f [] = no_way
+tally_of_all f (x ∷ xs) = plus (f x) (tally_of_all f xs)
 
 -- the thing is joined from one that P holds of and one that Q holds of
 abbrev pub Joined : {A B C : Type 0} → (A → Type 0) → (B → Type 0) → (A → B → C) → C → Type 0

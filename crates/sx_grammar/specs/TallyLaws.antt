@@ -8,7 +8,7 @@ use Rattle.sx_grammar.specs.declared.head.Head.{Head}
 use Rattle.sx_grammar.specs.declared.head.Head.TheVariants.{Labelled, Bracketed}
 use Rattle.sx_grammar.specs.Reading.{IsLiteral, Reading, Readings, Reads, ReadsAll, ReadsBy}
 use Rattle.sx_grammar.specs.Reading.{reading_depth, readings_depth}
-use Rattle.sx_grammar.specs.Tally.{Tally, one_way, times, plus, deeper, total, IsTally, AllTallied}
+use Rattle.sx_grammar.specs.Tally.{Tally, one_way, times, plus, deeper, tally_of_all, IsTally, AllTallied}
 use Rattle.sx_grammar.specs.Tally.{Among, EachOnce, IsLeafAt, ReadsVia, ReadsAt, IsVariableAt}
 
 -- how the readings of each span are counted from those of its parts
@@ -36,7 +36,7 @@ pub record TallySteps (g : Grammar) (tokens : List Token) : Type 0 where
       ((middle : ℕ) (ks : Readings) → ReadsVia g tokens sort least rest from to middle ks →
       Among middle middles) →
       AllTallied (ReadsVia g tokens sort least rest from to) readings_depth f middles →
-      IsTally (ReadsAll g tokens (part sort least ∷ rest) from to) readings_depth (total f middles)
+      IsTally (ReadsAll g tokens (part sort least ∷ rest) from to) readings_depth (tally_of_all f middles)
   -- a node of a production
   pub by_node : (label : ℕ) (p : Production) (from to : ℕ) (t : Tally) →
       slice_get g.productions label ≡ Some p →
@@ -54,7 +54,7 @@ pub record TallySteps (g : Grammar) (tokens : List Token) : Type 0 where
       Among head heads) →
       IsTally (IsVariableAt tokens sort from to) reading_depth t →
       AllTallied (ReadsAt g tokens sort least from to) reading_depth f heads →
-      IsTally (Reads g tokens sort least from to) reading_depth (plus t (total f heads))
+      IsTally (Reads g tokens sort least from to) reading_depth (plus t (tally_of_all f heads))
 
 abbrev pub TalliesAreCounted : Type 0
 TalliesAreCounted = (g : Grammar) (tokens : List Token) → TallySteps g tokens

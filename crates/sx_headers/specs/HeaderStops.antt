@@ -7,11 +7,11 @@ use Rattle.sx_words.specs.declared.file_defect.FileDefect.TheVariants as file_de
 use Rattle.sx_words.specs.declared.refusal.Defect.TheVariants as defect
 use Rattle.sx_steps.specs.declared.stop.Stop.{Stop}
 use Rattle.sx_steps.specs.Refusal.{about}
-use Rattle.sx_steps.specs.Stops.{at, not_utf8}
+use Rattle.sx_steps.specs.Stops.{defect_at, not_utf8}
 
 -- the first line of a header or an interface that is not as defined
 abbrev pub bad_header : List ℕ → ℕ → Stop
-bad_header file line = at (Line line) file (defect.File file_defect.Header)
+bad_header file line = defect_at (Line line) file (defect.File file_defect.Header)
 
 -- the interface is of another version
 abbrev pub version_stop : List ℕ → ℕ → Stop

@@ -10,11 +10,11 @@ use Rattle.sx_words.specs.declared.text_defect.TextDefect.TheVariants as text_de
 use Rattle.sx_words.specs.declared.refusal.Defect.TheVariants as defect
 use Rattle.sx_steps.specs.declared.stop.Stop.{Stop}
 use Rattle.sx_steps.specs.Refusal.{about}
-use Rattle.sx_steps.specs.Stops.{at, not_utf8, too_deep}
+use Rattle.sx_steps.specs.Stops.{defect_at, not_utf8, too_deep}
 
 -- a defect of the text at a line and a column
 abbrev pub at_spot : List ℕ → ℕ → ℕ → TextDefect → Stop
-at_spot file line column what = at (Spot line column) file (defect.Text what)
+at_spot file line column what = defect_at (Spot line column) file (defect.Text what)
 
 -- the text is not cut into tokens; where there are too many, no place is told, and out of memory
 -- is no stop

@@ -28,7 +28,7 @@ use Rattle.sx_earley.specs.Completed.{IsSort, sort_number}
 use Rattle.sx_earley.specs.Tokens.{Stems, stem_sort, without_digits, meta_stem, as_stem, found_stem}
 use Rattle.sx_earley.specs.Tokens.{read_token, plain_tokens}
 use Rattle.sx_forest.specs.Text.{token_texts}
-use Rattle.sx_forest.specs.Names.{reading_names, names_of, AddsEach}
+use Rattle.sx_forest.specs.Names.{reading_names, names_of_kids, AddsEach}
 use Rattle.sx_forest.proofs.Naming.{each_more}
 use Rattle.sx_directives.specs.declared.rows.FormLine.{FormLine}
 use Rattle.sx_directives.specs.declared.rows.VarLine.{VarLine}
@@ -181,7 +181,7 @@ module _ (p : Parts) (stems : Stems) (own : (stem : Text) (s : Sort) → stem_so
         let x = found ts from (plain.of_sort sort) marked h.0 in
         subst (HasSort (shapes_of p) sorts (variable_term ns (slice_get (plain_tokens stems ts) from))) (sym (sort_found p x.sort sort x.is_own x.stemmed)) x.sorted
 
-    all_sorted : {symbols : List Symbol} {from to : ℕ} {kids : Readings} → ReadsAll (numbered p) (plain_tokens stems ts) symbols from to kids → AllByRecursion (Contains ns) (names_of ts kids) →
+    all_sorted : {symbols : List Symbol} {from to : ℕ} {kids : Readings} → ReadsAll (numbered p) (plain_tokens stems ts) symbols from to kids → AllByRecursion (Contains ns) (names_of_kids ts kids) →
         KidsHaveSorts (shapes_of p) sorts (terms_of (plain_tokens stems ts) ns kids) (flat_map (kid_sorts p.sorts) symbols)
     all_sorted all_read h = tt
     all_sorted (by_literal is rest) h = all_sorted rest h
@@ -190,7 +190,7 @@ module _ (p : Parts) (stems : Stems) (own : (stem : Text) (s : Sort) → stem_so
         let x = found ts from (plain.of_kind kind) marked h.0 in
         (subst (HasSort (shapes_of p) sorts (variable_term ns (slice_get (plain_tokens stems ts) from))) (sym (kind_found x.sort kind x.stemmed)) x.sorted, all_sorted rest h.1)
     all_sorted (by_part {kid = one} {kids = more} kid rest) h =
-        (reads_sorted kid (all_left (Contains ns) (reading_names ts one) (names_of ts more) h), all_sorted rest (all_right (Contains ns) (reading_names ts one) (names_of ts more) h))
+        (reads_sorted kid (all_left (Contains ns) (reading_names ts one) (names_of_kids ts more) h), all_sorted rest (all_right (Contains ns) (reading_names ts one) (names_of_kids ts more) h))
 
 -- ---- lines and bodies
 

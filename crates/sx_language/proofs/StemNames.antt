@@ -12,7 +12,7 @@ use Rattle.sx_grammar.specs.Reading.{Reading, Readings, branch, bracket, leaf, v
 use Rattle.sx_earley.specs.Tokens.{Stems, stem_sort, without_digits}
 use Rattle.sx_earley.specs.Unknown.{HasKnownStem}
 use Rattle.sx_forest.specs.Text.{token_texts}
-use Rattle.sx_forest.specs.Names.{IsMetavariable, IsMarked, AreMarked, reading_names, names_of, AddsEach}
+use Rattle.sx_forest.specs.Names.{IsMetavariable, IsMarked, AreMarked, reading_names, names_of_kids, AddsEach}
 use Rattle.sx_rules.specs.Rules.{Judgement, Premise, holds}
 use Rattle.sx_outline.specs.Stages.{Numbered, RuleData}
 use Rattle.sx_notation.specs.ReadText.{IsReadLine}
@@ -38,9 +38,9 @@ module _ (stems : Stems) (ts : List Token) (all : AllByRecursion (HasKnownStem s
     reading_stems (leaf token) h = tt
     reading_stems (variable token) h = (variable_stem stems ts token h all, tt)
 
-    readings_stems : (ks : Readings) → AreMarked ts ks → NamesHaveStems stems (names_of ts ks)
+    readings_stems : (ks : Readings) → AreMarked ts ks → NamesHaveStems stems (names_of_kids ts ks)
     readings_stems done h = tt
-    readings_stems (kid ▸ kids) h = stems_append stems (reading_names ts kid) (names_of ts kids) (reading_stems kid h.0) (readings_stems kids h.1)
+    readings_stems (kid ▸ kids) h = stems_append stems (reading_names ts kid) (names_of_kids ts kids) (reading_stems kid h.0) (readings_stems kids h.1)
 
 added_stems : (stems : Stems) (old new : List Text) (name : Text) (number : ℕ) → NamesHaveStems stems old → is_some (stem_sort stems (without_digits name)) ≡ true → IsAdded old new name number → NamesHaveStems stems new
 added_stems stems old new name number h k added = by added.list

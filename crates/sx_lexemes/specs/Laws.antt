@@ -8,7 +8,7 @@ use Rattle.sx_rules.specs.Modes.{Modes, inputs_of, AllModed}
 use Rattle.sx_rules.specs.Rules.{Judgement, Rule, Hypotheses}
 use Rattle.sx_plain.specs.Plain.{Table, image}
 use Rattle.sx_rewrite.specs.Accepted.{Accepted, Signature, IsAccepted, extended_rules}
-use Rattle.sx_rewrite.specs.Extensions.{StoredExtension, FitsRules, extended, with_table}
+use Rattle.sx_rewrite.specs.Extensions.{StoredExtension, FitsRules, extended_by, with_table}
 use Rattle.sx_rewrite.specs.Lowers.{Lowers}
 use Rattle.sx_rewrite.specs.Sound.{AreSoundBy}
 use Rattle.sx_lexemes.specs.Lexemes.{IsToken, LexemesAre, AllLexemesAre, JudgementLexemesAre}
@@ -55,4 +55,4 @@ GrownSetsKeepLexemes =
     SetLexemesAre (IsToken literals) a →
     AllByRecursion (ExtLexemesAre (IsToken literals)) e.rules →
     TableLexemesAre (IsToken literals) e.table →
-    SetLexemesAre (IsToken literals) (extended a e)
+    SetLexemesAre (IsToken literals) (extended_by a e)

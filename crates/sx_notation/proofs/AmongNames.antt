@@ -17,7 +17,7 @@ use Rattle.sx_grammar.proofs.Finding.{at_contains, contains_place}
 use Rattle.sx_earley.specs.Tokens.{Stems, plain_tokens}
 use Rattle.sx_earley.specs.Completed.{sort_number}
 use Rattle.sx_forest.specs.Text.{token_texts}
-use Rattle.sx_forest.specs.Names.{IsMetavariable, IsMarked, AreMarked, reading_names, names_of, AddsEach}
+use Rattle.sx_forest.specs.Names.{IsMetavariable, IsMarked, AreMarked, reading_names, names_of_kids, AddsEach}
 use Rattle.sx_notation.specs.declared.notation_error.NotationError.{NotationError}
 use Rattle.sx_notation.specs.declared.notation_error.NotationError.TheVariants.{Memory, NotUtf8}
 use Rattle.sx_notation.specs.declared.notation_error.NotationError.TheVariants.{Notation}
@@ -72,9 +72,9 @@ module _ (names : List Text) (ts : List Token) (all : AllByRecursion (IsNamed na
     reading_named (leaf token) h = tt
     reading_named (variable token) h = (variable_named names ts token h all, tt)
 
-    readings_named : (ks : Readings) → AreMarked ts ks → AllByRecursion (Contains names) (names_of ts ks)
+    readings_named : (ks : Readings) → AreMarked ts ks → AllByRecursion (Contains names) (names_of_kids ts ks)
     readings_named done h = tt
-    readings_named (kid ▸ kids) h = all_append names (reading_names ts kid) (names_of ts kids) (reading_named kid h.0) (readings_named kids h.1)
+    readings_named (kid ▸ kids) h = all_append names (reading_names ts kid) (names_of_kids ts kids) (reading_named kid h.0) (readings_named kids h.1)
 
 -- names that are there add none
 one_there : (names new : List Text) (n : Text) (number : ℕ) → Contains names n → IsAdded names new n number → new ≡ names

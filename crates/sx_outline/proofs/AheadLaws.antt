@@ -11,7 +11,7 @@ use Rattle.sx_outline.specs.Declarations.{Declared, declared_form, nothing, decl
 use Rattle.sx_outline.specs.Known.{Declares, RowGoesOn}
 use Rattle.sx_outline.specs.Stages.{PlainData, RuleData, Stage, at_start, at_declarations, at_body}
 use Rattle.sx_outline.specs.Stages.{at_plains, at_rules, at_premises, at_conclusion, at_end, State}
-use Rattle.sx_outline.specs.Stages.{Steps, StepsAt, MayStandAt, IsWhole, after, head_row}
+use Rattle.sx_outline.specs.Stages.{Steps, StepsAt, MayStandAt, IsWhole, state_after_row, head_row}
 use Rattle.sx_outline.specs.Reading.{IsFirstDeclared, IsDeclaredAhead}
 use Rattle.sx_outline.proofs.SameRows.{same_row}
 use Rattle.sx_outline.proofs.SameLaws.{same_goes}
@@ -71,7 +71,7 @@ goes_from kind d row n text after more all is (inr h) = absurd (h.0 row is)
 
 among_declarations : (kind : FileKind) (d : Declared) (plains : List PlainData) (rules : List RuleData) (n : ℕ) (row : Row) (more : Lines) (all : Declared)
     → MayStandAt at_declarations d.mains row → RowGoesOn d row all (λ is_body next. Declares kind is_body next more all)
-    → let t : State = after (record { stage = at_declarations; declared = d; plains = plains; rules = rules }) n row in IsDeclaredAhead kind t.stage t.declared more all
+    → let t : State = state_after_row (record { stage = at_declarations; declared = d; plains = plains; rules = rules }) n row in IsDeclaredAhead kind t.stage t.declared more all
 among_declarations kind d plains rules n (Sort s) more all stands h = h
 among_declarations kind d plains rules n (Prod p) more all stands h = h
 among_declarations kind d plains rules n (Var v) more all stands h = h
@@ -83,20 +83,20 @@ among_declarations kind d plains rules n _ more all stands h = absurd stands
 
 between_plains : (kind : FileKind) (d : Declared) (plains : List PlainData) (rules : List RuleData) (n : ℕ) (row : Row) (more : Lines) (all : Declared)
     → MayStandAt at_plains d.mains row → RowGoesOn d row all (λ is_body next. Declares kind is_body next more all)
-    → let t : State = after (record { stage = at_plains; declared = d; plains = plains; rules = rules }) n row in IsDeclaredAhead kind t.stage t.declared more all
+    → let t : State = state_after_row (record { stage = at_plains; declared = d; plains = plains; rules = rules }) n row in IsDeclaredAhead kind t.stage t.declared more all
 between_plains kind d plains rules n (Plain p) more all stands h = h
 between_plains kind d plains rules n (Rule name) more all stands h = sym h
 between_plains kind d plains rules n _ more all stands h = absurd stands
 
 between_rules : (kind : FileKind) (d : Declared) (plains : List PlainData) (rules : List RuleData) (n : ℕ) (row : Row) (more : Lines) (all : Declared)
     → MayStandAt at_rules d.mains row → d ≡ all
-    → let t : State = after (record { stage = at_rules; declared = d; plains = plains; rules = rules }) n row in IsDeclaredAhead kind t.stage t.declared more all
+    → let t : State = state_after_row (record { stage = at_rules; declared = d; plains = plains; rules = rules }) n row in IsDeclaredAhead kind t.stage t.declared more all
 between_rules kind d plains rules n (Rule name) more all stands h = h
 between_rules kind d plains rules n _ more all stands h = absurd stands
 
 after_conclusion : (kind : FileKind) (d : Declared) (plains : List PlainData) (rules : List RuleData) (r : RuleData) (n : ℕ) (row : Row) (more : Lines) (all : Declared)
     → MayStandAt (at_end r) d.mains row → d ≡ all
-    → let t : State = after (record { stage = at_end r; declared = d; plains = plains; rules = rules }) n row in IsDeclaredAhead kind t.stage t.declared more all
+    → let t : State = state_after_row (record { stage = at_end r; declared = d; plains = plains; rules = rules }) n row in IsDeclaredAhead kind t.stage t.declared more all
 after_conclusion kind d plains rules r n End more all stands h = h
 after_conclusion kind d plains rules r n (To body) more all stands h = h
 after_conclusion kind d plains rules r n _ more all stands h = absurd stands

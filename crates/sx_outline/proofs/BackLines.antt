@@ -15,7 +15,7 @@ use Rattle.sx_outline.specs.Fitting.{ArePartNames, RowFits}
 use Rattle.sx_outline.specs.Stages.{Numbered, PlainData, RuleData, Stage, at_start, at_declarations}
 use Rattle.sx_outline.specs.Stages.{at_body, at_plains, at_rules, at_premises, at_conclusion}
 use Rattle.sx_outline.specs.Stages.{at_end, State, start, start_after, StepsAt, IsGoodRow, IsBar}
-use Rattle.sx_outline.specs.Stages.{IsWhole, MayStandAt, HasMain, after, begun_plain, paired}
+use Rattle.sx_outline.specs.Stages.{IsWhole, MayStandAt, HasMain, state_after_row, begun_plain, paired}
 use Rattle.sx_outline.specs.Stages.{head_row}
 use Rattle.sx_outline.specs.Structure.{IsDeclaring, AreBodies, ArePlainPairs, AreRuleRows}
 use Rattle.sx_outline.specs.BadLines.{AreMains, AreLinesAmong, AreLanguageLines}
@@ -197,7 +197,7 @@ st at d plains rules = record { stage = at; declared = d; plains = plains; rules
 
 declarations_row : (kind : FileKind) (known : Declared) (name : List ℕ) (d : Declared) (plains : List PlainData) (rules : List RuleData) (l : Numbered) (row : Row) (lines : List Numbered)
     → IsGoodRow kind known (st at_declarations d plains rules) l.text row → AreMains known d.mains
-    → let t : State = after (st at_declarations d plains rules) l.number row in Rest kind known name t.stage t.declared lines
+    → let t : State = state_after_row (st at_declarations d plains rules) l.number row in Rest kind known name t.stage t.declared lines
     → AreLinesAmong kind known d (l ∷ lines)
 declarations_row kind known name d plains rules l (Sort s) lines good mains h = one_declared kind known d l (Sort s) lines good.spelled tt good.fits h
 declarations_row kind known name d plains rules l (Prod p) lines good mains h = one_declared kind known d l (Prod p) lines good.spelled tt good.fits h
@@ -211,7 +211,7 @@ declarations_row kind known name d plains rules l _ lines good mains h = absurd 
 
 plains_row : (kind : FileKind) (known : Declared) (name : List ℕ) (d : Declared) (plains : List PlainData) (rules : List RuleData) (l : Numbered) (row : Row) (lines : List Numbered)
     → IsGoodRow kind known (st at_plains d plains rules) l.text row
-    → let t : State = after (st at_plains d plains rules) l.number row in Rest kind known name t.stage t.declared lines
+    → let t : State = state_after_row (st at_plains d plains rules) l.number row in Rest kind known name t.stage t.declared lines
     → RestPairs kind known (l ∷ lines)
 plains_row kind known name d plains rules l (Plain row) lines good h = begun_pair kind known l row lines good.spelled good.fits h
 plains_row kind known name d plains rules l (Rule given) lines good h = rules_alone kind known (l ∷ lines) (begun_rule kind l given lines good.spelled h)
@@ -219,7 +219,7 @@ plains_row kind known name d plains rules l _ lines good h = absurd good.stands
 
 rules_row : (kind : FileKind) (known : Declared) (name : List ℕ) (d : Declared) (plains : List PlainData) (rules : List RuleData) (l : Numbered) (row : Row) (lines : List Numbered)
     → IsGoodRow kind known (st at_rules d plains rules) l.text row
-    → let t : State = after (st at_rules d plains rules) l.number row in Rest kind known name t.stage t.declared lines
+    → let t : State = state_after_row (st at_rules d plains rules) l.number row in Rest kind known name t.stage t.declared lines
     → RestRules kind (l ∷ lines)
 rules_row kind known name d plains rules l (Rule given) lines good h = begun_rule kind l given lines good.spelled h
 rules_row kind known name d plains rules l _ lines good h = absurd good.stands
@@ -234,7 +234,7 @@ body_done b bodies (inr e) = e
 
 end_row : (kind : FileKind) (known : Declared) (name : List ℕ) (r : RuleData) (d : Declared) (plains : List PlainData) (rules : List RuleData) (l : Numbered) (row : Row) (lines : List Numbered)
     → IsGoodRow kind known (st (at_end r) d plains rules) l.text row
-    → let t : State = after (st (at_end r) d plains rules) l.number row in Rest kind known name t.stage t.declared lines
+    → let t : State = state_after_row (st (at_end r) d plains rules) l.number row in Rest kind known name t.stage t.declared lines
     → RestEnd kind r.body (l ∷ lines)
 end_row kind known name r d plains rules l End lines good h = record {
   bodies = [];
@@ -303,7 +303,7 @@ one_main : (known : Declared) (mains : List MainLine) (m : MainLine) → mains �
 one_main known mains m e h = subst (λ (x : List MainLine). AreMains known (x ++ m ∷ [])) (sym e) h
 
 row_mains : (known d : Declared) (plains : List PlainData) (rules : List RuleData) (n : ℕ) (row : Row) → MayStandAt at_declarations d.mains row → HasMain known row → AreMains known d.mains
-    → let t : State = after (st at_declarations d plains rules) n row in AreMains known t.declared.mains
+    → let t : State = state_after_row (st at_declarations d plains rules) n row in AreMains known t.declared.mains
 row_mains known d plains rules n (Sort s) stands main mains = mains
 row_mains known d plains rules n (Prod p) stands main mains = mains
 row_mains known d plains rules n (Var v) stands main mains = mains
@@ -314,18 +314,18 @@ row_mains known d plains rules n (Rule given) stands main mains = mains
 row_mains known d plains rules n _ stands main mains = absurd stands
 
 plains_mains : (known d : Declared) (plains : List PlainData) (rules : List RuleData) (n : ℕ) (row : Row) → MayStandAt at_plains d.mains row → AreMains known d.mains
-    → let t : State = after (st at_plains d plains rules) n row in AreMains known t.declared.mains
+    → let t : State = state_after_row (st at_plains d plains rules) n row in AreMains known t.declared.mains
 plains_mains known d plains rules n (Plain p) stands mains = mains
 plains_mains known d plains rules n (Rule given) stands mains = mains
 plains_mains known d plains rules n _ stands mains = absurd stands
 
 rules_mains : (known d : Declared) (plains : List PlainData) (rules : List RuleData) (n : ℕ) (row : Row) → MayStandAt at_rules d.mains row → AreMains known d.mains
-    → let t : State = after (st at_rules d plains rules) n row in AreMains known t.declared.mains
+    → let t : State = state_after_row (st at_rules d plains rules) n row in AreMains known t.declared.mains
 rules_mains known d plains rules n (Rule given) stands mains = mains
 rules_mains known d plains rules n _ stands mains = absurd stands
 
 end_mains : (known d : Declared) (r : RuleData) (plains : List PlainData) (rules : List RuleData) (n : ℕ) (row : Row) → MayStandAt (at_end r) d.mains row → AreMains known d.mains
-    → let t : State = after (st (at_end r) d plains rules) n row in AreMains known t.declared.mains
+    → let t : State = state_after_row (st (at_end r) d plains rules) n row in AreMains known t.declared.mains
 end_mains known d r plains rules n End stands mains = mains
 end_mains known d r plains rules n (To body) stands mains = mains
 end_mains known d r plains rules n _ stands mains = absurd stands

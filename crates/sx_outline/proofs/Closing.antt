@@ -9,7 +9,7 @@ use Rattle.sx_directives.specs.Spelling.{IsName}
 use Rattle.sx_directives.specs.Rows.{IsRow}
 use Rattle.sx_directives.specs.declared.row.Row.TheVariants.{End}
 use Rattle.sx_outline.specs.Declarations.{Declared}
-use Rattle.sx_outline.specs.Stages.{Numbered, PlainData, RuleData, Begun, Stage, at_start, at_declarations, at_body, at_plains, at_rules, at_premises, at_conclusion, at_end, State, IsGoodRow, IsBar, IsWhole, at as to, paired, with_plain, concluded, ended}
+use Rattle.sx_outline.specs.Stages.{Numbered, PlainData, RuleData, Begun, Stage, at_start, at_declarations, at_body, at_plains, at_rules, at_premises, at_conclusion, at_end, State, IsGoodRow, IsBar, IsWhole, at_stage as to, paired, with_plain, concluded, ended}
 use Rattle.sx_outline.proofs.Led.{Leads}
 use Rattle.sx_outline.proofs.HeadRows.{language_line, language_row, language_kept, end_kept, bar_kept, some_kept}
 use Rattle.sx_outline.proofs.Written.{InOrder}

@@ -28,7 +28,7 @@ use Rattle.sx_outline.specs.Known.{Declares, RowGoesOn, kept_lines}
 use Rattle.sx_outline.specs.Stages.{PlainData, plain_data, RuleData, rule_data, Stage, at_start}
 use Rattle.sx_outline.specs.Stages.{at_declarations, at_body, at_plains, at_rules, at_premises}
 use Rattle.sx_outline.specs.Stages.{at_conclusion, at_end, State, start_after, Steps, StepsAt}
-use Rattle.sx_outline.specs.Stages.{IsWhole, IsInside, MayStandAt, after}
+use Rattle.sx_outline.specs.Stages.{IsWhole, IsInside, MayStandAt, state_after_row}
 use Rattle.sx_outline.specs.Outcomes.{IsReadingOutcome}
 use Rattle.sx_outline.specs.Reading.{IsOutlineReader, IsReaderAfter, IsMainRead, ReadingEndsAt}
 use Rattle.sx_outline.specs.Reading.{IsBadLine, AreLinesRead}
@@ -94,7 +94,7 @@ apart : (at : Stage) → tell at ≡ 1 → at ≡ at_start → ⊥
 apart at e f = differ (tell at) e (ap tell f)
 
 row_begun : (at : Stage) (d : Declared) (plains : List PlainData) (rules : List RuleData) (n : ℕ) (row : Row) → MayStandAt at d.mains row
-    → tell (after (record { stage = at; declared = d; plains = plains; rules = rules }) n row).stage ≡ 1
+    → tell (state_after_row (record { stage = at; declared = d; plains = plains; rules = rules }) n row).stage ≡ 1
 row_begun at_declarations d plains rules n (Sort s) h = refl
 row_begun at_declarations d plains rules n (Prod p) h = refl
 row_begun at_declarations d plains rules n (Var v) h = refl

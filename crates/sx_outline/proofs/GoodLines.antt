@@ -8,7 +8,7 @@ use Rattle.sx_directives.specs.declared.rows.PlainLine.{PlainLine}
 use Rattle.sx_directives.specs.declared.row.Row.TheVariants.{Sort, Prod, Var, Form, Main, Plain, Rule, End, To}
 use Rattle.sx_outline.specs.Declarations.{Declared, nothing, declare}
 use Rattle.sx_outline.specs.Fitting.{ArePartNames}
-use Rattle.sx_outline.specs.Stages.{Numbered, PlainData, RuleData, Begun, Stage, at_declarations, at_plains, at_rules, at_premises, at_conclusion, at_end, State, start, start_after, StepsAt, IsBar, IsWhole, after, at as to, begun_plain, paired, with_plain, with_premise, with_body, concluded, ended}
+use Rattle.sx_outline.specs.Stages.{Numbered, PlainData, RuleData, Begun, Stage, at_declarations, at_plains, at_rules, at_premises, at_conclusion, at_end, State, start, start_after, StepsAt, IsBar, IsWhole, state_after_row, at_stage as to, begun_plain, paired, with_plain, with_premise, with_body, concluded, ended}
 use Rattle.sx_outline.specs.Structure.{AreBodies, AreDeclarations, ArePlainPairs, AreRuleRows, AreRuleLines}
 use Rattle.sx_outline.specs.BadLines.{AreMains, AreLinesAmong, AreLanguageLines}
 use Rattle.sx_outline.proofs.Led.{Leads, leads_append}
@@ -68,7 +68,7 @@ IsBeforePairs _ = ⊥
 
 plain_step : (at : Stage) (kind : FileKind) (known : Declared) (name : List ℕ) (d : Declared) (plains : List PlainData) (rules : List RuleData) (n : ℕ) (text : List ℕ) (row : PlainLine)
     → IsBeforePairs at → IsRow kind text (Plain row) → ArePartNames known row.label row.names.items
-    → let s : State = record { stage = at; declared = d; plains = plains; rules = rules } in StepsAt at kind known name s n text (after s n (Plain row))
+    → let s : State = record { stage = at; declared = d; plains = plains; rules = rules } in StepsAt at kind known name s n text (state_after_row s n (Plain row))
 plain_step at_declarations kind known name d plains rules n text row is spelled fits = (Plain row, record { spelled = spelled; fits = fits; stands = tt; main = tt }, refl)
 plain_step at_plains kind known name d plains rules n text row is spelled fits = (Plain row, record { spelled = spelled; fits = fits; stands = tt; main = tt }, refl)
 plain_step _ kind known name d plains rules n text row is spelled fits = absurd is
@@ -80,7 +80,7 @@ pairs_lead kind known name s (first ∷ []) stated is h = absurd h
 pairs_lead kind known name s (first ∷ body ∷ pairs) [] is h = absurd h
 pairs_lead kind known name s (first ∷ body ∷ pairs) (p ∷ stated) is h =
     let pair = h.0 in
-    let one : State = after s first.number (Plain pair.row) in
+    let one : State = state_after_row s first.number (Plain pair.row) in
     let two : State = with_plain one (paired (begun_plain first.number pair.row) body) in
     let rest = pairs_lead kind known name two pairs stated tt h.1 in
     record {
@@ -112,7 +112,7 @@ whole_before_rules _ h = absurd h
 
 rule_step : (at : Stage) (kind : FileKind) (known : Declared) (name : List ℕ) (d : Declared) (plains : List PlainData) (rules : List RuleData) (n : ℕ) (text given : List ℕ)
     → IsBeforeRules at → IsRow kind text (Rule given)
-    → let s : State = record { stage = at; declared = d; plains = plains; rules = rules } in StepsAt at kind known name s n text (after s n (Rule given))
+    → let s : State = record { stage = at; declared = d; plains = plains; rules = rules } in StepsAt at kind known name s n text (state_after_row s n (Rule given))
 rule_step at_declarations kind known name d plains rules n text given is spelled = (Rule given, record { spelled = spelled; fits = tt; stands = tt; main = tt }, refl)
 rule_step at_plains kind known name d plains rules n text given is spelled = (Rule given, record { spelled = spelled; fits = tt; stands = tt; main = tt }, refl)
 rule_step at_rules kind known name d plains rules n text given is spelled = (Rule given, record { spelled = spelled; fits = tt; stands = tt; main = tt }, refl)

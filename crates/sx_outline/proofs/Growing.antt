@@ -22,7 +22,7 @@ use Rattle.sx_outline.specs.Fitting.{NamesFit, ArePartNames, RowFits}
 use Rattle.sx_outline.specs.Variables.{stem_of}
 use Rattle.sx_outline.specs.Stages.{Numbered, PlainData, RuleData, Stage, at_start, at_declarations}
 use Rattle.sx_outline.specs.Stages.{at_body, at_plains, at_rules, at_premises, at_conclusion}
-use Rattle.sx_outline.specs.Stages.{at_end, State, StepsAt, MayStandAt, after}
+use Rattle.sx_outline.specs.Stages.{at_end, State, StepsAt, MayStandAt, state_after_row}
 use Rattle.sx_outline.proofs.OutcomeLaws.{after_declared}
 use Rattle.sx_outline.proofs.Led.{Leads}
 
@@ -91,7 +91,7 @@ grows_known false d (line n text after more) all (inl h) =
     grows_goes d text h.0 all (λ is_body next. Declares files.Extension is_body next more all) h.1 (λ is_body next k. grows_known is_body next more all k) h.2
 grows_known false d (line n text after more) all (inr h) = grows_known false d more all h.1
 
-grows_by_row : (s : State) (n : ℕ) (text : List ℕ) (row : Row) (t : State) → IsRow files.Extension text row → t ≡ after s n row → Grows s.declared t.declared
+grows_by_row : (s : State) (n : ℕ) (text : List ℕ) (row : Row) (t : State) → IsRow files.Extension text row → t ≡ state_after_row s n row → Grows s.declared t.declared
 grows_by_row s n text row t spelled e =
     subst (λ (x : Declared). Grows s.declared x) (sym (ap (λ (x : State). x.declared) e ∙ after_declared s n row)) (grows_row s.declared text row spelled)
 
@@ -126,7 +126,7 @@ abbrev st : Stage → Declared → List PlainData → List RuleData → State
 st at d plains rules = record { stage = at; declared = d; plains = plains; rules = rules }
 
 row_stays : (at : Stage) (d : Declared) (plains : List PlainData) (rules : List RuleData) (n : ℕ) (row : Row) → IsPast at → MayStandAt at d.mains row
-    → Stays (st at d plains rules) (after (st at d plains rules) n row)
+    → Stays (st at d plains rules) (state_after_row (st at d plains rules) n row)
 row_stays at_plains d plains rules n (Plain p) past stands = record { past = tt; same = refl }
 row_stays at_plains d plains rules n (Rule given) past stands = record { past = tt; same = refl }
 row_stays at_rules d plains rules n (Rule given) past stands = record { past = tt; same = refl }

@@ -22,7 +22,7 @@ use Rattle.sx_lines.specs.Distinct.{AreTextsDistinct}
 use Rattle.sx_outline.specs.Fitting.{SymbolFits, HasOneSubjectSymbol, stems, declared_form_names}
 use Rattle.sx_outline.specs.Stages.{Numbered, PlainData, RuleData, Stage, at_start, at_declarations}
 use Rattle.sx_outline.specs.Stages.{at_body, at_plains, at_rules, at_premises, at_conclusion}
-use Rattle.sx_outline.specs.Stages.{at_end, State, Steps, StepsAt, IsGoodRow, MayStandAt, after}
+use Rattle.sx_outline.specs.Stages.{at_end, State, Steps, StepsAt, IsGoodRow, MayStandAt, state_after_row}
 use Rattle.sx_outline.specs.Stages.{paired}
 use Rattle.sx_outline.specs.Sized.{HasShortLines}
 use Rattle.sx_outline.specs.Reading.{IsDeclaredAhead}
@@ -245,7 +245,7 @@ body_long text body ((at, rest, cut, is), utf8) =
 
 short_row : (kind : FileKind) (known : Declared) (size left : ℕ) (at : Stage) (d : Declared) (plains : List PlainData) (rules : List RuleData) (n : ℕ) (text : List ℕ) (row : Row) → IsRow kind text row
     → RowFits known d row → MayStandAt at d.mains row → left ≤ size → length text ≤ size → IsShortStage kind known size left at → AllByRecursion (IsGoodPlain known size) plains
-    → AllByRecursion (IsShortRule kind size) rules → HasShort kind known size left (after (record { stage = at; declared = d; plains = plains; rules = rules }) n row)
+    → AllByRecursion (IsShortRule kind size) rules → HasShort kind known size left (state_after_row (record { stage = at; declared = d; plains = plains; rules = rules }) n row)
 short_row kind known size left at_declarations d plains rules n text (Sort x) is fits stands le long short p h = (tt, p, h)
 short_row kind known size left at_declarations d plains rules n text (Prod x) is fits stands le long short p h = (tt, p, h)
 short_row kind known size left at_declarations d plains rules n text (Var x) is fits stands le long short p h = (tt, p, h)

@@ -13,7 +13,7 @@ use Rattle.sx_outline.specs.Fitting.{ArePartNames, RowFits}
 use Rattle.sx_outline.specs.Stages.{Numbered, PlainData, RuleData, Begun, begun_plain, Stage}
 use Rattle.sx_outline.specs.Stages.{at_start, at_declarations, at_body, at_plains, at_rules}
 use Rattle.sx_outline.specs.Stages.{at_premises, at_conclusion, at_end, State, StepsAt, IsBar}
-use Rattle.sx_outline.specs.Stages.{IsWhole, MayStandAt, after, with_premise, with_body, concluded}
+use Rattle.sx_outline.specs.Stages.{IsWhole, MayStandAt, state_after_row, with_premise, with_body, concluded}
 use Rattle.sx_outline.specs.Stages.{paired}
 use Rattle.sx_outline.specs.Structure.{numbered_lines, IsDeclaring, AreBodies}
 use Rattle.sx_outline.specs.Reading.{IsDeclaredAhead}
@@ -150,7 +150,7 @@ declared_more kind known d plains rules o l row lines spelled declaring fits h =
 
 declarations_row : (kind : FileKind) (known : Declared) (name : List ℕ) (d : Declared) (plains : List PlainData) (rules : List RuleData) (o : Whole) (n : ℕ) (text : List ℕ) (row : Row) (lines : List Numbered)
     → IsRow kind text row → RowFits known d row → MayStandAt at_declarations d.mains row
-    → LeftAt kind known name o lines (after (record { stage = at_declarations; declared = d; plains = plains; rules = rules }) n row)
+    → LeftAt kind known name o lines (state_after_row (record { stage = at_declarations; declared = d; plains = plains; rules = rules }) n row)
     → IsRestOfFile kind known d plains rules o (record { number = n; text = text } ∷ lines)
 declarations_row kind known name d plains rules o n text (Sort s) lines spelled fits stands h =
     declared_more kind known d plains rules o (record { number = n; text = text }) (Sort s) lines spelled tt fits h
@@ -171,7 +171,7 @@ declarations_row kind known name d plains rules o n text _ lines spelled fits st
 
 plains_row : (kind : FileKind) (known : Declared) (name : List ℕ) (d : Declared) (plains : List PlainData) (rules : List RuleData) (o : Whole) (n : ℕ) (text : List ℕ) (row : Row) (lines : List Numbered)
     → IsRow kind text row → RowFits known d row → MayStandAt at_plains d.mains row
-    → LeftAt kind known name o lines (after (record { stage = at_plains; declared = d; plains = plains; rules = rules }) n row)
+    → LeftAt kind known name o lines (state_after_row (record { stage = at_plains; declared = d; plains = plains; rules = rules }) n row)
     → IsRestOfPairs kind known d plains rules o (record { number = n; text = text } ∷ lines)
 plains_row kind known name d plains rules o n text (Plain row) lines spelled fits stands h = begun_pair kind known d plains rules o n text row lines spelled fits h
 plains_row kind known name d plains rules o n text (Rule given) lines spelled fits stands h =
@@ -180,7 +180,7 @@ plains_row kind known name d plains rules o n text _ lines spelled fits stands h
 
 rules_row : (kind : FileKind) (known : Declared) (name : List ℕ) (d : Declared) (plains : List PlainData) (rules : List RuleData) (o : Whole) (n : ℕ) (text : List ℕ) (row : Row) (lines : List Numbered)
     → IsRow kind text row → MayStandAt at_rules d.mains row
-    → LeftAt kind known name o lines (after (record { stage = at_rules; declared = d; plains = plains; rules = rules }) n row)
+    → LeftAt kind known name o lines (state_after_row (record { stage = at_rules; declared = d; plains = plains; rules = rules }) n row)
     → IsRest kind known d plains rules o (record { number = n; text = text } ∷ lines)
 rules_row kind known name d plains rules o n text (Rule given) lines spelled stands h = begun_rule kind known d plains rules o n text given lines spelled h
 rules_row kind known name d plains rules o n text _ lines spelled stands h = absurd stands
@@ -195,7 +195,7 @@ bodies_done kind r l (b ∷ bodies) rule h = absurd (some_none l h.0)
 
 end_row : (kind : FileKind) (known : Declared) (name : List ℕ) (r : RuleData) (d : Declared) (plains : List PlainData) (rules : List RuleData) (o : Whole) (n : ℕ) (text : List ℕ) (row : Row) (lines : List Numbered)
     → IsRow kind text row → MayStandAt (at_end r) d.mains row
-    → LeftAt kind known name o lines (after (record { stage = at_end r; declared = d; plains = plains; rules = rules }) n row)
+    → LeftAt kind known name o lines (state_after_row (record { stage = at_end r; declared = d; plains = plains; rules = rules }) n row)
     → IsInRule (LeftEnd kind r) kind known d plains rules o (record { number = n; text = text } ∷ lines)
 end_row kind known name r d plains rules o n text End lines spelled stands h =
     let l : Numbered = record { number = n; text = text } in

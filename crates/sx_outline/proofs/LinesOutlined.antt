@@ -12,7 +12,7 @@ use Rattle.sx_outline.specs.Fitting.{ArePartNames, RowFits}
 use Rattle.sx_outline.specs.Stages.{Numbered, PlainData, RuleData, Begun, BegunPlain, begun_plain}
 use Rattle.sx_outline.specs.Stages.{Stage, at_start, at_declarations, at_body, at_plains, at_rules}
 use Rattle.sx_outline.specs.Stages.{at_premises, at_conclusion, at_end, State, StepsAt, IsGoodRow}
-use Rattle.sx_outline.specs.Stages.{IsBar, MayStandAt, after, at as to, with_premise, with_body}
+use Rattle.sx_outline.specs.Stages.{IsBar, MayStandAt, state_after_row, at_stage as to, with_premise, with_body}
 use Rattle.sx_outline.specs.Stages.{with_plain, concluded, paired, head_row}
 use Rattle.sx_outline.specs.Structure.{IsDeclaring, AreBodies, AreDeclarations, ArePlainPairs, AreRuleRows}
 use Rattle.sx_outline.specs.BadLines.{AreMains}
@@ -75,7 +75,7 @@ rules_lead : (kind : FileKind) (known : Declared) (name : List ℕ) (d : Declare
 rules_lead kind known name d plains rules o n text lines h =
     let rule = begin_rule kind known d plains rules o n text lines h.more h.declared h.plains_are h.rules_are h.are in
     record {
-      next = after (record { stage = at_rules; declared = d; plains = plains; rules = rules }) n (Rule rule.0);
+      next = state_after_row (record { stage = at_rules; declared = d; plains = plains; rules = rules }) n (Rule rule.0);
       steps = (Rule rule.0, good_rule kind known at_rules d plains rules text rule.0 rule.1 tt, refl);
       left = rule.2;
     }
@@ -130,12 +130,12 @@ pairs_on kind known d plains rules o n text lines others e h =
 plains_lead : (kind : FileKind) (known : Declared) (name : List ℕ) (d : Declared) (plains : List PlainData) (rules : List RuleData) (o : Whole) (n : ℕ) (text : List ℕ) (lines : List Numbered)
     → PairsOn kind known d plains rules o n text lines → LeadsOn kind known name at_plains d plains rules o n text lines
 plains_lead kind known name d plains rules o n text lines (by_plain row spelled fits h) = record {
-  next = after (record { stage = at_plains; declared = d; plains = plains; rules = rules }) n (Plain row);
+  next = state_after_row (record { stage = at_plains; declared = d; plains = plains; rules = rules }) n (Plain row);
   steps = (Plain row, record { spelled = spelled; fits = fits; stands = tt; main = tt }, refl);
   left = h;
 }
 plains_lead kind known name d plains rules o n text lines (by_rule given spelled h) = record {
-  next = after (record { stage = at_plains; declared = d; plains = plains; rules = rules }) n (Rule given);
+  next = state_after_row (record { stage = at_plains; declared = d; plains = plains; rules = rules }) n (Rule given);
   steps = (Rule given, good_rule kind known at_plains d plains rules text given spelled tt, refl);
   left = h;
 }
@@ -143,12 +143,12 @@ plains_lead kind known name d plains rules o n text lines (by_rule given spelled
 undeclared_lead : (kind : FileKind) (known : Declared) (name : List ℕ) (d : Declared) (plains : List PlainData) (rules : List RuleData) (o : Whole) (n : ℕ) (text : List ℕ) (lines : List Numbered)
     → PairsOn kind known d plains rules o n text lines → LeadsOn kind known name at_declarations d plains rules o n text lines
 undeclared_lead kind known name d plains rules o n text lines (by_plain row spelled fits h) = record {
-  next = after (record { stage = at_declarations; declared = d; plains = plains; rules = rules }) n (Plain row);
+  next = state_after_row (record { stage = at_declarations; declared = d; plains = plains; rules = rules }) n (Plain row);
   steps = (Plain row, record { spelled = spelled; fits = fits; stands = tt; main = tt }, refl);
   left = h;
 }
 undeclared_lead kind known name d plains rules o n text lines (by_rule given spelled h) = record {
-  next = after (record { stage = at_declarations; declared = d; plains = plains; rules = rules }) n (Rule given);
+  next = state_after_row (record { stage = at_declarations; declared = d; plains = plains; rules = rules }) n (Rule given);
   steps = (Rule given, good_rule kind known at_declarations d plains rules text given spelled tt, refl);
   left = h;
 }
@@ -161,22 +161,22 @@ declared_leads : (kind : FileKind) (known : Declared) (name : List ℕ) (d : Dec
     → RowFits known d row → AreDeclarations kind known (declare d row) declarations known → IsRestOfPairs kind known known plains rules o others
     → LeadsOn kind known name at_declarations d plains rules o n text lines
 declared_leads kind known name d plains rules o mains n text (Sort s) declarations others lines e spelled declaring fits h rest = record {
-  next = after (record { stage = at_declarations; declared = d; plains = plains; rules = rules }) n (Sort s);
+  next = state_after_row (record { stage = at_declarations; declared = d; plains = plains; rules = rules }) n (Sort s);
   steps = (Sort s, record { spelled = spelled; fits = fits; stands = tt; main = tt }, refl);
   left = record { declarations = declarations; others = others; lines_are = e; declared = h; rest = rest };
 }
 declared_leads kind known name d plains rules o mains n text (Prod p) declarations others lines e spelled declaring fits h rest = record {
-  next = after (record { stage = at_declarations; declared = d; plains = plains; rules = rules }) n (Prod p);
+  next = state_after_row (record { stage = at_declarations; declared = d; plains = plains; rules = rules }) n (Prod p);
   steps = (Prod p, record { spelled = spelled; fits = fits; stands = tt; main = tt }, refl);
   left = record { declarations = declarations; others = others; lines_are = e; declared = h; rest = rest };
 }
 declared_leads kind known name d plains rules o mains n text (Var v) declarations others lines e spelled declaring fits h rest = record {
-  next = after (record { stage = at_declarations; declared = d; plains = plains; rules = rules }) n (Var v);
+  next = state_after_row (record { stage = at_declarations; declared = d; plains = plains; rules = rules }) n (Var v);
   steps = (Var v, record { spelled = spelled; fits = fits; stands = tt; main = tt }, refl);
   left = record { declarations = declarations; others = others; lines_are = e; declared = h; rest = rest };
 }
 declared_leads kind known name d plains rules o mains n text (Form f) declarations others lines e spelled declaring fits h rest = record {
-  next = after (record { stage = at_declarations; declared = d; plains = plains; rules = rules }) n (Form f);
+  next = state_after_row (record { stage = at_declarations; declared = d; plains = plains; rules = rules }) n (Form f);
   steps = (Form f, record { spelled = spelled; fits = fits; stands = tt; main = tt }, refl);
   left = record { declarations = declarations; others = others; lines_are = e; declared = h; rest = rest };
 }
@@ -184,7 +184,7 @@ declared_leads kind known name d plains rules o mains n text (Main m) declaratio
     let stay = mains_stay kind known (declare d (Main m)) known declarations h in
     let first = first_main known known.mains d.mains stay.0 m (stay.1 ∙ append_assoc d.mains (m ∷ []) stay.0) mains in
     record {
-      next = after (record { stage = at_declarations; declared = d; plains = plains; rules = rules }) n (Main m);
+      next = state_after_row (record { stage = at_declarations; declared = d; plains = plains; rules = rules }) n (Main m);
       steps = (Main m, record { spelled = spelled; fits = fits; stands = first.0; main = first.1 }, refl);
       left = record { declarations = declarations; others = others; lines_are = e; declared = h; rest = rest };
     }
@@ -332,7 +332,7 @@ end_leads kind known name given d plains rules o n text lines r [] last back mor
     let here : Numbered = record { number = n; text = text } in
     let same : here ≡ last = head_same here last lines back e in
     record {
-      next = after (record { stage = at_end given; declared = d; plains = plains; rules = rules }) n End;
+      next = state_after_row (record { stage = at_end given; declared = d; plains = plains; rules = rules }) n End;
       steps = (End, record { spelled = subst (λ (x : Numbered). IsRow kind x.text End) (sym same) ends; fits = tt; stands = tt; main = tt }, refl);
       left = record {
         declared = declared;
@@ -349,7 +349,7 @@ end_leads kind known name given d plains rules o n text lines r (first ∷ bodie
     let number : b.number ≡ n = sym one.2 ∙ ap (λ (x : Numbered). x.number) (sym same) in
     let line_is : record { number = n; text = b.text } ≡ b = λ i. record { number = sym number i; text = b.text } in
     record {
-      next = after (record { stage = at_end given; declared = d; plains = plains; rules = rules }) n (To b.text);
+      next = state_after_row (record { stage = at_end given; declared = d; plains = plains; rules = rules }) n (To b.text);
       steps = (To b.text, record { spelled = subst (λ (x : Numbered). IsRow kind x.text (To b.text)) (sym same) one.1; fits = tt; stands = none; main = tt }, refl);
       left = record {
         rule = r;

@@ -5,7 +5,7 @@ use Rattle.sx_directives.specs.declared.file_kind.FileKind.{FileKind}
 use Rattle.sx_directives.specs.declared.row.Row.{Row}
 use Rattle.sx_directives.specs.declared.row.Row.TheVariants.{Sort, Prod, Var, Form, Main, Plain, Rule, End, To}
 use Rattle.sx_outline.specs.Declarations.{Declared}
-use Rattle.sx_outline.specs.Stages.{Numbered, PlainData, RuleData, Stage, at_start, at_declarations, at_body, at_plains, at_rules, at_premises, at_conclusion, at_end, State, StepsAt, MayStandAt, IsWhole, IsInside, after}
+use Rattle.sx_outline.specs.Stages.{Numbered, PlainData, RuleData, Stage, at_start, at_declarations, at_body, at_plains, at_rules, at_premises, at_conclusion, at_end, State, StepsAt, MayStandAt, IsWhole, IsInside, state_after_row}
 use Rattle.sx_outline.proofs.Led.{Leads}
 use Rattle.sx_outline.proofs.LinesDeclared.{none_first, head_same, tail_same}
 use Rattle.sx_outline.proofs.OneOutline.{one_step, inside_or_whole}
@@ -18,7 +18,7 @@ abbrev IsOpenBefore : Stage → (n number : ℕ) → Type 0
 IsOpenBefore at n number = (IsWhole at × (n ≡ number)) ⊎ IsInside at number
 
 declarations_row : (d : Declared) (plains : List PlainData) (rules : List RuleData) (n number : ℕ) (row : Row) → MayStandAt at_declarations d.mains row
-    → let t : State = after (st at_declarations d plains rules) n row in IsInside t.stage number → IsOpenBefore at_declarations n number
+    → let t : State = state_after_row (st at_declarations d plains rules) n row in IsInside t.stage number → IsOpenBefore at_declarations n number
 declarations_row d plains rules n number (Sort s) stands h = absurd h
 declarations_row d plains rules n number (Prod p) stands h = absurd h
 declarations_row d plains rules n number (Var v) stands h = absurd h
@@ -29,18 +29,18 @@ declarations_row d plains rules n number (Rule given) stands h = inl (tt, h)
 declarations_row d plains rules n number _ stands h = absurd stands
 
 plains_row : (d : Declared) (plains : List PlainData) (rules : List RuleData) (n number : ℕ) (row : Row) → MayStandAt at_plains d.mains row
-    → let t : State = after (st at_plains d plains rules) n row in IsInside t.stage number → IsOpenBefore at_plains n number
+    → let t : State = state_after_row (st at_plains d plains rules) n row in IsInside t.stage number → IsOpenBefore at_plains n number
 plains_row d plains rules n number (Plain p) stands h = inl (tt, h)
 plains_row d plains rules n number (Rule given) stands h = inl (tt, h)
 plains_row d plains rules n number _ stands h = absurd stands
 
 rules_row : (d : Declared) (plains : List PlainData) (rules : List RuleData) (n number : ℕ) (row : Row) → MayStandAt at_rules d.mains row
-    → let t : State = after (st at_rules d plains rules) n row in IsInside t.stage number → IsOpenBefore at_rules n number
+    → let t : State = state_after_row (st at_rules d plains rules) n row in IsInside t.stage number → IsOpenBefore at_rules n number
 rules_row d plains rules n number (Rule given) stands h = inl (tt, h)
 rules_row d plains rules n number _ stands h = absurd stands
 
 end_row : (d : Declared) (r : RuleData) (plains : List PlainData) (rules : List RuleData) (n number : ℕ) (row : Row) → MayStandAt (at_end r) d.mains row
-    → let t : State = after (st (at_end r) d plains rules) n row in IsInside t.stage number → IsOpenBefore (at_end r) n number
+    → let t : State = state_after_row (st (at_end r) d plains rules) n row in IsInside t.stage number → IsOpenBefore (at_end r) n number
 end_row d r plains rules n number End stands h = absurd h
 end_row d r plains rules n number (To body) stands h = inr h
 end_row d r plains rules n number _ stands h = absurd stands

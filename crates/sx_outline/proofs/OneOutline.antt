@@ -24,7 +24,7 @@ use Rattle.sx_outline.specs.Known.{Declares, RowGoesOn, kept_lines}
 use Rattle.sx_outline.specs.Stages.{RuleData, Stage, at_start, at_declarations, at_body, at_plains}
 use Rattle.sx_outline.specs.Stages.{at_rules, at_premises, at_conclusion, at_end, State, start}
 use Rattle.sx_outline.specs.Stages.{begun_plain, IsDue, MayComeNext, Steps, StepsAt, StepsByRow, IsBad}
-use Rattle.sx_outline.specs.Stages.{IsInside, IsWhole, after, at as to}
+use Rattle.sx_outline.specs.Stages.{IsInside, IsWhole, state_after_row, at_stage as to}
 use Rattle.sx_outline.specs.Outcomes.{IsReadingOutcome}
 use Rattle.sx_outline.specs.Outlined.{OutlineData, declared_by, IsEnd, IsMissing, IsOutlineOf}
 use Rattle.sx_outline.specs.Outlined.{IsReadAs, IsOutlineAnswer}
@@ -57,7 +57,7 @@ declared_with s d = record { stage = s.stage; declared = d; plains = s.plains; r
 begun_same : (n : ℕ) (a b : PlainLine) → a.label ≡ b.label → a.names.items ≡ b.names.items → begun_plain n a ≡ begun_plain n b
 begun_same n a b e f = λ i. record { number = n; label = e i; names = f i }
 
-same_after : (s : State) (n : ℕ) (r q : Row) → SameRow r q → after s n r ≡ after s n q
+same_after : (s : State) (n : ℕ) (r q : Row) → SameRow r q → state_after_row s n r ≡ state_after_row s n q
 unfolding declared_with
 same_after s n (Language a) (Language b) e = refl
 same_after s n (Sort a) (Sort b) e = ap (declared_with s) (same_declare s.declared (Sort a) (Sort b) e)
@@ -65,13 +65,13 @@ same_after s n (Prod a) (Prod b) e = ap (declared_with s) (same_declare s.declar
 same_after s n (Var a) (Var b) e = ap (declared_with s) (same_declare s.declared (Var a) (Var b) e)
 same_after s n (Form a) (Form b) e = ap (declared_with s) (same_declare s.declared (Form a) (Form b) e)
 same_after s n (Main a) (Main b) e = ap (declared_with s) (same_declare s.declared (Main a) (Main b) e)
-same_after s n (Rule a) (Rule b) e = ap (λ x. after s n (Rule x)) e
+same_after s n (Rule a) (Rule b) e = ap (λ x. state_after_row s n (Rule x)) e
 same_after s n Bar Bar e = refl
 same_after s n End End e = refl
 same_after s n (Extension a) (Extension b) e = refl
 same_after s n (Use a) (Use b) e = refl
 same_after s n (Plain a) (Plain b) e = ap (λ x. to s (at_body x)) (begun_same n a b e.0 e.1)
-same_after s n (To a) (To b) e = ap (λ x. after s n (To x)) e
+same_after s n (To a) (To b) e = ap (λ x. state_after_row s n (To x)) e
 same_after s n _ _ e = absurd e
 
 one_by_row : (kind : FileKind) (known other : Declared) (s : State) (n : ℕ) (text : List ℕ) (t u : State) → StepsByRow kind known s n text t → StepsByRow kind other s n text u → t ≡ u

@@ -18,7 +18,7 @@ use Rattle.sx_directives.specs.declared.row.Row.TheVariants.{Var, Form, Main, Us
 use Rattle.sx_outline.specs.declared.main_form.MainForm.{MainForm}
 use Rattle.sx_outline.specs.Declarations.{Declared, DeclaredForm}
 use Rattle.sx_outline.specs.Fitting.{Kid, IsKnownSort, SymbolFits, RowFits, IsConstructor, IsMainOf}
-use Rattle.sx_outline.specs.Stages.{StepsAt, State, Steps, IsBad, at_start, after}
+use Rattle.sx_outline.specs.Stages.{StepsAt, State, Steps, IsBad, at_start, state_after_row}
 use Rattle.sx_outline.specs.BadLines.{HasInCommon}
 use Rattle.sx_outline.proofs.OneOutline.{due_row}
 use Rattle.sx_outline.proofs.SameRows.{same_row}
@@ -100,7 +100,7 @@ with_productions d e m main sorts forms productions h =
 -- a line that is bad is bad in another file, where a row that fits there fits here, and a main form
 -- there is one here
 pub bad_with : (kind : FileKind) (known other : Declared) (name : List ℕ) (s : State) (n : ℕ) (text : List ℕ) (t : State) (wrong : Kind)
-    → (wrong ≡ Shape → (row : Row) → IsRow kind text row → RowFits other s.declared row → t ≡ after s n row → RowFits known s.declared row)
+    → (wrong ≡ Shape → (row : Row) → IsRow kind text row → RowFits other s.declared row → t ≡ state_after_row s n row → RowFits known s.declared row)
     → (wrong ≡ NoMain → (m : MainLine) (main : MainForm) → IsRow kind text (Main m) → IsMainOf other m main → IsMainOf known m main)
     → IsBad kind known name s text wrong → Steps kind other name s n text t → ⊥
 bad_with kind known other name s n text t Head fits is_main bad steps =

@@ -12,7 +12,7 @@ use Rattle.sx_outline.specs.Declarations.{Declared, declare}
 use Rattle.sx_outline.specs.Known.{kept_lines, is_dropped}
 use Rattle.sx_outline.specs.Stages.{Stage, at_start, at_declarations, at_body, at_plains, at_rules}
 use Rattle.sx_outline.specs.Stages.{at_premises, at_conclusion, at_end, Numbered, RuleData, State}
-use Rattle.sx_outline.specs.Stages.{after, bodied, ended}
+use Rattle.sx_outline.specs.Stages.{state_after_row, bodied, ended}
 
 ended_declared : (at : Stage) (d : Declared) (rules : List RuleData) (s : State) → s.declared ≡ d → (ended s at).declared ≡ d
 ended_declared at_start d rules s e = e
@@ -35,7 +35,7 @@ bodied_declared (at_conclusion b) l d s e = e
 bodied_declared (at_end r) l d s e = e
 
 -- what is declared after a row
-pub after_declared : (s : State) (n : ℕ) (row : Row) → (after s n row).declared ≡ declare s.declared row
+pub after_declared : (s : State) (n : ℕ) (row : Row) → (state_after_row s n row).declared ≡ declare s.declared row
 after_declared s n (Sort x) = refl
 after_declared s n (Prod p) = refl
 after_declared s n (Var v) = refl

@@ -16,7 +16,7 @@ use Rattle.sx_outline.specs.Declarations.{Declared, declared_before}
 use Rattle.sx_outline.specs.Known.{Declares, kept_lines}
 use Rattle.sx_outline.specs.Fitting.{ArePartNames}
 use Rattle.sx_outline.specs.Reading.{IsDeclaredAhead}
-use Rattle.sx_outline.specs.Stages.{Numbered, Stage, at_start, at_declarations, at_body, at_plains, at_rules, at_premises, at_conclusion, at_end, State, start_after, Steps, IsBad, IsInside, after}
+use Rattle.sx_outline.specs.Stages.{Numbered, Stage, at_start, at_declarations, at_body, at_plains, at_rules, at_premises, at_conclusion, at_end, State, start_after, Steps, IsBad, IsInside, state_after_row}
 use Rattle.sx_outline.specs.Headers.{HeaderData}
 use Rattle.sx_outline.specs.ExtensionOutlined.{ExtensionOutlineData, extension_declares, AreReadAfter, IsExtensionEnd, IsExtensionReadAs}
 use Rattle.sx_outline.specs.Structure.{numbered_lines, AreExtensionLines}
@@ -70,7 +70,7 @@ none_whole known other name s l v tail last kind grows bad step leads is =
     bad_with files.Extension known other name s l.number l.text v kind
     (λ e row spelled fits to. row_fits known other s.declared l.text row sorts uses
     (λ p plain h.
-    let body : v ≡ after s l.number (Plain p) = subst (λ (x : Row). v ≡ after s l.number x) plain to in
+    let body : v ≡ state_after_row s l.number (Plain p) = subst (λ (x : Row). v ≡ state_after_row s l.number x) plain to in
     let past : IsPast v.stage = subst (λ (x : State). IsPast x.stage) (sym body) tt in
     let same : other ≡ s.declared = sym is ∙ leads_stay other name v tail last past leads ∙ ap (λ (x : State). x.declared) body in
     part_names_more s.declared known p.label p.names.items grows (subst (λ (x : Declared). ArePartNames x p.label p.names.items) same h)) spelled fits)

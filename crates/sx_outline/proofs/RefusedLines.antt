@@ -14,7 +14,7 @@ use Rattle.sx_outline.specs.declared.outline_error.OutlineError.{OutlineError}
 use Rattle.sx_outline.specs.declared.outline_error.OutlineError.TheVariants.{Notation}
 use Rattle.sx_outline.specs.Declarations.{Declared, nothing}
 use Rattle.sx_outline.specs.Known.{Declares, kept_lines}
-use Rattle.sx_outline.specs.Stages.{Numbered, PlainData, RuleData, Stage, at_start, at_declarations, at_body, at_plains, at_rules, at_premises, at_conclusion, at_end, State, start, StepsAt, MayStandAt, IsWhole, IsInside, after}
+use Rattle.sx_outline.specs.Stages.{Numbered, PlainData, RuleData, Stage, at_start, at_declarations, at_body, at_plains, at_rules, at_premises, at_conclusion, at_end, State, start, StepsAt, MayStandAt, IsWhole, IsInside, state_after_row}
 use Rattle.sx_outline.specs.Outlined.{OutlineData, declared_by, IsEnd, IsMissing, IsReadAs}
 use Rattle.sx_outline.specs.Structure.{numbered_lines, AreOutlineLines}
 use Rattle.sx_outline.specs.BadLines.{AreLanguageLines, BeginGoodFile, IsBadLine, IsNotEnded, AreCutOff, HasNoMain, IsLanguageRefused, end_number}
@@ -68,11 +68,11 @@ stopped name known lines number Variable named order h = absurd h.bad
 
 -- ---- the end
 
-row_begun : (s : State) (n : ℕ) (row : Row) → MayStandAt s.stage s.declared.mains row → HasBegun (after s n row).stage
+row_begun : (s : State) (n : ℕ) (row : Row) → MayStandAt s.stage s.declared.mains row → HasBegun (state_after_row s n row).stage
 row_begun s n row stands = at_row s.stage s.declared s.plains s.rules n row stands
   where
     at_row : (at : Stage) (d : Declared) (plains : List PlainData) (rules : List RuleData) (n : ℕ) (row : Row) → MayStandAt at d.mains row
-        → let s : State = record { stage = at; declared = d; plains = plains; rules = rules } in HasBegun (after s n row).stage
+        → let s : State = record { stage = at; declared = d; plains = plains; rules = rules } in HasBegun (state_after_row s n row).stage
     at_row at_declarations d plains rules n (Sort s) stands = tt
     at_row at_declarations d plains rules n (Prod p) stands = tt
     at_row at_declarations d plains rules n (Var v) stands = tt

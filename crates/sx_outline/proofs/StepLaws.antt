@@ -31,8 +31,8 @@ use Rattle.sx_outline.specs.Stages.{Numbered, PlainData, RuleData, plain_data, r
 use Rattle.sx_outline.specs.Stages.{bodied, begun_plain, paired, with_plain, MayStandAt, Stage}
 use Rattle.sx_outline.specs.Stages.{at_start, at_declarations, at_body, at_plains, at_rules}
 use Rattle.sx_outline.specs.Stages.{at_premises, at_conclusion, at_end, concluded, head_row, State}
-use Rattle.sx_outline.specs.Stages.{MayComeNext, IsDue, StepsAt, StepsByRow, with_premise, after}
-use Rattle.sx_outline.specs.Stages.{at as to}
+use Rattle.sx_outline.specs.Stages.{MayComeNext, IsDue, StepsAt, StepsByRow, with_premise, state_after_row}
+use Rattle.sx_outline.specs.Stages.{at_stage as to}
 use Rattle.sx_outline.specs.Reading.{stage, begun, plain_begun, AddsPlain, IsPlainBegun}
 use Rattle.sx_outline.specs.Reading.{IsOutlineReader, IsMainRead, IsFirstDeclared, IsRowRefused, IsRowTaken}
 use Rattle.sx_outline.specs.Reading.{IsLineRefused, IsLineRead, IsHeadRefused, AddsPremise}
@@ -132,8 +132,8 @@ pub row_taken : (kind : FileKind) (known : Declared) (name : List ℕ) (r : Read
     → ((s : State) → IsOutlineReader known r s → IsFirstDeclared s.declared known → RowFits known s.declared row) → IsRowTaken known r number row result → IsLineRead kind known name r number text result
 row_taken kind known name r number text row (Ok next) due spelled fits taken = λ s reader front.
     let h = taken s reader in (
-      after s number row,
-      due_steps s.stage kind known name s number text (after s number row) (due_of known r s due reader)
+      state_after_row s number row,
+      due_steps s.stage kind known name s number text (state_after_row s number row) (due_of known r s due reader)
           (row, record { spelled = spelled; fits = fits s reader front; stands = h.0; main = h.1 }, refl),
       h.2,
     )

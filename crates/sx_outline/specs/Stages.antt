@@ -154,8 +154,8 @@ pub record IsGoodRow (kind : FileKind) (known : Declared) (s : State) (text : Li
   pub main : HasMain known row
 
 -- at another stage, all else as before
-abbrev pub at : State → Stage → State
-at s stage = record { stage = stage; declared = s.declared; plains = s.plains; rules = s.rules }
+abbrev pub at_stage : State → Stage → State
+at_stage s stage = record { stage = stage; declared = s.declared; plains = s.plains; rules = s.rules }
 
 -- the rule is ended, if one has its conclusion
 abbrev pub ended : State → Stage → State
@@ -179,7 +179,7 @@ with_body r line = record {
 
 -- the rule has this body, if it has its conclusion
 abbrev pub bodied : State → Stage → Numbered → State
-bodied s (at_end r) line = at s (at_end (with_body r line))
+bodied s (at_end r) line = at_stage s (at_end (with_body r line))
 bodied s _ line = s
 
 -- a plain pair after its first line
@@ -201,13 +201,13 @@ with_plain s p = record {
 
 -- after a row: a plain pair or a rule has begun, a rule has its body or is ended, or more is
 -- declared
-abbrev pub after : State → ℕ → Row → State
-after s number (Plain p) = at s (at_body (begun_plain number p))
-after s number (Rule name) = at s (at_premises
+abbrev pub state_after_row : State → ℕ → Row → State
+state_after_row s number (Plain p) = at_stage s (at_body (begun_plain number p))
+state_after_row s number (Rule name) = at_stage s (at_premises
     (record { number = number; name = name; premises = [] }))
-after s number End = ended s s.stage
-after s number (To body) = bodied s s.stage (record { number = number; text = body })
-after s number row = record {
+state_after_row s number End = ended s s.stage
+state_after_row s number (To body) = bodied s s.stage (record { number = number; text = body })
+state_after_row s number row = record {
   stage = s.stage;
   declared = declare s.declared row;
   plains = s.plains;
@@ -239,23 +239,23 @@ concluded b line = record {
 -- a line where a row is due leads from one state to the other
 abbrev pub StepsByRow : FileKind → Declared → State → ℕ → List ℕ → State → Type 0
 StepsByRow kind known s number text t = (row : Row) × IsGoodRow kind known s text row ×
-    (t ≡ after s number row)
+    (t ≡ state_after_row s number row)
 
 -- at this stage the line with this number and text leads from one state to the other
 abbrev pub StepsAt : Stage → FileKind → Declared → List ℕ → State → ℕ → List ℕ → State → Type 0
 StepsAt at_start kind known name s number text t =
-    IsRow kind text (head_row kind name) × (t ≡ at s at_declarations)
+    IsRow kind text (head_row kind name) × (t ≡ at_stage s at_declarations)
 StepsAt at_declarations kind known name s number text t = StepsByRow kind known s number text t
 StepsAt (at_body b) kind known name s number text t =
     t ≡ with_plain s (paired b (record { number = number; text = text }))
 StepsAt at_plains kind known name s number text t = StepsByRow kind known s number text t
 StepsAt at_rules kind known name s number text t = StepsByRow kind known s number text t
 StepsAt (at_premises b) kind known name s number text t =
-    (IsBar text × (t ≡ at s (at_conclusion b)))
+    (IsBar text × (t ≡ at_stage s (at_conclusion b)))
     ⊎ ((IsBar text → ⊥) ×
-    (t ≡ at s (at_premises (with_premise b (record { number = number; text = text })))))
+    (t ≡ at_stage s (at_premises (with_premise b (record { number = number; text = text })))))
 StepsAt (at_conclusion b) kind known name s number text t =
-    t ≡ at s (at_end (concluded b (record { number = number; text = text })))
+    t ≡ at_stage s (at_end (concluded b (record { number = number; text = text })))
 StepsAt (at_end r) kind known name s number text t = StepsByRow kind known s number text t
 
 -- in a file of this kind with these declarations and this name the line leads from one state to the

@@ -16,9 +16,9 @@ unfoldable pub put : Files → List ℕ → List ℕ → Files
 put files name bytes = λ other. if bytes_eq name other then Some bytes else files other
 
 -- the files after these writes, the first of them first
-abbrev pub after : List File → Files → Files
-after [] files = files
-after (file ∷ rest) files = after rest (put files file.name file.bytes)
+abbrev pub after_writes : List File → Files → Files
+after_writes [] files = files
+after_writes (file ∷ rest) files = after_writes rest (put files file.name file.bytes)
 
 -- the same files but for this name
 abbrev pub SameBut : List ℕ → Files → Files → Type 0

@@ -3,7 +3,7 @@ use Rattle.std.proofs.Common.{◌≡◌, ℕ, List, [], refl, ap, ◌∙◌, sub
 use Rattle.std.specs.Prelude.{Ok, Contains}
 use Rattle.sx_audit.specs.Meaning.{Meaning}
 use Rattle.sx_extcheck.specs.declared.budgets.Budgets.{Budgets}
-use Rattle.sx_outside.specs.Files.{Files, after}
+use Rattle.sx_outside.specs.Files.{Files, after_writes}
 use Rattle.sx_steps.specs.Steps.{Untried}
 use Rattle.sx_steps.specs.Work.{Plan}
 use Rattle.sx_steps.proofs.Ones.{ok_same}
@@ -31,7 +31,7 @@ pub record EndedBuild (name : List ℕ) (budgets : Budgets) (auditors : List Mea
 
 pub build_ended : (name : List ℕ) (budgets : Budgets) (auditors : List Meaning) (old new : Files)
     (plan : Plan) (tries : ℕ) → BuildsModule name budgets auditors old (Ok plan) tries →
-    new ≡ after plan.files old → (modules : List Module) → ReadsModules name old (Ok modules) →
+    new ≡ after_writes plan.files old → (modules : List Module) → ReadsModules name old (Ok modules) →
     (m : Module) → Contains modules m → EndedBuild name budgets auditors old new m
 build_ended name budgets auditors old new plan n builds files_are modules reads m among =
     let read = went_on (Untried (ReadsModules name old)) (BuildsRead budgets auditors old) plan n
@@ -54,7 +54,7 @@ build_ended name budgets auditors old new plan n builds files_are modules reads 
       language = l;
       states = language.begins.0;
       end = all.given;
-      is = files_are ∙ ap (λ (p : Plan). after p.files old) planned;
+      is = files_are ∙ ap (λ (p : Plan). after_writes p.files old) planned;
       turn = turn_of budgets old l auditors ms all.given [] ms (none_made auditors) all.before refl
           (λ none. none) all.begins m here;
     }

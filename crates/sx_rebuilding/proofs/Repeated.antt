@@ -2,7 +2,7 @@
 use Rattle.std.proofs.Common.{◌≡◌, ℕ, List, [], refl, ap}
 use Rattle.std.specs.Prelude.{Ok}
 use Rattle.sx_extcheck.specs.declared.budgets.Budgets.{Budgets}
-use Rattle.sx_outside.specs.Files.{Files, after}
+use Rattle.sx_outside.specs.Files.{Files, after_writes}
 use Rattle.sx_steps.specs.Work.{Plan}
 use Rattle.sx_accepting.specs.ReadLanguage.{Stated, ReadsLanguage}
 use Rattle.sx_headers.specs.ModuleFiles.{module_file}

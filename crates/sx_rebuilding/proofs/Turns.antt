@@ -19,7 +19,7 @@ use Rattle.sx_headers.specs.ReadModule.{Module}
 use Rattle.sx_importing.specs.ReadImports.{ImportData, ReadsImports}
 use Rattle.sx_compiling.specs.MakeUnit.{MakesUnit}
 use Rattle.sx_closure.specs.ReadModules.{module_name}
-use Rattle.sx_build.specs.BuildModules.{BuildProgress, grown, given_in, ShowsUnit, MakesWith, MakesNext}
+use Rattle.sx_build.specs.BuildModules.{BuildProgress, with_unit, given_in, ShowsUnit, MakesWith, MakesNext}
 use Rattle.sx_build.specs.BuildModules.{MakesAfter}
 use Rattle.sx_build.specs.MadeModules.{Made, made_of, with_made}
 
@@ -53,9 +53,9 @@ module _ (budgets : Budgets) (old : Files) (l : Stated) where
       let unit = made.given in
       let shown = went
       (Shows (module_file m.header.name) l.language.rules start.auditors unit.list)
-      (λ auditors result. result ≡ Ok (grown start m unit auditors)) next made.goes.0 in
-      let is : next ≡ grown start m unit shown.given =
-      ok_same next (grown start m unit shown.given) shown.goes in
+      (λ auditors result. result ≡ Ok (with_unit start m unit auditors)) next made.goes.0 in
+      let is : next ≡ with_unit start m unit shown.given =
+      ok_same next (with_unit start m unit shown.given) shown.goes in
       record {
         imports = read.given;
         reads = read.begins.0;

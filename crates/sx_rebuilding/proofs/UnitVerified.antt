@@ -49,7 +49,7 @@ use Rattle.sx_compiling.proofs.UnitInterfaces.{interface_stated}
 use Rattle.sx_build.specs.BuiltModules.{HoldsTexts}
 use Rattle.sx_build.specs.MadeModules.{made_of}
 use Rattle.sx_verify.specs.Verified.{verified_plan}
-use Rattle.sx_verify.specs.VerifyModule.{both, ReadsWritten, VerifiesModule}
+use Rattle.sx_verify.specs.VerifyModule.{both_written, ReadsWritten, VerifiesModule}
 use Rattle.sx_verify.proofs.DistinctRules.{all_distinct}
 use Rattle.sx_verify.proofs.NamedRules.{stated_named}
 use Rattle.sx_compiling.proofs.BaseHeaders.{base_header, base_states}
@@ -155,7 +155,7 @@ module _ (name : List ℕ) (budgets : Budgets) (old new : Files) (g : GivenModul
           interface_stated name budgets old g u is_a_name l h
           (limited.unit budgets old g l u made) within
 
-      reads_written : ReadsWritten name new (Ok (both it base))
+      reads_written : ReadsWritten name new (Ok (both_written it base))
       reads_written = record {
         given = Ok (record { bytes = u.interface; parts = it });
         begins = record {
@@ -232,7 +232,7 @@ module _ (name : List ℕ) (budgets : Budgets) (old new : Files) (g : GivenModul
       pub unit_verified : VerifiesModule name new
           (Ok (verified_plan name (length (list_again list))))
       unit_verified = record {
-        given = Ok (both it base);
+        given = Ok (both_written it base);
         begins = reads_written;
         goes = record {
           given = Ok language.given;

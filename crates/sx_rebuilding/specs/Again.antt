@@ -1,7 +1,7 @@
 -- Commands that are given again over the files that they left.
 use Rattle.std.specs.Prelude.{◌≡◌, ℕ, List, [], Result, Ok, Contains}
 use Rattle.sx_extcheck.specs.declared.budgets.Budgets.{Budgets}
-use Rattle.sx_outside.specs.Files.{Files, after}
+use Rattle.sx_outside.specs.Files.{Files, after_writes}
 use Rattle.sx_steps.specs.declared.step_error.StepError.{StepError}
 use Rattle.sx_steps.specs.Agree.{IsSure}
 use Rattle.sx_steps.specs.Work.{Plan}
@@ -16,12 +16,12 @@ CompilesAsBefore name budgets files =
     (result : Result Plan StepError) (tries : ℕ) →
     CompilesModule name budgets [] files result tries → IsSure result →
     (plan : Plan) × (result ≡ Ok plan)
-    × ((file : List ℕ) → after plan.files files file ≡ files file)
+    × ((file : List ℕ) → after_writes plan.files files file ≡ files file)
 
 -- so it does of each module that was built without auditors, over the files that the build leaves
 abbrev pub CompilingRepeatsBuilding : Type 0
 CompilingRepeatsBuilding =
     (name : List ℕ) (budgets : Budgets) (old new : Files) (plan : Plan) (tries : ℕ) →
-    BuildsModule name budgets [] old (Ok plan) tries → new ≡ after plan.files old →
+    BuildsModule name budgets [] old (Ok plan) tries → new ≡ after_writes plan.files old →
     (modules : List Module) → ReadsModules name old (Ok modules) →
     (m : Module) → Contains modules m → CompilesAsBefore m.header.name budgets new

@@ -1,6 +1,6 @@
 -- Commands that are given again over the files that a build left.
 use Rattle.std.specs.Prelude.{◌≡◌, ℕ, false, List, [], Result, Ok, Contains}
-use Rattle.sx_outside.specs.Files.{Files, after}
+use Rattle.sx_outside.specs.Files.{Files, after_writes}
 use Rattle.sx_words.specs.Commands.{AuditWord, builds, compiles, verifies, SpellsCommand}
 use Rattle.sx_steps.specs.declared.step_error.StepError.{StepError}
 use Rattle.sx_steps.specs.Agree.{IsSure}
@@ -17,7 +17,7 @@ pub record HasBuilt (c : Call) (name : List ℕ) (tries nodes : ℕ) (audits : L
   pub plan : Plan
   pub made : ℕ
   pub comes : RunOutcome c old (Ok plan) made
-  pub leaves : new ≡ after plan.files old
+  pub leaves : new ≡ after_writes plan.files old
 
 -- one of the modules that are reached from this one by imports
 abbrev pub IsReachedByImports : (name : List ℕ) → Files → Module → Type 0
@@ -33,7 +33,7 @@ CompileRepeatsBuild =
     SpellsCommand c.words (compiles m.header.name tries nodes []) →
     (result : Result Plan StepError) (made : ℕ) → RunOutcome c new result made → IsSure result →
     (plan : Plan) × (result ≡ Ok plan)
-    × ((file : List ℕ) → after plan.files new file ≡ new file)
+    × ((file : List ℕ) → after_writes plan.files new file ≡ new file)
 
 -- Over the files that a build left, `verify` of one of the modules that were built is not refused,
 -- but for read faults and out of memory.

@@ -3,7 +3,7 @@ use Rattle.std.specs.Prelude.{◌≡◌, ℕ, ◌≤◌, true, false, List, Resu
 use Rattle.sx_lines.specs.Words.{is_name}
 use Rattle.sx_audit.specs.Meaning.{Meaning}
 use Rattle.sx_extcheck.specs.declared.budgets.Budgets.{Budgets}
-use Rattle.sx_outside.specs.Files.{Files, after}
+use Rattle.sx_outside.specs.Files.{Files, after_writes}
 use Rattle.sx_steps.specs.declared.step_error.StepError.{StepError}
 use Rattle.sx_steps.specs.Agree.{IsSure}
 use Rattle.sx_steps.specs.Steps.{Untried}
@@ -27,6 +27,6 @@ abbrev pub VerifyingFollowsBuilding : Type 0
 VerifyingFollowsBuilding =
     (name : List ℕ) (budgets : Budgets) (auditors : List Meaning) (old new : Files) (plan : Plan)
     (tries : ℕ) → is_name false name ≡ true → budgets.nodes ≤ most_budget →
-    BuildsModule name budgets auditors old (Ok plan) tries → new ≡ after plan.files old →
+    BuildsModule name budgets auditors old (Ok plan) tries → new ≡ after_writes plan.files old →
     (modules : List Module) → ReadsModules name old (Ok modules) →
     (m : Module) → Contains modules m → VerifiesWell m.header.name new

@@ -9,7 +9,7 @@ use Rattle.sx_rewrite.specs.declared.flat.Flat.{Flat}
 use Rattle.sx_rewrite.specs.Accepted.{ExtRule, Checked, checked, rule_in, Accepted, extended_rules}
 use Rattle.sx_rewrite.specs.Accepted.{IsAccepted}
 use Rattle.sx_rewrite.specs.Sound.{AreSoundBy}
-use Rattle.sx_rewrite.specs.Extensions.{StoredExtension, with_table, extended, FitsRules}
+use Rattle.sx_rewrite.specs.Extensions.{StoredExtension, with_table, extended_by, FitsRules}
 use Rattle.sx_rewrite.specs.Extensions.{without_extensions, HasGrownSoundly}
 use Rattle.sx_rewrite.specs.Stored.{checked_with, checked_of, accepted_from, signature_of}
 use Rattle.sx_rewrite.specs.Stored.{IsSetHeld}
@@ -54,7 +54,7 @@ module _ (base old new : List Rule) (table : Table) (flats : List Flat) (first :
   abbrev pub extension : StoredExtension
   extension = record { rules = exts; stored = checked_of rules more; table = ext_table }
 
-  pub added-as : accepted_from base new ext_table all_flats ≡ extended before extension
+  pub added-as : accepted_from base new ext_table all_flats ≡ extended_by before extension
   added-as =
       let within : length base ≤ length old = omega (arith, counted, many) in
       let dropped = ap (drop (length base)) grown ∙ drop-both (length base) old rules within in
@@ -79,7 +79,7 @@ module _ (base old new : List Rule) (table : Table) (flats : List Flat) (first :
         let ok = accepted_sets_grow sig base_shapes shapes all before extension held.accepted fits sound in
         let moved = subst (λ (a : Accepted). IsAccepted sig base_shapes all a) (sym added-as) ok in
         let own_rules = ap (λ (x : List Rule). extended_rules before ++ x) (checked-rules rules more lengths) in
-        let rules_are : new ≡ extended_rules (extended before extension) = grown ∙ ap (λ (x : List Rule). x ++ rules) held.rules_are ∙ sym own_rules ∙ sym (all-rules base before.more extension.stored) in
+        let rules_are : new ≡ extended_rules (extended_by before extension) = grown ∙ ap (λ (x : List Rule). x ++ rules) held.rules_are ∙ sym own_rules ∙ sym (all-rules base before.more extension.stored) in
         record {
           accepted = subst (λ (x : List Shape). IsAccepted sig base_shapes x (accepted_from base new ext_table all_flats)) (sym shapes_are) moved;
           rules_are = rules_are ∙ ap extended_rules (sym added-as);

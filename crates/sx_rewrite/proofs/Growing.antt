@@ -17,7 +17,7 @@ use Rattle.sx_rewrite.specs.Accepted.{ExtRule, Checked, flat_conclusion, Known, 
 use Rattle.sx_rewrite.specs.Accepted.{rule_in, Accepted, extended_rules, AllCertified}
 use Rattle.sx_rewrite.specs.Accepted.{AllDisciplined, Signature, IsAccepted}
 use Rattle.sx_rewrite.specs.Sound.{AreSoundBy}
-use Rattle.sx_rewrite.specs.Extensions.{with_table, extended, BodiesFit, ShapesGoOn}
+use Rattle.sx_rewrite.specs.Extensions.{with_table, extended_by, BodiesFit, ShapesGoOn}
 use Rattle.sx_rewrite.specs.AcceptLaws.{BaseRulesAreAccepted, AcceptedSetsGrow, GrowthGoesOn}
 use Rattle.sx_rewrite.proofs.LoweredSorted.{more-sorted, list-more-sorted}
 use Rattle.sx_rewrite.proofs.Sound.{sound_rules_are_sorted}
@@ -221,5 +221,5 @@ accepted_sets_grow sig base shapes all a e ok x s =
     }
 
 pub growth_goes_on : GrowthGoesOn
-growth_goes_on subjects n start a [] e g s = (subst (λ (b : Accepted). AreSoundBy subjects n (with_table b e.table) e.rules e.stored) (sym g) s, ap (λ (b : Accepted). extended b e) g)
-growth_goes_on subjects n start a (x ∷ xs) e g s = (g.0, growth_goes_on subjects n (extended start x) a xs e g.1 s)
+growth_goes_on subjects n start a [] e g s = (subst (λ (b : Accepted). AreSoundBy subjects n (with_table b e.table) e.rules e.stored) (sym g) s, ap (λ (b : Accepted). extended_by b e) g)
+growth_goes_on subjects n start a (x ∷ xs) e g s = (g.0, growth_goes_on subjects n (extended_by start x) a xs e g.1 s)

@@ -8,7 +8,7 @@ use Rattle.sx_rewrite.specs.declared.accepted.Accepted.{Accepted}
 use Rattle.sx_rewrite.specs.declared.extension_data.ExtensionData.{ExtensionData}
 use Rattle.sx_rewrite.specs.declared.grown.Grown.{Grown}
 use Rattle.sx_rewrite.specs.declared.flat.Flat.{Flat}
-use Rattle.sx_rewrite.specs.Extensions.{extended}
+use Rattle.sx_rewrite.specs.Extensions.{extended_by}
 use Rattle.sx_rewrite.specs.Stored.{accepted_from}
 use Rattle.sx_rewrite.specs.AcceptedView.{accepted}
 use Rattle.sx_rewrite.specs.ExtensionView.{named_rules, extension_with}
@@ -16,7 +16,7 @@ use Rattle.sx_rewrite.specs.Adds.{IsSetJoined, IsExtensionAdded}
 
 pub added-by : (old : Accepted) (grown : Grown) (ext : ExtensionData) (all : List Shape) (flats : List Flat) (r : Result Accepted Accepted) → IsSetJoined old grown ext.plain flats r →
     shapes_in grown.rules ≡ all → rules_in grown.rules ≡ rules_in old.rules ++ named_rules ext →
-    accepted_from (bare_rules_in old.base) (bare_rules_in grown.rules) (table_of ext.plain) (old.flats.items ++ flats) ≡ extended (accepted old) (extension_with ext flats) →
+    accepted_from (bare_rules_in old.base) (bare_rules_in grown.rules) (table_of ext.plain) (old.flats.items ++ flats) ≡ extended_by (accepted old) (extension_with ext flats) →
     IsExtensionAdded old all ext flats r
 added-by old grown ext all flats (Ok new) (base_is, rules_are, plain_is, flats_are) s n e = (
   base_is,

@@ -15,7 +15,7 @@ use Rattle.sx_rules.proofs.ProofRows.{proof-at_by}
 use Rattle.sx_rewrite.specs.declared.put_terms.PutTerms.{PutTerms}
 use Rattle.sx_rewrite.specs.declared.rewrite_error.RewriteError.{RewriteError}
 use Rattle.sx_rewrite.specs.declared.rewrite_error.RewriteError.TheVariants.{Memory}
-use Rattle.sx_rewrite.specs.Givens.{givens_of, givens_of_all, numbered, all_numbered}
+use Rattle.sx_rewrite.specs.Givens.{givens_of, givens_of_all, numbered_proof, all_numbered}
 use Rattle.sx_rewrite.specs.Measured.{node_terms, certificate_terms, certificate_terms_of}
 use Rattle.sx_rewrite.specs.Rewriting.{RewriteRefusal, first_over}
 use Rattle.sx_rewrite.specs.Puts.{Tells, Answers}
@@ -91,7 +91,7 @@ module _ (rules : List Rule) (puts : PutTerms) (kids : List (Box ProofOf Global)
 
     -- or it is made
     pub kids-step : (new : Box ProofOf Global) (then : List ℕ) → then ≡ now ++ givens_of (proof p) →
-        ((more : List Tree) → ArePut more puts → (first_over (certificate_terms rules (bound_by more) (proof p)) ≡ None) × (proof new.value ≡ numbered (length now) (proof_instance (bound_by more) (proof p)))) →
+        ((more : List Tree) → ArePut more puts → (first_over (certificate_terms rules (bound_by more) (proof p)) ≡ None) × (proof new.value ≡ numbered_proof (length now) (proof_instance (bound_by more) (proof p)))) →
         KidsSoFar rules puts kids (i + 1) old then (made ++ new ∷ [])
     kids-step new then e f = record {
       givens_are =
@@ -112,7 +112,7 @@ module _ (rules : List Rule) (puts : PutTerms) (kids : List (Box ProofOf Global)
                 ap (λ (xs : List Proof). after xs (all_numbered (length then) (proof_instances s (boxed (drop (i + 1) kids))))) (map-append (λ x. proof x.value) made (new ∷ []))
                 ∙ after-one (views made) (proof new.value) (all_numbered (length then) (proof_instances s (boxed (drop (i + 1) kids))))
                 ∙ ap (λ (x : Proof). after (views made) (x ⊳ all_numbered (length then) (proof_instances s (boxed (drop (i + 1) kids))))) g.1
-                ∙ sym (ap (λ (m : ℕ). after (views made) (numbered (length now) (proof_instance s (proof p)) ⊳ all_numbered m (proof_instances s (boxed (drop (i + 1) kids))))) n)
+                ∙ sym (ap (λ (m : ℕ). after (views made) (numbered_proof (length now) (proof_instance s (proof p)) ⊳ all_numbered m (proof_instances s (boxed (drop (i + 1) kids))))) n)
                 ∙ sym (ap (λ (x : Proofs). after (views made) (all_numbered (length now) (proof_instances s x))) here)
                 ∙ w.made_are;
           };
@@ -170,20 +170,20 @@ module _ (p : ProofOf) (rule : ℕ) (binds : Vec Term Global) (kids : Vec (Box P
         (first_over (node_terms (slice_get rules rule) (map (instance s) (map tree terms))) ≡ None) × (made ≡ map (instance s) (map tree terms)) →
         (first_over (certificate_terms_of rules s (boxed parts)) ≡ None) × (new ≡ all_numbered n (proof_instances s (boxed parts))) →
         MatchResult result (λ x. proof x.value ≡ by rule made new) (λ e. e ≡ Memory) →
-        Answers (first_over (certificate_terms rules s (proof p))) (λ x. proof x.value ≡ numbered n (proof_instance s (proof p))) result
+        Answers (first_over (certificate_terms rules s (proof p))) (λ x. proof x.value ≡ numbered_proof n (proof_instance s (proof p))) result
     node-answers n made new (Err e) a b h = subst (λ (x : RewriteError). Tells (first_over (certificate_terms rules s (proof p))) x) (sym h) tt
     node-answers n made new (Ok x) a b h = (
       ap (λ (q : Proof). first_over (certificate_terms rules s q)) node-view ∙ over-right own (certificate_terms_of rules s (boxed parts)) a.0 ∙ b.0,
       h ∙ ap (λ (ts : List Tree). by rule ts new) a.1 ∙ ap (by rule (map (instance s) (map tree terms))) b.1
-          ∙ sym (ap (λ (q : Proof). numbered n (proof_instance s q)) node-view),
+          ∙ sym (ap (λ (q : Proof). numbered_proof n (proof_instance s q)) node-view),
     )
 
 -- a given is no term
 pub given-answers : (p : ProofOf) (i : ℕ) (rules : List Rule) (s : ℕ → Tree) (n : ℕ) (result : Result (Box ProofOf Global) RewriteError) → p ≡ Given i →
     MatchResult result (λ x. proof x.value ≡ given n) (λ e. e ≡ Memory) →
-    Answers (first_over (certificate_terms rules s (proof p))) (λ x. proof x.value ≡ numbered n (proof_instance s (proof p))) result
+    Answers (first_over (certificate_terms rules s (proof p))) (λ x. proof x.value ≡ numbered_proof n (proof_instance s (proof p))) result
 given-answers p i rules s n (Ok x) is h =
-    (ap (λ (q : ProofOf). first_over (certificate_terms rules s (proof q))) is, h ∙ sym (ap (λ (q : ProofOf). numbered n (proof_instance s (proof q))) is))
+    (ap (λ (q : ProofOf). first_over (certificate_terms rules s (proof q))) is, h ∙ sym (ap (λ (q : ProofOf). numbered_proof n (proof_instance s (proof q))) is))
 given-answers p i rules s n (Err e) is h = subst (λ (x : RewriteError). Tells (first_over (certificate_terms rules s (proof p))) x) (sym h) tt
 
 pub any-ok : {X E : Type 0} (r : Result X E) (P : Type 0) → P → IfOk r (λ x. P)

@@ -22,16 +22,16 @@ use Rattle.sx_rewrite.specs.Measured.{is_used, is_used_among}
 use Rattle.sx_rewrite.specs.Copied.{times_given, times_given_in}
 use Rattle.sx_rewrite.specs.Counts.{own_nodes, own_nodes_of, own_height, own_height_of, nodes_above}
 use Rattle.sx_rewrite.specs.Counts.{nodes_above_in}
-use Rattle.sx_rewrite.specs.Sizes.{in_u128, unused_givens, noted, AreUsesOf}
+use Rattle.sx_rewrite.specs.Sizes.{in_u128, unused_givens, noted_givens, AreUsesOf}
 use Rattle.sx_rewrite.proofs.Summed.{nothing-above}
 use Rattle.sx_rewrite.proofs.SizeLaws.{stands-times, stand-times, none-positive}
 
 -- the uses with those in the proofs, and in a proof
 abbrev pub noted_in : Proofs → ℕ → ℕ → List GivenUse → List GivenUse
-noted_in ps over i us = noted (λ j. times_given_in j ps) (λ j. is_used_among j ps) (λ j. nodes_above_in j ps) over i us
+noted_in ps over i us = noted_givens (λ j. times_given_in j ps) (λ j. is_used_among j ps) (λ j. nodes_above_in j ps) over i us
 
 abbrev pub noted_by : Proof → ℕ → ℕ → List GivenUse → List GivenUse
-noted_by p over i us = noted (λ j. times_given j p) (λ j. is_used j p) (λ j. nodes_above j p) over i us
+noted_by p over i us = noted_givens (λ j. times_given j p) (λ j. is_used j p) (λ j. nodes_above j p) over i us
 
 -- no proofs use nothing
 pub noted-none : (over i : ℕ) (us : List GivenUse) → noted_in no_more over i us ≡ us

@@ -9,7 +9,7 @@ use Rattle.sx_rules.specs.Derivations.{Proof, Proofs, by, given, no_more, ◌⊳
 use Rattle.sx_rules.specs.Derivations.{proof_instance, proof_instances, graft, grafts, height_of}
 use Rattle.sx_rules.specs.Derivations.{most_height}
 use Rattle.sx_rewrite.proofs.KidInstances.{givens-instance}
-use Rattle.sx_rewrite.specs.Givens.{givens_of, givens_of_all, numbered, all_numbered, placed_at}
+use Rattle.sx_rewrite.specs.Givens.{givens_of, givens_of_all, numbered_proof, all_numbered, placed_at}
 use Rattle.sx_rewrite.specs.Givens.{CountUpFrom}
 
 -- from a number on the proofs are those of the givens
@@ -36,7 +36,7 @@ placed_at-at proofs [] = tt
 placed_at-at proofs (g ∷ gs) = (refl, at-later proofs (placed_at proofs gs) (put_for (proof_at proofs g) g) 0 gs (placed_at-at proofs gs))
 
 mutual
-  graft-at : (proofs ks : Proofs) (n : ℕ) (p : Proof) → AreAt proofs ks n (givens_of p) → graft ks (numbered n p) ≡ graft proofs p
+  graft-at : (proofs ks : Proofs) (n : ℕ) (p : Proof) → AreAt proofs ks n (givens_of p) → graft ks (numbered_proof n p) ≡ graft proofs p
   graft-at proofs ks n (by r binds kids) h = ap (by r binds) (grafts-at proofs ks n kids h)
   graft-at proofs ks n (given i) h = ap (λ (o : Option Proof). put_for o n) h.0
 
@@ -47,7 +47,7 @@ mutual
       let b = grafts-at proofs ks (n + length (givens_of p)) ps (at-back proofs ks n (givens_of p) (givens_of_all ps) h) in cc
 
 -- where givens are numbered, the kids at their places stand for the kids
-pub graft-placed : (proofs : Proofs) (p : Proof) → graft (placed_at proofs (givens_of p)) (numbered 0 p) ≡ graft proofs p
+pub graft-placed : (proofs : Proofs) (p : Proof) → graft (placed_at proofs (givens_of p)) (numbered_proof 0 p) ≡ graft proofs p
 graft-placed proofs p = graft-at proofs (placed_at proofs (givens_of p)) 0 p (placed_at-at proofs (givens_of p))
 
 -- givens that are numbered count up
@@ -62,7 +62,7 @@ numbered-both n (x ∷ xs) ys h k =
     (h.0, numbered-both (suc n) xs ys h.1 (subst (λ (m : ℕ). CountUpFrom m ys) e k))
 
 mutual
-  pub numbered-many : (n : ℕ) (p : Proof) → length (givens_of (numbered n p)) ≡ length (givens_of p)
+  pub numbered-many : (n : ℕ) (p : Proof) → length (givens_of (numbered_proof n p)) ≡ length (givens_of p)
   numbered-many n (by r binds kids) = all_numbered-many n kids
   numbered-many n (given i) = refl
 
@@ -71,19 +71,19 @@ mutual
   all_numbered-many n (p ⊳ ps) =
       let a = numbered-many n p in
       let b = all_numbered-many (n + length (givens_of p)) ps in
-      let c = many-both (givens_of (numbered n p)) (givens_of_all (all_numbered (n + length (givens_of p)) ps)) in
+      let c = many-both (givens_of (numbered_proof n p)) (givens_of_all (all_numbered (n + length (givens_of p)) ps)) in
       let d = many-both (givens_of p) (givens_of_all ps) in omega (arith, a, b, c, d)
 
 mutual
-  pub numbered-counts : (n : ℕ) (p : Proof) → CountUpFrom n (givens_of (numbered n p))
+  pub numbered-counts : (n : ℕ) (p : Proof) → CountUpFrom n (givens_of (numbered_proof n p))
   numbered-counts n (by r binds kids) = all_numbered-count n kids
   numbered-counts n (given i) = (refl, tt)
 
   all_numbered-count : (n : ℕ) (ps : Proofs) → CountUpFrom n (givens_of_all (all_numbered n ps))
   all_numbered-count n no_more = tt
   all_numbered-count n (p ⊳ ps) =
-      let e : n + length (givens_of p) ≡ n + length (givens_of (numbered n p)) = (let m = numbered-many n p in omega (arith, m)) in
-      numbered-both n (givens_of (numbered n p)) (givens_of_all (all_numbered (n + length (givens_of p)) ps)) (numbered-counts n p)
+      let e : n + length (givens_of p) ≡ n + length (givens_of (numbered_proof n p)) = (let m = numbered-many n p in omega (arith, m)) in
+      numbered-both n (givens_of (numbered_proof n p)) (givens_of_all (all_numbered (n + length (givens_of p)) ps)) (numbered-counts n p)
       (subst (λ (m : ℕ). CountUpFrom m (givens_of_all (all_numbered (n + length (givens_of p)) ps))) e (all_numbered-count (n + length (givens_of p)) ps))
 
 -- an instance is as deep
@@ -117,7 +117,7 @@ length-placed qs ks gs e = go (map (λ k. proof k.value) ks) gs e (length-map ks
     go ps xs f l = sym l ∙ sym (many-row ps) ∙ ap many f ∙ many-placed xs
 
 -- the instance of a certificate with kids at its places
-module _ (cert : Proof) (s : ℕ → Tree) (kids ks : List (Box ProofOf Global)) (body : Proof) (gs : List ℕ) (givens : gs ≡ [] ++ givens_of cert) (is : body ≡ numbered 0 (proof_instance s cert)) (at : boxed ks ≡ placed_at (boxed kids) gs) where
+module _ (cert : Proof) (s : ℕ → Tree) (kids ks : List (Box ProofOf Global)) (body : Proof) (gs : List ℕ) (givens : gs ≡ [] ++ givens_of cert) (is : body ≡ numbered_proof 0 (proof_instance s cert)) (at : boxed ks ≡ placed_at (boxed kids) gs) where
   placed_at-instance : boxed ks ≡ placed_at (boxed kids) (givens_of (proof_instance s cert))
   placed_at-instance = at ∙ ap (placed_at (boxed kids)) (givens ∙ sym (givens-instance s cert))
 

@@ -17,7 +17,7 @@ use Rattle.sx_rewrite.specs.Accepted.{ExtRule, Checked, flat_conclusion, IsCerti
 use Rattle.sx_rewrite.specs.Accepted.{AreTypedSorts, AllDisciplined, Signature, IsAccepted}
 use Rattle.sx_rewrite.specs.Sound.{HasBaseSyntax, flat_given, flat_goal, IsSoundBy, AreSoundBy}
 use Rattle.sx_rewrite.specs.Accepting.{IsStored, IsRejected}
-use Rattle.sx_rewrite.specs.Extensions.{StoredExtension, without_extensions, with_table, extended}
+use Rattle.sx_rewrite.specs.Extensions.{StoredExtension, without_extensions, with_table, extended_by}
 use Rattle.sx_rewrite.specs.Extensions.{GrowsSoundly, BodyFits, FitsRules}
 
 -- a certificate holds for all terms that are put for the rule's variables: from derivations
@@ -89,7 +89,7 @@ AcceptedSetsGrow =
     IsAccepted sig base shapes a →
     FitsRules sig base shapes all a.table e.table e.rules →
     AreSoundBy sig.subjects (length base) (with_table a e.table) e.rules e.stored →
-    IsAccepted sig base all (extended a e)
+    IsAccepted sig base all (extended_by a e)
 
 -- what has grown soundly goes on to
 abbrev pub GrowthGoesOn : Type 0
@@ -98,4 +98,4 @@ GrowthGoesOn =
     (e : StoredExtension) →
     GrowsSoundly subjects n start es a →
     AreSoundBy subjects n (with_table a e.table) e.rules e.stored →
-    GrowsSoundly subjects n start (es ++ e ∷ []) (extended a e)
+    GrowsSoundly subjects n start (es ++ e ∷ []) (extended_by a e)

@@ -7,7 +7,7 @@ use Rattle.sx_rewrite.specs.declared.accepted.Accepted.{Accepted}
 use Rattle.sx_rewrite.specs.declared.grown.Grown.{Grown}
 use Rattle.sx_rewrite.specs.declared.extension_data.ExtensionData.{ExtensionData}
 use Rattle.sx_rewrite.specs.declared.flat.Flat.{Flat}
-use Rattle.sx_rewrite.specs.Extensions.{extended}
+use Rattle.sx_rewrite.specs.Extensions.{extended_by}
 use Rattle.sx_rewrite.specs.AcceptedView.{accepted}
 use Rattle.sx_rewrite.specs.ExtensionView.{named_rules, extension_with}
 
@@ -33,5 +33,5 @@ abbrev pub IsExtensionAdded : Accepted → List Shape → ExtensionData → List
 IsExtensionAdded old all ext flats (Ok new) =
     (new.base ≡ old.base) × (shapes_in new.rules ≡ all)
     × (rules_in new.rules ≡ rules_in old.rules ++ named_rules ext)
-    × (accepted new ≡ extended (accepted old) (extension_with ext flats))
+    × (accepted new ≡ extended_by (accepted old) (extension_with ext flats))
 IsExtensionAdded old all ext flats (Err kept) = IsAsBefore old kept

@@ -28,15 +28,15 @@ abbrev pub with_table : Accepted → Table → Accepted
 with_table a table = record { base = a.base; more = a.more; table = table }
 
 -- the set with the extension after it
-abbrev pub extended : Accepted → StoredExtension → Accepted
-extended a e = record { base = a.base; more = a.more ++ e.stored; table = e.table }
+abbrev pub extended_by : Accepted → StoredExtension → Accepted
+extended_by a e = record { base = a.base; more = a.more ++ e.stored; table = e.table }
 
 -- the set grows by the extensions in order, and the rules of each are sound after those before it
 abbrev pub GrowsSoundly : Modes → ℕ → Accepted → List StoredExtension → Accepted → Type 0
 GrowsSoundly subjects n start [] a = start ≡ a
 GrowsSoundly subjects n start (e ∷ es) a =
     AreSoundBy subjects n (with_table start e.table) e.rules e.stored
-    × GrowsSoundly subjects n (extended start e) es a
+    × GrowsSoundly subjects n (extended_by start e) es a
 
 -- where the conclusion has a subject stands a body of its sort,
 -- whose typed constructors are those before the extension: their labels are below n

@@ -21,14 +21,14 @@ CountUpFrom first (i ∷ is) = (i ≡ first) × CountUpFrom (suc first) is
 
 -- the proof with its givens numbered from the first number on, in preorder
 abbrev mutual
-  pub numbered : ℕ → Proof → Proof
-  numbered first (by r binds kids) = by r binds (all_numbered first kids)
-  numbered first (given i) = given first
+  pub numbered_proof : ℕ → Proof → Proof
+  numbered_proof first (by r binds kids) = by r binds (all_numbered first kids)
+  numbered_proof first (given i) = given first
 
   -- the proofs with theirs numbered, one proof after another
   pub all_numbered : ℕ → Proofs → Proofs
   all_numbered first no_more = no_more
-  all_numbered first (p ⊳ ps) = numbered first p ⊳ all_numbered (first + length (givens_of p)) ps
+  all_numbered first (p ⊳ ps) = numbered_proof first p ⊳ all_numbered (first + length (givens_of p)) ps
 
 -- the proof at each of the numbers, one after another
 abbrev pub placed_at : Proofs → List ℕ → Proofs

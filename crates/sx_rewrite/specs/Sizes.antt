@@ -27,14 +27,14 @@ unused_givens (suc n) = record { times = 0; above = 0 } ∷ unused_givens n
 
 -- the uses of the givens from i on, with those in a proof under so many nodes,
 -- by how often each stands, whether it does, and how many nodes are above it there
-abbrev pub noted : (ℕ → ℕ) → (ℕ → Bool) → (ℕ → ℕ) → ℕ → ℕ → List GivenUse → List GivenUse
-noted times stands above over i [] = []
-noted times stands above over i (u ∷ us) =
+abbrev pub noted_givens : (ℕ → ℕ) → (ℕ → Bool) → (ℕ → ℕ) → ℕ → ℕ → List GivenUse → List GivenUse
+noted_givens times stands above over i [] = []
+noted_givens times stands above over i (u ∷ us) =
     (if stands i then record {
       times = in_u128 (u.times + times i);
       above = max u.above (over + above i);
     } else u)
-    ∷ noted times stands above over (i + 1) us
+    ∷ noted_givens times stands above over (i + 1) us
 
 -- how often the given i stands in the certificate,
 -- and how many nodes stand above its deepest place, or 0 where it does not stand

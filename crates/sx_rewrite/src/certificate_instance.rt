@@ -8,7 +8,7 @@ ghost use Rattle.sx_term.specs.Instances.{bound_by};
 ghost use Rattle.sx_rules.specs.Derivations as spec;
 ghost use Rattle.sx_rules.specs.ProofView as view;
 ghost use Rattle.sx_rules.specs.Sets.{bare_rules_in};
-ghost use Rattle.sx_rewrite.specs.Givens.{givens_of, givens_of_all, numbered, all_numbered};
+ghost use Rattle.sx_rewrite.specs.Givens.{givens_of, givens_of_all, numbered_proof, all_numbered};
 ghost use Rattle.sx_rewrite.specs.Rewriting.{first_over};
 ghost use Rattle.sx_rewrite.specs.Measured.{certificate_terms, certificate_terms_of};
 ghost use Rattle.sx_rewrite.specs.Puts.{Answers};
@@ -41,7 +41,7 @@ pub(crate) fn certificate_instance(
         Answers (first_over
         (certificate_terms (bare_rules_in base.now) (bound_by more)
         (view.proof certificate.now)))
-        (λ x. view.proof x.value ≡ numbered (length givens.old.items)
+        (λ x. view.proof x.value ≡ numbered_proof (length givens.old.items)
         (spec.proof_instance (bound_by more) (view.proof certificate.now))) result }
     ensures givens { IfOk result
         (λ _. givens.new.items ≡ givens.old.items ++ givens_of (view.proof certificate.now)) }

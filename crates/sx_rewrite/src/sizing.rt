@@ -11,7 +11,7 @@ ghost use Rattle.sx_rewrite.specs.Measured.{is_used};
 ghost use Rattle.sx_rewrite.specs.Copied.{times_given};
 ghost use Rattle.sx_rewrite.specs.Counts as count;
 ghost use Rattle.sx_rewrite.specs.Shallow.{IsShallowFlat};
-ghost use Rattle.sx_rewrite.specs.Sizes.{in_u128, unused_givens, noted, AreUsesOf, AreSizesOf};
+ghost use Rattle.sx_rewrite.specs.Sizes.{in_u128, unused_givens, noted_givens, AreUsesOf, AreSizesOf};
 ghost use Rattle.sx_rules.specs.Limits.{most_levels};
 
 use crate::certificate_size::CertificateSize;
@@ -104,7 +104,7 @@ fn note(proof: &Proof, above: u32, uses: &mut Vec<GivenUse>) -> OwnSize
     requires shallow { above + height_of (view.proof proof.now) ≤ most_levels + 1 }
     ensures nodes { result.nodes ≡ in_u128 (count.own_nodes (view.proof proof.now)) }
     ensures height { result.height ≡ count.own_height (view.proof proof.now) }
-    ensures uses { uses.new.items ≡ noted (λ i. times_given i (view.proof proof.now))
+    ensures uses { uses.new.items ≡ noted_givens (λ i. times_given i (view.proof proof.now))
         (λ i. is_used i (view.proof proof.now))
         (λ i. count.nodes_above i (view.proof proof.now)) above 0 uses.old.items }
 {

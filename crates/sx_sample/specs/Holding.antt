@@ -1,6 +1,6 @@
 -- The files that the sample module needs.
 use Rattle.std.specs.Prelude.{ℕ, [], ◌∷◌, codes}
-use Rattle.sx_outside.specs.Files.{Files, after, no_files}
+use Rattle.sx_outside.specs.Files.{Files, after_writes, no_files}
 use Rattle.sx_sample.specs.declared.texts.TheConstants.{LAM_LANG, LET_EXT}
 use Rattle.sx_sample.specs.Samples.{sample_text}
 

@@ -3,7 +3,7 @@ use Rattle.std.proofs.Common.{◌≡◌, ℕ, ◌+◌, refl, ap, ◌∙◌, subs
 use Rattle.std.specs.Prelude.{true, false, Result, Ok, Err}
 use Rattle.sx_lines.specs.Words.{is_name}
 use Rattle.sx_unit.specs.Written.{UnitData}
-use Rattle.sx_outside.specs.Files.{Files, after}
+use Rattle.sx_outside.specs.Files.{Files, after_writes}
 use Rattle.sx_steps.specs.declared.step_error.StepError.{StepError}
 use Rattle.sx_steps.specs.Steps.{Untried, GoesOn}
 use Rattle.sx_steps.specs.Work.{Plan}
@@ -84,7 +84,7 @@ samples_keep_promise number old new plan tries samples files_are =
     let planned = plan_made number plan tries samples in
     let f = planned.made.found in
     let left : new ≡ old =
-    files_are ∙ ap (λ (p : Plan). after p.files old) planned.is in
+    files_are ∙ ap (λ (p : Plan). after_writes p.files old) planned.is in
     record {
       found = f;
       unit = planned.unit;

@@ -1,7 +1,7 @@
 -- What `sample N` promises.
 use Rattle.std.specs.Prelude.{◌≡◌, ℕ, List, Ok}
 use Rattle.sx_unit.specs.Written.{UnitData}
-use Rattle.sx_outside.specs.Files.{Files, after}
+use Rattle.sx_outside.specs.Files.{Files, after_writes}
 use Rattle.sx_steps.specs.Work.{Plan}
 use Rattle.sx_compiling.specs.Headline.{HasUnit, HasHeadline}
 use Rattle.sx_sample.specs.Holding.{sample_files}
@@ -22,7 +22,7 @@ pub record Sampled (number : ℕ) (old new : Files) (lines : List ℕ) : Type 0 
 abbrev pub SamplesKeepPromise : Type 0
 SamplesKeepPromise =
     (number : ℕ) (old new : Files) (plan : Plan) (tries : ℕ) → Samples number (Ok plan) tries →
-    new ≡ after plan.files old → Sampled number old new plan.lines
+    new ≡ after_writes plan.files old → Sampled number old new plan.lines
 
 -- and the unit whose size it tells has the headline
 abbrev pub SampledHaveHeadline : Type 0

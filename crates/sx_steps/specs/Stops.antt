@@ -17,8 +17,8 @@ use Rattle.sx_steps.specs.declared.stop.Stop.{Stop}
 use Rattle.sx_steps.specs.Refusal.{about}
 
 -- a defect of a file, at a place
-abbrev pub at : Position → List ℕ → Defect → Stop
-at place file what = record { file = file; refusal = record { place = place; defect = what } }
+abbrev pub defect_at : Position → List ℕ → Defect → Stop
+defect_at place file what = record { file = file; refusal = record { place = place; defect = what } }
 
 -- ---- files
 
@@ -42,7 +42,7 @@ bad_kind_text kind.Variable = codes "variable"
 
 -- the first bad line, and the kind of what is bad, in lower case
 abbrev pub bad_line : List ℕ → ℕ → List ℕ → Stop
-bad_line file line kind = at (Line line) file (defect.File (file_defect.Notation kind))
+bad_line file line kind = defect_at (Line line) file (defect.File (file_defect.Notation kind))
 
 -- a text, or a term of a walk or a replay, is deeper than 1,000, or has more than 1,000,000 nodes
 abbrev pub too_deep : List ℕ → ℕ → Stop
@@ -55,7 +55,7 @@ too_big file size = about file (defect.Text (text_defect.TooBig size))
 
 -- a defect of the rule with the name
 abbrev pub of_rule : List ℕ → List ℕ → RuleDefect → Stop
-of_rule file name what = at (Rule name) file (defect.Rule what)
+of_rule file name what = defect_at (Rule name) file (defect.Rule what)
 
 -- the rules are no rule set, with the names of variables as they are told; out of memory is none
 -- of these

@@ -31,7 +31,7 @@ pub fn refused_at(
     place: Position,
     defect: Defect,
 ) -> Result<Stop, NoMemory>
-    ensures { IfOk result (λ stop. stop ≡ stops.at place file.now defect) }
+    ensures { IfOk result (λ stop. stop ≡ stops.defect_at place file.now defect) }
 {
     match file.copy(alloc) {
         Ok(file) => Ok(Stop {

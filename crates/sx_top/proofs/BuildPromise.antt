@@ -1,7 +1,7 @@
 -- `build --core` keeps its promise.
 use Rattle.std.proofs.Common.{◌≡◌, ℕ, List, sym, ap, ◌∙◌, subst}
 use Rattle.std.specs.Prelude.{Ok, None}
-use Rattle.sx_outside.specs.Files.{Files, after}
+use Rattle.sx_outside.specs.Files.{Files, after_writes}
 use Rattle.sx_rules.specs.Views.{modes_of}
 use Rattle.sx_rules.specs.Modes.{AllModed}
 use Rattle.sx_rules.specs.First.{Answer}
@@ -32,7 +32,7 @@ searches_first file budget problem answer moded searches =
     found_is_first (modes_of problem.forms) (problem_rules problem) no_hypotheses moded problem.goal None budget 1 answer
     (comes_found file problem budget (walk None budget (core_goal_events problem)) answer searches)
 
-pub build_promise : (name : List ℕ) (budget : ℕ) (old new : Files) (plan : Plan) (tries : ℕ) → BuildsWhole name budget old (Ok plan) tries → new ≡ after plan.files old → BuiltUnit name old new plan.lines
+pub build_promise : (name : List ℕ) (budget : ℕ) (old new : Files) (plan : Plan) (tries : ℕ) → BuildsWhole name budget old (Ok plan) tries → new ≡ after_writes plan.files old → BuiltUnit name old new plan.lines
 unfolding core_plan
 build_promise name budget old new plan tries built files_are =
     let read = went_on _ _ _ tries built in
@@ -42,7 +42,7 @@ build_promise name budget old new plan tries built files_are =
     let answer = search.given in
     let made : plan ≡ core_plan name problem answer = cc (search.goes.0) in
     let stands = written name (subject_text problem.forms problem.goal) (list_text problem.rules (order_of answer.0)) (term_lines answer.1) old in
-    let files : new ≡ after ((core_plan name problem answer).files) old = files_are ∙ ap (λ (p : Plan). after p.files old) made in
+    let files : new ≡ after_writes ((core_plan name problem answer).files) old = files_are ∙ ap (λ (p : Plan). after_writes p.files old) made in
     subst (λ (fs : Files). BuiltUnit name old fs plan.lines) (sym files)
     (record {
       bytes = held.given;

@@ -7,7 +7,7 @@ use Rattle.sx_words.specs.declared.file_defect.FileDefect.TheVariants as file_de
 use Rattle.sx_words.specs.declared.refusal.Defect.{Defect}
 use Rattle.sx_words.specs.declared.refusal.Defect.TheVariants as defect
 use Rattle.sx_words.proofs.CommandLaws.{one_command}
-use Rattle.sx_outside.specs.Files.{Files, after}
+use Rattle.sx_outside.specs.Files.{Files, after_writes}
 use Rattle.sx_outside.specs.Faults.{Rose}
 use Rattle.sx_outside.specs.Told.{Told, WhereTold}
 use Rattle.sx_outside.specs.declared.answer.WriteAnswer.{WriteAnswer}
@@ -132,7 +132,7 @@ answered_done stop write.NoMemory is = cc
 
 -- each command keeps its promise
 kept : (command : Meant) (named : List Meaning) (plan : Plan) (old new : Files) (made : ℕ) →
-    Runs command named old (Ok plan) made → new ≡ after plan.files old →
+    Runs command named old (Ok plan) made → new ≡ after_writes plan.files old →
     Promises command named old new plan.lines
 kept (builds true name tries nodes audits) named plan old new made runs is =
     build_promise name tries old new plan made runs is
@@ -150,7 +150,7 @@ kept (samples number) named plan old new made runs is =
     samples_keep_promise number old new plan made runs is
 
 kept_by : (given : Call) (plan : Plan) (old new : Files) (tries : ℕ) →
-    RunOutcome given old (Ok plan) tries → new ≡ after plan.files old → (command : Meant) →
+    RunOutcome given old (Ok plan) tries → new ≡ after_writes plan.files old → (command : Meant) →
     SpellsCommand given.words command → (named : List Meaning) ×
     NamesFor given.auditors command (Ok named) × Promises command named old new plan.lines
 unfolding RunOutcome

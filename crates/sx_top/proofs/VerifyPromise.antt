@@ -1,7 +1,7 @@
 -- `verify --core` keeps its promise.
 use Rattle.std.proofs.Common.{◌≡◌, ℕ, List, length, sym, ap, ◌∙◌}
 use Rattle.std.specs.Prelude.{Ok, Some}
-use Rattle.sx_outside.specs.Files.{Files, after}
+use Rattle.sx_outside.specs.Files.{Files, after_writes}
 use Rattle.sx_term.specs.Tree.{Tree}
 use Rattle.sx_rules.specs.Views.{modes_of}
 use Rattle.sx_rules.specs.First.{Answer, DerivesGoal}
@@ -19,7 +19,7 @@ use Rattle.sx_steps.proofs.StepsOn.{went}
 
 -- what is replayed is the list of a derivation with the outputs
 module _ (derived : (problem : Problem) (list : List Entry) (outputs : List Tree) → IsReplayAnswer (modes_of problem.forms) (problem_rules problem) no_hypotheses problem.goal list (Ok outputs) → (answer : Answer) × DerivesGoal (modes_of problem.forms) (problem_rules problem) no_hypotheses problem.goal answer × (order_of answer.0 ≡ list) × (answer.1 ≡ outputs)) where
-  pub verify_promise : (name : List ℕ) (old new : Files) (plan : Plan) → VerifiesWhole name old (Ok plan) → new ≡ after plan.files old → VerifiedUnit name old new plan.lines
+  pub verify_promise : (name : List ℕ) (old new : Files) (plan : Plan) → VerifiesWhole name old (Ok plan) → new ≡ after_writes plan.files old → VerifiedUnit name old new plan.lines
   verify_promise name old new plan verified files_are =
       let read = went _ _ _ verified in
       let held = went _ _ _ read.begins in
@@ -46,6 +46,6 @@ module _ (derived : (problem : Problem) (list : List Entry) (outputs : List Tree
         derives = answer.1;
         in_order = answer.2;
         interface = interface_held.begins.0 ∙ ap Some (interface_held.goes ∙ ap term_lines (sym answer.3));
-        files = files_are ∙ ap (λ (p : Plan). after p.files old) made;
+        files = files_are ∙ ap (λ (p : Plan). after_writes p.files old) made;
         line = ap (λ (p : Plan). p.lines) made;
       }

@@ -1,7 +1,7 @@
 -- Writes one after another.
 use Rattle.std.proofs.Common.{◌≡◌, ℕ, zero, suc, ◌<◌, List, [], ◌∷◌, length, get_or, take, map, refl, sym, ap, subst, arith}
 use Rattle.std.specs.Prelude.{Option, Some, None}
-use Rattle.sx_outside.specs.Files.{Files, put, after}
+use Rattle.sx_outside.specs.Files.{Files, put, after_writes}
 use Rattle.sx_outside.specs.Told.{Told}
 use Rattle.sx_steps.specs.Work.{file_of}
 use Rattle.sx_top.specs.Course.{name_at}
@@ -28,7 +28,7 @@ told_goes R T (Some x) None r goes = r
 told_goes R T None second r goes = tt
 
 -- one write more
-pub after_more : (outputs : List Output) (i : ℕ) (output : Output) (old : Files) → i < length outputs → output ≡ get_or outputs i output → after (take (suc i) (map file_of outputs)) old ≡ put (after (take i (map file_of outputs)) old) output.name output.bytes.items
+pub after_more : (outputs : List Output) (i : ℕ) (output : Output) (old : Files) → i < length outputs → output ≡ get_or outputs i output → after_writes (take (suc i) (map file_of outputs)) old ≡ put (after_writes (take i (map file_of outputs)) old) output.name output.bytes.items
 after_more [] i output old below is = absurd (omega arith)
 after_more (first ∷ outputs) zero output old below is = ap (λ (o : Output). put old o.name o.bytes.items) (sym is)
 after_more (first ∷ outputs) (suc i) output old below is = after_more outputs i output (put old first.name first.bytes.items) (omega arith) is

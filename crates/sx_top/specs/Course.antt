@@ -1,7 +1,7 @@
 -- The course of a run: how far it went, what stands on the shelf after it, and what the sink got.
 use Rattle.std.specs.Prelude.{◌≡◌, ◌≢◌, ℕ, zero, suc, ◌<◌, List, [], ◌∷◌, length, take, Result, Ok}
 use Rattle.std.specs.Prelude.{Err, Option}
-use Rattle.sx_outside.specs.Files.{Files, File, after, SameBut}
+use Rattle.sx_outside.specs.Files.{Files, File, after_writes, SameBut}
 use Rattle.sx_outside.specs.Faults.{RoseWhere}
 use Rattle.sx_outside.specs.Told.{Told}
 use Rattle.sx_outside.specs.Sink.{IsAppending}
@@ -84,7 +84,7 @@ pub record WasStopped (stop : Stop) (answer : WriteAnswer) (old new : Seen) : Ty
 -- the files before this number were written, nothing was sent, and no count rose
 pub record WasShort (plan : Plan) (number : ℕ) (old new : Seen) : Type 0 where
   pub below : number < length plan.files
-  pub files : Told (λ before now. now ≡ after (take number plan.files) before) old.files new.files
+  pub files : Told (λ before now. now ≡ after_writes (take number plan.files) before) old.files new.files
   pub reads : new.reads ≡ old.reads
   pub writes : new.writes ≡ old.writes
   pub bytes : new.bytes ≡ old.bytes
@@ -102,7 +102,7 @@ pub record HasWriteFailed (plan : Plan) (number : ℕ) (answer : WriteAnswer)
     (old new : Seen) : Type 0 where
   pub below : number < length plan.files
   pub files : Told (λ before now.
-      SameBut (name_at plan.files number) (after (take number plan.files) before) now) old.files
+      SameBut (name_at plan.files number) (after_writes (take number plan.files) before) now) old.files
       new.files
   pub reads : new.reads ≡ old.reads
   pub writes : RoseWhere (Unit {0}) old.writes new.writes
@@ -111,7 +111,7 @@ pub record HasWriteFailed (plan : Plan) (number : ℕ) (answer : WriteAnswer)
 
 -- all files of the plan were written
 pub record HasWritten (plan : Plan) (answer : WriteAnswer) (old new : Seen) : Type 0 where
-  pub files : Told (λ before now. now ≡ after plan.files before) old.files new.files
+  pub files : Told (λ before now. now ≡ after_writes plan.files before) old.files new.files
   pub reads : new.reads ≡ old.reads
   pub writes : new.writes ≡ old.writes
   pub lines : Sent plan.lines answer old.bytes new.bytes old.sends new.sends

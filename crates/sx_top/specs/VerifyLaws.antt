@@ -1,6 +1,6 @@
 -- What is proved of `verify --core`.
 use Rattle.std.specs.Prelude.{◌≡◌, ℕ, ◌≤◌, List, length, Ok, Option}
-use Rattle.sx_outside.specs.Files.{Files, after}
+use Rattle.sx_outside.specs.Files.{Files, after_writes}
 use Rattle.sx_term.specs.Tree.{Tree}
 use Rattle.sx_rules.specs.Rules.{Rule, Hypotheses}
 use Rattle.sx_rules.specs.Modes.{Modes, Goal, AllModed}
@@ -39,5 +39,5 @@ BuiltIsVerified =
     ReadsCore (core_file name) files (Ok problem) →
     Searches (core_file name) budget problem (Ok answer) →
     budget ≤ most_budget → length (term_lines answer.1) ≤ most_bytes →
-    VerifiesWhole name (after ((core_plan name problem answer).files) files)
+    VerifiesWhole name (after_writes ((core_plan name problem answer).files) files)
     (Ok (verified_plan name (nodes_of answer.0)))

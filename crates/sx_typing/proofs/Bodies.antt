@@ -18,7 +18,7 @@ use Rattle.sx_earley.specs.Tokens.{plain_tokens}
 use Rattle.sx_earley.specs.Unknown.{HaveStems}
 use Rattle.sx_earley.specs.Completed.{sort_number}
 use Rattle.sx_earley.proofs.NoMetas.{no_metas, cut_has_stems}
-use Rattle.sx_forest.specs.Names.{IsMetavariable, IsMarked, AreMarked, reading_names, names_of, AddsEach}
+use Rattle.sx_forest.specs.Names.{IsMetavariable, IsMarked, AreMarked, reading_names, names_of_kids, AddsEach}
 use Rattle.sx_forest.proofs.Fits.{readings_marked}
 use Rattle.sx_notation.proofs.TextReading.{as_many_tokens}
 use Rattle.sx_typing.specs.Body.{IsCut, ReadsAs}
@@ -45,9 +45,9 @@ module _ (ts : List Token) (all : AllByRecursion IsPlain ts) where
     no_names (leaf token) h = refl
     no_names (variable token) h = absurd (no_variable ts token all h)
 
-    no_names_of : (ks : Readings) → AreMarked ts ks → names_of ts ks ≡ []
+    no_names_of : (ks : Readings) → AreMarked ts ks → names_of_kids ts ks ≡ []
     no_names_of no_readings h = refl
-    no_names_of (kid ▸ kids) h = ap (λ l. l ++ names_of ts kids) (no_names kid h.0) ∙ no_names_of
+    no_names_of (kid ▸ kids) h = ap (λ l. l ++ names_of_kids ts kids) (no_names kid h.0) ∙ no_names_of
         kids h.1
 
 nothing_added : (names new : List Text) → names ≡ [] → AddsEach [] names new → new ≡ []

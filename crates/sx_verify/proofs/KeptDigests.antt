@@ -13,7 +13,7 @@ use Rattle.sx_headers.specs.ReadModule.{Module}
 use Rattle.sx_importing.specs.KeptValues.{KeepsDigest}
 use Rattle.sx_importing.proofs.Results.{then_value}
 use Rattle.sx_verify.specs.BaseFits.{FitsBeside}
-use Rattle.sx_verify.specs.VerifyModule.{both, ComparesBase, FitsBase}
+use Rattle.sx_verify.specs.VerifyModule.{both_written, ComparesBase, FitsBase}
 
 -- the same file and the same digest that was found
 pub kept_as : (file own : List ℕ) (what : Kept) (kept found due : List ℕ)
@@ -30,9 +30,9 @@ pub base_kept : (name : List ℕ) (it : InterfaceParts) (m : Module) →
     FitsBeside (base_file name) it m (Ok tt) → (r : Result (Unit {0}) StepError) →
     Gives (λ (done : Unit {0}). done)
     (KeepsDigest (interface_file name) BaseDigest it.base (sha256 m.bytes)) r →
-    Gives (λ (done : Unit {0}). both it m) (FitsBase name it m) r
+    Gives (λ (done : Unit {0}). both_written it m) (FitsBase name it m) r
 base_kept name it m fits r kept =
-    goes_next (λ (done : Unit {0}). both it m) (FitsBeside (base_file name) it m)
+    goes_next (λ (done : Unit {0}). both_written it m) (FitsBeside (base_file name) it m)
     (λ done. ComparesBase name it m) tt r fits
     (then_value (KeepsDigest (interface_file name) BaseDigest it.base (sha256 m.bytes))
-    (both it m) r kept)
+    (both_written it m) r kept)

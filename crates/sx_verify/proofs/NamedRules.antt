@@ -26,7 +26,7 @@ use Rattle.sx_outline.specs.Outcomes.{IsReadingOutcome}
 use Rattle.sx_outline.specs.Outlined.{OutlineData, IsEnd, outline}
 use Rattle.sx_outline.specs.Stages.{Stage, at_start, at_declarations, at_body, at_plains, at_rules}
 use Rattle.sx_outline.specs.Stages.{at_premises, at_conclusion, at_end, RuleData, Numbered, State}
-use Rattle.sx_outline.specs.Stages.{start, after, ended, bodied, StepsByRow, StepsAt, rule_data}
+use Rattle.sx_outline.specs.Stages.{start, state_after_row, ended, bodied, StepsByRow, StepsAt, rule_data}
 use Rattle.sx_notation.specs.declared.language.Language.{Language as LanguageOf}
 use Rattle.sx_notation.specs.Language.{LanguageData}
 use Rattle.sx_language.specs.RuleLine.{Reader}
@@ -80,7 +80,7 @@ bodied_named (at_conclusion b) s l h k = k
 bodied_named (at_end r) s l h k = (h, k.1)
 
 after_named : (kind : FileKind) (text : List ℕ) (s : State) (number : ℕ) (row : Row) →
-    IsRow kind text row → IsNamed s → IsNamed (after s number row)
+    IsRow kind text row → IsNamed s → IsNamed (state_after_row s number row)
 after_named kind text s number (Language name) is h = h
 after_named kind text s number (Sort x) is h = h
 after_named kind text s number (Prod x) is h = h

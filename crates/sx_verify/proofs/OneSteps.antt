@@ -37,7 +37,7 @@ use Rattle.sx_verify.specs.BaseFits.{IsBaseOf, IsMisfit, IsFirstNumber, FitsBesi
 use Rattle.sx_verify.specs.KeptImports.{KeepsImport, ComparesImport, ReadsKept, ReadsAllKept}
 use Rattle.sx_verify.specs.Lists.{bad_entry, replay_stop, StatesEntries, ReadsEntries}
 use Rattle.sx_verify.specs.Replays.{ReplaysGoal, ReplaysMainGoal}
-use Rattle.sx_verify.specs.VerifyModule.{both, ComparesBase, FitsBase, ReadsBase, ReadsWritten}
+use Rattle.sx_verify.specs.VerifyModule.{both_written, ComparesBase, FitsBase, ReadsBase, ReadsWritten}
 use Rattle.sx_verify.proofs.FirstBads.{three_ways, bad_not_good, one_bad}
 
 -- ---- the base file
@@ -73,9 +73,9 @@ module _ (name : List ℕ) where
   compares_one : (it : InterfaceParts) (m : Module) → IsOne (ComparesBase name it m)
   compares_one it m =
       then_one (KeepsDigest (interface_file name) BaseDigest it.base (sha256 m.bytes))
-      (λ done result. result ≡ Ok (both it m))
+      (λ done result. result ≡ Ok (both_written it m))
       (keeps_digest_one (interface_file name) BaseDigest it.base (sha256 m.bytes))
-      (λ done kept. is_given (Ok (both it m)))
+      (λ done kept. is_given (Ok (both_written it m)))
 
   beside_one : (it : InterfaceParts) (m : Module) → IsOne (FitsBase name it m)
   beside_one it m =

@@ -12,7 +12,7 @@ use Rattle.sx_interface.specs.Stated.{StatesInterface}
 use Rattle.sx_rules.specs.First.{Answer, DerivesGoal}
 use Rattle.sx_typing.specs.Outcomes.{nameless}
 use Rattle.sx_rules.specs.Rules.{no_hypotheses}
-use Rattle.sx_outside.specs.Files.{Files, after}
+use Rattle.sx_outside.specs.Files.{Files, after_writes}
 use Rattle.sx_steps.specs.Unit.{base_file, interface_file}
 use Rattle.sx_steps.specs.Work.{Plan}
 use Rattle.sx_steps.proofs.Ones.{ok_same}
@@ -27,7 +27,7 @@ use Rattle.sx_importing.specs.Each.{GivesNext, GivesAfter}
 use Rattle.sx_importing.specs.ReadImports.{ImportData}
 use Rattle.sx_verify.specs.KeptImports.{ReadsKept, ReadsAllKept}
 use Rattle.sx_verify.specs.Verified.{verified_plan}
-use Rattle.sx_verify.specs.VerifyModule.{Written, both, ReadsWritten}
+use Rattle.sx_verify.specs.VerifyModule.{Written, both_written, ReadsWritten}
 use Rattle.sx_verify.specs.VerifiedModule.{HoldsImport, HoldImports, HoldsFiles}
 use Rattle.sx_verify.specs.VerifiedModule.{VerifiesKeepPromise}
 use Rattle.sx_verify.proofs.Replayed.{replayed_derives}
@@ -109,7 +109,7 @@ are_written name files w read =
     let kept = went _ _ _ fits.goes in
     let i : HeldInterface = interface.given in
     let m : Module = base.given in
-    let is : w ≡ both i.parts m = ok_same w (both i.parts m) kept.goes in
+    let is : w ≡ both_written i.parts m = ok_same w (both_written i.parts m) kept.goes in
     let same : m.bytes ≡ base_bytes.given = base_bytes.goes.same in
     subst (λ (x : Written). AreWritten name files x) (sym is) (record {
       own = own.given;
@@ -193,6 +193,6 @@ verify_promise name old new plan verified files_are =
           (λ i. (answer.0.0, answer.3 i)) answer.1;
       in_order = answer.2;
       signature = signed.begins;
-      same = files_are ∙ ap (λ (p : Plan). after p.files old) made;
+      same = files_are ∙ ap (λ (p : Plan). after_writes p.files old) made;
       line = ap (λ (p : Plan). p.lines) made;
     }

@@ -56,7 +56,7 @@ use Rattle.sx_verify.specs.Lists.{bad_entry, replay_stop, StatesEntries, ReadsEn
 use Rattle.sx_verify.specs.Replays.{main_goal_in, ReplaysMainGoal}
 use Rattle.sx_verify.specs.Verified.{verified_plan}
 use Rattle.sx_verify.specs.VerifyModule as spec
-use Rattle.sx_verify.specs.VerifyModule.{Written, both, ComparesBase, FitsBase, ReadsBase}
+use Rattle.sx_verify.specs.VerifyModule.{Written, both_written, ComparesBase, FitsBase, ReadsBase}
 use Rattle.sx_verify.specs.VerifyModule.{ReadsWritten, VerifiesModule}
 
 module _ (Q : Stop → Type 0) where
@@ -239,9 +239,9 @@ module _ (Q : Stop → Type 0) where
         (fits_final (base_file name) i.parts m)
         (λ done fits. then_final Q
         (KeepsDigest (interface_file name) kept.BaseDigest i.parts.base (sha256 m.bytes))
-        (λ done result. result ≡ Ok (both i.parts m))
+        (λ done result. result ≡ Ok (both_written i.parts m))
         (digest_final (interface_file name) kept.BaseDigest i.parts.base (sha256 m.bytes))
-        (λ done same. gives_final (both i.parts m)))))
+        (λ done same. gives_final (both_written i.parts m)))))
 
     module _ (w : Written) where
       output_final : (d : LanguageData) (nodes : ℕ) (output : Tree) →

@@ -16,13 +16,13 @@ use Rattle.sx_steps.specs.declared.stop.Stop.{Stop}
 use Rattle.sx_steps.specs.Held.{Held, most_list_bytes}
 use Rattle.sx_steps.specs.Refusal.{about}
 use Rattle.sx_steps.specs.Steps.{Then}
-use Rattle.sx_steps.specs.Stops.{at, too_deep, too_big}
+use Rattle.sx_steps.specs.Stops.{defect_at, too_deep, too_big}
 
 -- ---- stops
 
 -- the first line of a derivation list that is not as defined
 abbrev pub bad_entry : List ℕ → ℕ → Stop
-bad_entry file line = at (Line line) file (defect.File file_defect.BadList)
+bad_entry file line = defect_at (Line line) file (defect.File file_defect.BadList)
 
 -- the list fits no derivation
 abbrev pub unfit_list : List ℕ → ListDefect → Stop

@@ -20,7 +20,7 @@ use Rattle.sx_typing.specs.BodySource.{main_sort}
 use Rattle.sx_interface.specs.FreeNames.{AreFree}
 use Rattle.sx_unit.specs.Texts.{print_text}
 use Rattle.sx_environment.specs.Environments.{IsEnvironment}
-use Rattle.sx_outside.specs.Files.{Files, after}
+use Rattle.sx_outside.specs.Files.{Files, after_writes}
 use Rattle.sx_steps.specs.Unit.{base_file, list_file, interface_file}
 use Rattle.sx_steps.specs.Work.{Plan}
 use Rattle.sx_accepting.specs.LanguageFiles.{language_file}
@@ -105,4 +105,4 @@ pub record VerifiedModule (name : List ℕ) (old new : Files) (lines : List ℕ)
 abbrev pub VerifiesKeepPromise : Type 0
 VerifiesKeepPromise =
     (name : List ℕ) (old new : Files) (plan : Plan) → VerifiesModule name old (Ok plan) →
-    new ≡ after plan.files old → VerifiedModule name old new plan.lines
+    new ≡ after_writes plan.files old → VerifiedModule name old new plan.lines

@@ -36,8 +36,8 @@ pub record Written : Type 0 where
   pub base : Module
 
 -- the two together
-abbrev pub both : InterfaceParts → Module → Written
-both it m = record { interface = it; base = m }
+abbrev pub both_written : InterfaceParts → Module → Written
+both_written it m = record { interface = it; base = m }
 
 -- ---- the list
 
@@ -126,7 +126,7 @@ VerifiesWritten name files w =
 abbrev pub ComparesBase : (name : List ℕ) → InterfaceParts → Module → Result Written Stop → Type 0
 ComparesBase name it m =
     Then (KeepsDigest (interface_file name) kept.BaseDigest it.base (sha256 m.bytes))
-    (λ done result. result ≡ Ok (both it m))
+    (λ done result. result ≡ Ok (both_written it m))
 
 -- the header of the base file fits the interface, and then its digest
 abbrev pub FitsBase : (name : List ℕ) → InterfaceParts → Module → Result Written Stop → Type 0

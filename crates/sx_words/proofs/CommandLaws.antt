@@ -9,7 +9,8 @@ use Rattle.sx_words.specs.declared.verb.Verb.TheVariants.{Build, Compile, Check,
 use Rattle.sx_words.specs.Commands.{Given, Settings, Meant, samples, verb_word, option_word}
 use Rattle.sx_words.specs.Commands.{nothing_said, with_option, with_options, MayStand, meant}
 use Rattle.sx_words.specs.Commands.{SpellsNamed, SpellsSample, SpellsCommand}
-use Rattle.sx_words.specs.Reading.{count_of, next_option, is_option, last_word, then_option}
+use Rattle.sx_lines.specs.Words.{count_of}
+use Rattle.sx_words.specs.Reading.{next_option, is_option, last_word, then_option}
 use Rattle.sx_words.specs.Reading.{after_verb, sample_of, after_sample, verb_of, command_from}
 use Rattle.sx_words.specs.Reading.{command_of}
 use Rattle.sx_words.proofs.OptionLaws.{count_found, count_again, next_found, next_again, option_begins, name_no_option}

@@ -11,7 +11,8 @@ use Rattle.sx_words.specs.declared.words_error.WordsError.TheVariants.{Memory, W
 use Rattle.sx_lines.specs.Reading.{GivesRead}
 use Rattle.sx_words.specs.Commands.{Given, Settings, Meant, samples, nothing_said, with_option}
 use Rattle.sx_words.specs.Commands.{meant, SpellsCommand, NoneSpells, IsWordMisfit}
-use Rattle.sx_words.specs.Reading.{count_of, next_option, is_option, last_word, then_option}
+use Rattle.sx_lines.specs.Words.{count_of}
+use Rattle.sx_words.specs.Reading.{next_option, is_option, last_word, then_option}
 use Rattle.sx_words.specs.Reading.{after_verb, sample_of, after_sample, verb_of, command_from}
 use Rattle.sx_words.specs.Reading.{command_of}
 use Rattle.sx_words.specs.View.{command_view, RefusesWords, IsCommandAnswer}

@@ -12,7 +12,8 @@ use Rattle.sx_lines.proofs.WordLaws.{after_front, front_of}
 use Rattle.sx_lines.proofs.DecimalLaws.{number_again, number_spelled}
 use Rattle.sx_words.specs.declared.verb.Verb.{Verb}
 use Rattle.sx_words.specs.Commands.{Given, core, tries, nodes, audit, Settings, option_word, colon, NoColon, IsGiven, takes, is_new}
-use Rattle.sx_words.specs.Reading.{first_or, positive, count_of, at_colon, number_after, audit_after, option_of, next_option, is_option}
+use Rattle.sx_lines.specs.Words.{count_of, positive}
+use Rattle.sx_words.specs.Reading.{first_or, at_colon, number_after, audit_after, option_of, next_option, is_option}
 
 and_then_some : {A B : Type 0} (o : Option A) (f : A → Option B) (y : B) → option_and_then f o ≡ Some y → (x : A) × (o ≡ Some x) × (f x ≡ Some y)
 and_then_some (Some x) f y e = (x, refl, e)

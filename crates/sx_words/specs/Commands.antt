@@ -71,26 +71,26 @@ IsGiven (audit kind setting) = NoColon kind
 -- ---- what there is
 
 -- the table of what there is: the options that each command takes
-abbrev pub row : Verb → Row
-row Build = record {
+abbrev pub options_of : Verb → Row
+options_of Build = record {
   core = true;
   tries = true;
   nodes = true;
   audits = true;
 }
-row Compile = record {
+options_of Compile = record {
   core = false;
   tries = true;
   nodes = true;
   audits = true;
 }
-row Check = record {
+options_of Check = record {
   core = false;
   tries = true;
   nodes = true;
   audits = false;
 }
-row Verify = record {
+options_of Verify = record {
   core = true;
   tries = false;
   nodes = false;
@@ -106,7 +106,7 @@ has_option r (audit kind setting) = r.audits
 
 -- the command takes the option
 abbrev pub takes : Verb → Given → Bool
-takes verb option = has_option (row verb) option
+takes verb option = has_option (options_of verb) option
 
 -- an auditor of the kind is named
 abbrev pub has_kind : List AuditWord → List ℕ → Bool

@@ -1,9 +1,9 @@
 -- Reading words from the left.
 use Rattle.std.specs.Prelude.{ℕ, ◌+◌, ◌==◌, ◌&&◌, Bool, false, List, [], ◌∷◌, codes, Option, Some}
-use Rattle.std.specs.Prelude.{None, is_some, option_map, option_and_then, Result, Ok, Err}
+use Rattle.std.specs.Prelude.{None, is_some, option_map, Result, Ok, Err}
 use Rattle.std.specs.Prelude.{if◌then◌else◌}
 use Rattle.std.specs.Str.{bytes_eq}
-use Rattle.sx_lines.specs.Words.{after, is_name, number_within}
+use Rattle.sx_lines.specs.Words.{after, count_of, is_name}
 use Rattle.sx_words.specs.declared.verb.Verb.{Verb}
 use Rattle.sx_words.specs.declared.verb.Verb.TheVariants.{Build, Compile, Check, Verify}
 use Rattle.sx_words.specs.Commands.{Given, core, tries, nodes, audit, Settings, Meant, samples}
@@ -15,14 +15,6 @@ use Rattle.sx_term.specs.Limits.{most_budget}
 abbrev pub first_or : {A : Type 0} → Option A → Option A → Option A
 first_or (Some x) other = Some x
 first_or None other = other
-
--- the number, where it is not 0
-abbrev pub positive : ℕ → Option ℕ
-positive n = if n == 0 then None else Some n
-
--- the number from 1 to the limit that a text spells
-unfoldable pub count_of : ℕ → List ℕ → Option ℕ
-count_of limit text = option_and_then positive (number_within limit text)
 
 -- the parts of a text before and after its first colon
 unfoldable pub at_colon : List ℕ → Option (List ℕ × List ℕ)

@@ -7,7 +7,7 @@ ghost use Rattle.sx_words.specs.View.{given_view, pair_view};
 ghost use Rattle.sx_words.specs.Texts.{AreUtf8, IsGivenUtf8, IsFirstColon};
 ghost use Rattle.sx_words.specs.Commands.{NoColon};
 
-use sx_lines::{after, number_within};
+use sx_lines::{after, count_of};
 use sx_term::MOST_BUDGET;
 
 /// An option, as a word spells it.
@@ -20,23 +20,6 @@ pub(crate) enum Given<'a> {
     Nodes(u64),
     /// A kind without a colon, and a setting.
     Audit(&'a [u8], &'a [u8]),
-}
-
-/// The number from 1 to the limit that the text spells.
-#[tactic(auto, unfolding(crate::specs::Reading::count_of))]
-pub(crate) fn count_of(limit: u64, text: &[u8]) -> Option<u64>
-    ensures value { result ≡ spec.count_of limit text.now }
-    ensures within { IfSome result (λ n. n ≤ limit) }
-{
-    match number_within(limit, text) {
-        Some(number) => {
-            if number == 0 {
-                return None;
-            }
-            Some(number)
-        }
-        None => None,
-    }
 }
 
 /// The place of the first colon.

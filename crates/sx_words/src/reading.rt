@@ -3,18 +3,18 @@
 ghost use Rattle.std.specs.Prelude.{◌≡◌, ◌+◌, ◌≤◌, ◌<◌, ◌^◌, ℕ, List, [], ◌∷◌, drop, length};
 ghost use Rattle.std.specs.Prelude.{slice_index, is_some, Ok};
 ghost use Rattle.sx_lines.specs.Reading.{GivesRead};
+ghost use Rattle.sx_lines.specs.Words.{count_of};
 ghost use Rattle.sx_words.specs.Commands as command;
 ghost use Rattle.sx_words.specs.Commands.{Meant, SpellsCommand, IsWordMisfit};
 ghost use Rattle.sx_words.specs.Reading as spec;
 ghost use Rattle.sx_words.specs.View.{command_view, settings_view, RefusesWords, IsCommandAnswer};
 
 use crate::command::Command;
-use crate::given::count_of;
 use crate::options::{Options, command, option_after, say};
 use crate::verb::Verb;
 use crate::words_error::WordsError;
 use std::alloc::Global;
-use sx_lines::{after, is_name};
+use sx_lines::{after, count_of, is_name};
 use sx_term::Text;
 
 /// Whether the word begins with `--`.
@@ -88,7 +88,7 @@ fn after_verb(alloc: Global, verb: Verb, words: &[Text]) -> Result<Command, Word
 /// The sample of the size that a word spells, where no word follows it.
 fn sample(size: &Text, rest: &[Text]) -> Result<Command, WordsError>
     ensures { GivesRead command_view RefusesWords result
-        (spec.sample_of (spec.count_of 300 size.now) rest.now) }
+        (spec.sample_of (count_of 300 size.now) rest.now) }
 {
     match count_of(300, size.bytes()) {
         Some(n) => {

@@ -33,7 +33,7 @@ impl Row {
 /// The row of the command in the table of what there is. A new command, or a new option, is said
 /// here.
 pub(crate) fn row_of(verb: Verb) -> Row
-    ensures { result ≡ spec.row verb }
+    ensures { result ≡ spec.options_of verb }
 {
     match verb {
         Verb::Build => Row {

@@ -1,7 +1,7 @@
 //! The parts of a line: numbers, names, fronts and words.
 
 use crate::asserts::assert_same;
-use sx_lines::{after, is_name, number_within, split_word};
+use sx_lines::{after, count_of, is_name, number_within, split_word};
 
 /// The number that the text spells.
 fn number(text: &[u8]) -> Option<u64> {
@@ -33,6 +33,17 @@ fn numbers(rt: HostRuntime) {
         None,
     ];
     assert_same(&rt, &found, wanted);
+}
+
+#[test]
+fn counts(rt: HostRuntime) {
+    let found = [
+        count_of(300, b"1"),
+        count_of(300, b"300"),
+        count_of(300, b"0"),
+        count_of(300, b"301"),
+    ];
+    assert_same(&rt, &found, &[Some(1), Some(300), None, None]);
 }
 
 #[test]

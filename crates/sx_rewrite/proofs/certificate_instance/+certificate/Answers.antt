@@ -6,7 +6,7 @@ use Rattle.sx_rules.specs.declared.proof.Proof.{Proof as ProofOf}
 use Rattle.sx_rules.specs.Derivations.{proof_instance, proof_instances}
 use Rattle.sx_rules.specs.ProofView.{proof, boxed}
 use Rattle.sx_rules.specs.Sets.{bare_rules_in}
-use Rattle.sx_rewrite.specs.Givens.{numbered, all_numbered}
+use Rattle.sx_rewrite.specs.Givens.{numbered_proof, all_numbered}
 use Rattle.sx_rewrite.specs.Rewriting.{first_over}
 use Rattle.sx_rewrite.specs.Measured.{certificate_terms, certificate_terms_of}
 use Rattle.sx_rewrite.specs.Puts.{Tells, Answers}
@@ -23,7 +23,7 @@ certificate_instance-returns-in_err-terms-in-By-clause-body t c = λ more q.
     let rs = bare_rules_in c.args.base.now in
     let p = proof c.args.certificate.now in
     let over = first_over (certificate_terms rs (bound_by more) p) in
-    err_is (Answers over (λ x. proof x.value ≡ numbered (length c.args.givens.now.items) (proof_instance (bound_by more) p))) c.from_residual.result _ c.from_residual.ensures.1
+    err_is (Answers over (λ x. proof x.value ≡ numbered_proof (length c.args.givens.now.items) (proof_instance (bound_by more) p))) c.from_residual.result _ c.from_residual.ensures.1
     (λ e same. subst (Tells over) (sym same)
     (node-tells _ _ _ _ c.in-By.is _ c.in-By.kids.items c.deref.ensures.value refl rs (bound_by more) _ (c.in_err-terms-in-By.ensures more q)))
 
@@ -37,7 +37,7 @@ certificate_instance-returns-in_err-made-in-By-clause-body t c = λ more q.
     let rs = bare_rules_in c.args.base.now in
     let p = proof c.args.certificate.now in
     let over = first_over (certificate_terms rs (bound_by more) p) in
-    err_is (Answers over (λ x. proof x.value ≡ numbered (length c.args.givens.now.items) (proof_instance (bound_by more) p))) c.from_residual-in_err-made-in-By.result _ c.from_residual-in_err-made-in-By.ensures.1
+    err_is (Answers over (λ x. proof x.value ≡ numbered_proof (length c.args.givens.now.items) (proof_instance (bound_by more) p))) c.from_residual-in_err-made-in-By.result _ c.from_residual-in_err-made-in-By.ensures.1
     (λ e same. subst (Tells over) (sym same)
     (later-tells _ _ _ _ c.in-By.is _ _ c.deref.ensures.value c.deref-in-By.ensures.value rs (bound_by more) _ (c.in_ok-terms-in-By.ensures more q).0 (c.in_err-made-in-By.ensures.bodies more q)))
 

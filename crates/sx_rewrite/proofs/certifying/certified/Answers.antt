@@ -4,7 +4,7 @@ use Rattle.sx_term.specs.Tree.{Tree}
 use Rattle.sx_rules.specs.Derivations.{proof_instance, graft}
 use Rattle.sx_rules.specs.ProofView.{proof, boxed}
 use Rattle.sx_rules.specs.Sets.{bare_rules_in}
-use Rattle.sx_rewrite.specs.Givens.{givens_of, numbered, NumbersBelow}
+use Rattle.sx_rewrite.specs.Givens.{givens_of, numbered_proof, NumbersBelow}
 use Rattle.sx_rewrite.specs.Rewriting.{first_over}
 use Rattle.sx_rewrite.specs.Measured.{certificate_terms}
 use Rattle.sx_rewrite.specs.Puts.{Tells, Answers}
@@ -19,8 +19,8 @@ givens_are : (c : In_ok-body) → c.certificate_instance.new.givens.items ≡ []
 givens_are c = c.in_ok-body.ensures.givens ∙ ap (λ (xs : List ℕ). xs ++ givens_of (proof c.args.certificate.now)) c.new-givens.ensures.items
 
 -- the body is the instance of the certificate, with its places numbered
-body_is : (c : In_ok-body) (more : List Tree) → ArePut more c.args.puts.now → proof c.in_ok-body.body.value ≡ numbered 0 (proof_instance (bound_by more) (proof c.args.certificate.now))
-body_is c more q = (c.in_ok-body.ensures.body more q).1 ∙ ap (λ (xs : List ℕ). numbered (length xs) (proof_instance (bound_by more) (proof c.args.certificate.now))) c.new-givens.ensures.items
+body_is : (c : In_ok-body) (more : List Tree) → ArePut more c.args.puts.now → proof c.in_ok-body.body.value ≡ numbered_proof 0 (proof_instance (bound_by more) (proof c.args.certificate.now))
+body_is c more q = (c.in_ok-body.ensures.body more q).1 ∙ ap (λ (xs : List ℕ). numbered_proof (length xs) (proof_instance (bound_by more) (proof c.args.certificate.now))) c.new-givens.ensures.items
 
 pub returns-in_err-body : goal.returns-in_err-body
 returns-in_err-body c = λ more q.

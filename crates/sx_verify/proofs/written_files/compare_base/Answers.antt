@@ -8,7 +8,7 @@ use Rattle.sx_steps.specs.Unit.{base_file, interface_file}
 use Rattle.sx_steps.proofs.StepsOn.{stops_first}
 use Rattle.sx_headers.specs.ReadModule.{module_of}
 use Rattle.sx_verify.specs.BaseFits.{FitsBeside}
-use Rattle.sx_verify.specs.VerifyModule.{both, ComparesBase}
+use Rattle.sx_verify.specs.VerifyModule.{both_written, ComparesBase}
 use Rattle.sx_verify.proofs.KeptDigests.{kept_as, base_kept}
 use Rattle.sx_verify.proofs.written_files.compare_base.Goals as goal
 
@@ -30,7 +30,7 @@ returns-in-Err-clause-step c =
     let name = c.args.asked.now.name.now in
     let it = interface_view c.args.interface.now in
     let m = module_of c.args.base.now in
-    stops_first (λ (done : Unit {0}). done) (λ (done : Unit {0}). both it m)
+    stops_first (λ (done : Unit {0}). done) (λ (done : Unit {0}). both_written it m)
     (FitsBeside (base_file name) it m) (λ done. ComparesBase name it m) c.in-Err.e
     (subst (λ (file : List ℕ).
     Gives (λ (done : Unit {0}). done) (FitsBeside file it m) (Err c.in-Err.e))

@@ -4,4 +4,4 @@ use Rattle.sx_audit.specs.Kinds.{of_limit}
 use Rattle.sx_audit.proofs.depths.DepthAuditor.set.Goals as goal
 
 pub returns-in-None : goal.returns-in-None
-returns-in-None c = (refl, ap (option_map (λ (n : ℕ). of_limit n 0)) (sym c.limit.ensures ∙ c.in-None.is))
+returns-in-None c = (refl, ap (option_map (λ (n : ℕ). of_limit n 0)) (sym c.count_of.ensures.value ∙ c.in-None.is))
