@@ -75,7 +75,7 @@ module _ (name : List ℕ) (budgets : Budgets) (old new : Files) (m : Module)
     goes = refl;
   }
 
-  changes_nothing : (other : List ℕ) → after again.files new other ≡ new other
+  changes_nothing : (other : List ℕ) → after_writes again.files new other ≡ new other
   changes_nothing other =
       let texts = holds name budgets [] old new m b in
       ap (λ (fs : Files). fs other)

@@ -6,6 +6,6 @@ use Rattle.sx_sample.specs.Samples.{sample_text}
 
 -- the module with so many names, its language and its extension, and no other file
 abbrev pub sample_files : ℕ → Files
-sample_files n = after (record { name = codes "Lam.lang"; bytes = LAM_LANG.now }
+sample_files n = after_writes (record { name = codes "Lam.lang"; bytes = LAM_LANG.now }
     ∷ record { name = codes "Let.ext"; bytes = LET_EXT.now }
     ∷ record { name = codes "Sample.mod"; bytes = sample_text n } ∷ []) no_files

@@ -1,6 +1,6 @@
 -- Reading words from the left.
 use Rattle.std.specs.Prelude.{ℕ, ◌+◌, ◌==◌, ◌&&◌, Bool, false, List, [], ◌∷◌, codes, Option, Some}
-use Rattle.std.specs.Prelude.{None, is_some, option_map, Result, Ok, Err}
+use Rattle.std.specs.Prelude.{None, is_some, option_map, option_and_then, Result, Ok, Err}
 use Rattle.std.specs.Prelude.{if◌then◌else◌}
 use Rattle.std.specs.Str.{bytes_eq}
 use Rattle.sx_lines.specs.Words.{after, count_of, is_name}
