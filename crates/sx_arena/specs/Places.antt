@@ -1,10 +1,10 @@
 -- The places of a judgement that are inputs, or those that are outputs.
 use Rattle.std.specs.Prelude.{◌≡◌, ℕ, ◌-◌, ◌^◌, Bool, true, false, List, map, length, min, Option}
-use Rattle.std.specs.Prelude.{Some, None}
-use Rattle.sx_term.specs.Tree.{Tree, Trees, node}
+use Rattle.std.specs.Prelude.{Some, None, [], ◌∷◌}
+use Rattle.sx_term.specs.Tree.{Tree, node, lexeme, hole}
 use Rattle.sx_term.specs.Term.{tree}
 use Rattle.sx_rules.specs.Modes.{inputs, outputs}
-use Rattle.sx_arena.specs.Matching.{Assignment, match, match_all}
+use Rattle.sx_arena.specs.Matching.{Assignment, match_all}
 use Rattle.sx_arena.specs.Limits.{Cause, too_deep, too_big}
 use Rattle.sx_arena.specs.declared.arena.Arena.{Arena}
 use Rattle.sx_arena.specs.declared.places.Limit.{Limit}
@@ -36,9 +36,20 @@ IsLimit c (Some (TooDeep n)) = (depth : ℕ) × (c ≡ Some (too_deep depth)) ×
     (n ≡ min depth (2 ^ 64 - 1))
 IsLimit c (Some (TooBig n)) = (size : ℕ) × (c ≡ Some (too_big size)) × (n ≡ min size (2 ^ 64 - 1))
 
--- no node with that label matches the term
-abbrev pub Differs : ℕ → Tree → Type 0
-Differs label t = (ps : Trees) (env : Assignment) → match (node label ps) t env ≡ None
+-- the term is a node with the label
+abbrev pub HasLabel : ℕ → Tree → Type 0
+HasLabel label (node other kids) = label ≡ other
+HasLabel label (lexeme kind text) = ⊥
+HasLabel label (hole v) = ⊥
+
+-- the first of the patterns that is a node has the label of the term at its place; where none is,
+-- there are no fewer terms than patterns
+abbrev pub MayFit : List Tree → List Tree → Type 0
+MayFit [] ts = Unit {0}
+MayFit (p ∷ ps) [] = ⊥
+MayFit (node label kids ∷ ps) (t ∷ ts) = HasLabel label t
+MayFit (lexeme kind text ∷ ps) (t ∷ ts) = MayFit ps ts
+MayFit (hole v ∷ ps) (t ∷ ts) = MayFit ps ts
 
 -- the patterns match the terms under no bindings
 abbrev pub NeverFit : List Tree → List Tree → Type 0

@@ -1,7 +1,20 @@
 //! The places of a judgement: matching and making its inputs or its outputs, and the limits of
 //! terms.
 
-ghost use Rattle.std.specs.Prelude.{◌≡◌, ℕ, ◌≤◌, ◌<◌, false, IfOk, OnOk, length, map, get_or};
+ghost use Rattle.std.specs.Prelude.{
+  ◌≡◌,
+  ◌↔◌,
+  ℕ,
+  ◌≤◌,
+  ◌<◌,
+  false,
+  IsTrue,
+  IfOk,
+  OnOk,
+  length,
+  map,
+  get_or,
+};
 ghost use Rattle.sx_term.specs.Term.{tree};
 ghost use Rattle.sx_rules.specs.Instances.{instance};
 ghost use Rattle.sx_arena.specs.Matching.{match_all, filled};
@@ -10,7 +23,7 @@ ghost use Rattle.sx_arena.specs.Limits.{limit_passed};
 ghost use Rattle.sx_arena.specs.Arena.{trees, tree_at, IsArena, AreBelow};
 ghost use Rattle.sx_arena.specs.Binds.{envs, env_at, IsBinds, BindsGrow, IsChainFit};
 ghost use Rattle.sx_arena.specs.Views.{mask_of};
-ghost use Rattle.sx_arena.specs.Places.{selected, patterns_of, AreHeld, IsLimit, Differs, NeverFit};
+ghost use Rattle.sx_arena.specs.Places.{selected, patterns_of, AreHeld, IsLimit, HasLabel, MayFit};
 
 use crate::arena::Arena;
 use crate::binds::Binds;
@@ -42,23 +55,24 @@ pub fn is_output(roles: &[Place], place: usize) -> bool
 fn has_label(arena: &Arena, term: usize, label: u32) -> bool
     requires arena { IsArena arena.now }
     requires within { term < length (trees arena.now) }
-    ensures { result ≡ false → Differs label (tree_at (trees arena.now) term) }
+    ensures { IsTrue result ↔ HasLabel label (tree_at (trees arena.now) term) }
 {
     match &arena.cell(term).shape {
         Shape::Node {
             label: other,
             kids: _,
         } => label == *other,
-        _ => false,
+        Shape::Lex { .. } => false,
+        Shape::Var(_) => false,
     }
 }
 
-/// Whether the first pattern that is a node has the label of its term: where not, the patterns
-/// match under no bindings.
+/// Whether the first pattern that is a node has the label of its term, or, where no pattern is one,
+/// whether each has a term. Where not, the patterns match the terms under no bindings.
 pub fn may_fit(arena: &Arena, side: &Side, terms: &[usize]) -> bool
     requires arena { IsArena arena.now }
     requires terms { AreBelow (length (trees arena.now)) terms.now }
-    ensures { result ≡ false → NeverFit (patterns_of side.now)
+    ensures { IsTrue result ↔ MayFit (patterns_of side.now)
         (map (tree_at (trees arena.now)) terms.now) }
 {
     let Side {
@@ -74,10 +88,11 @@ pub fn may_fit(arena: &Arena, side: &Side, terms: &[usize]) -> bool
         if taken >= terms.len() {
             return false;
         }
-        if let Term::Node { label, kids: _ } = &places[i] {
-            return has_label(arena, terms[taken], *label);
+        match &places[i] {
+            Term::Node { label, kids: _ } => return has_label(arena, terms[taken], *label),
+            Term::Lex { .. } => taken += 1,
+            Term::Var(_) => taken += 1,
         }
-        taken += 1;
     }
     true
 }

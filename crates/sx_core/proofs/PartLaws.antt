@@ -239,7 +239,7 @@ module _ (c : Context) (rest : List ℕ) where
 
   -- ---- judgements
 
-  full_of : (row_with : JudgementRow) (j : Judgement) → rest ≡ judgement_text row → IsFullJudgement c.forms row j → IsJudgementRead c.forms rest j
+  full_of : (row : JudgementRow) (j : Judgement) → rest ≡ judgement_text row → IsFullJudgement c.forms row j → IsJudgementRead c.forms rest j
   full_of row j e h = record { row = row; parts = e; named = h.0; is = h.1 }
 
   pub if_part : (j : Judgement) (h : IsJudgementRead c.forms rest j) → IsPart c If rest h.row
@@ -281,7 +281,7 @@ module _ (c : Context) (rest : List ℕ) where
       let is : IsGoal c.shapes c.forms (record { form = h.form.word; terms = g.terms }) g = record { form = h.form.is; terms = refl; readable = readable_of g.terms h.terms.row.1 h.terms.row.2; subject = h.subject; sorted = h.terms.sorted } in
       ((h.form.parts ∙ ap (λ (x : List ℕ). 32 ∷ (h.form.word ++ x)) h.terms.row.3 ∙ sym (judgement_open (record { form = h.form.word; terms = g.terms })), (h.form.named, g, is)), is)
 
-  goal_of : (row_with : JudgementRow) (g : GoalOf) → rest ≡ judgement_text row → IsCoreName row.form → IsGoal c.shapes c.forms row g → IsGoalRead c.shapes c.forms rest g
+  goal_of : (row : JudgementRow) (g : GoalOf) → rest ≡ judgement_text row → IsCoreName row.form → IsGoal c.shapes c.forms row g → IsGoalRead c.shapes c.forms rest g
   goal_of row g e n h = record {
     rest = terms_text row.terms;
     form = record { word = row.form; parts = e ∙ judgement_open row; named = n; stops = terms_stop row.terms; is = h.form };

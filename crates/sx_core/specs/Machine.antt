@@ -292,6 +292,6 @@ IsSortLine text r = (text ≡ row_text (row_with Sort r)) × IsCoreName r.name
 -- the sort of the line is added, where it is that of a sort whose name is not taken
 abbrev pub FindsSort : SortTable → SortTable → List ℕ → Type 0
 FindsSort old new text =
-    ((row_with : SortRow) × IsNewSort (rows_in old) text row × (rows_in new ≡ rows_in old ++ row ∷ []) ×
+    ((row : SortRow) × IsNewSort (rows_in old) text row × (rows_in new ≡ rows_in old ++ row ∷ []) ×
     (new.names ≡ old.names ++ row.name ∷ []))
-    ⊎ (((row_with : SortRow) → IsNewSort (rows_in old) text row → ⊥) × (new ≡ old))
+    ⊎ (((row : SortRow) → IsNewSort (rows_in old) text row → ⊥) × (new ≡ old))

@@ -14,7 +14,7 @@ use Rattle.sx_rules.specs.Derivations.{
 }
 use Rattle.sx_rules.specs.Orders.{order_of, IsBefore}
 use Rattle.sx_rules.specs.First.{Answer, DerivesGoal, AreWanted, IsFirst}
-use Rattle.sx_derive.specs.Walk.{Event, try, give, goal_events, events}
+use Rattle.sx_derive.specs.Walk.{Event, try, give, goal_events, levels_from, events}
 use Rattle.sx_derive.specs.Search.{
   EachGiven,
   IsReached,
@@ -157,7 +157,7 @@ abbrev pub AnswersAreBounded : Type 0
 AnswersAreBounded =
     (modes : Modes) (rules : List Rule) (hyps : Hypotheses) → ShallowJudgements hyps.judgements →
     (goal : Goal) (depth : ℕ) → AreShallow goal.terms →
-    EachGiven (λ a. (height_of a.0 ≤ 3001 - depth) × HasShallowBinds a.0 × AreShallow a.1)
+    EachGiven (λ a. (height_of a.0 ≤ levels_from depth) × HasShallowBinds a.0 × AreShallow a.1)
     (events modes rules hyps goal depth)
 
 -- where the terms of rules, hypotheses and a goal have core texts, so have those of its stuck goal
@@ -176,7 +176,7 @@ StuckGoalIsShallow =
     ShallowJudgements hyps.judgements →
     (depth : ℕ) (goal : Goal) (path : List ℕ) (blame : Blame) → AreShallow goal.terms →
     (HasStop (events modes rules hyps goal depth) → ⊥) →
-    IsStuck modes subjects rules hyps (3001 - depth) goal path blame → BlameIsShallow blame
+    IsStuck modes subjects rules hyps (levels_from depth) goal path blame → BlameIsShallow blame
 
 -- each node of what a walk finds is one of its tries, and it makes no more tries than it may
 abbrev pub FoundHasFewNodes : Type 0

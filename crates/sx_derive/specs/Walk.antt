@@ -32,6 +32,7 @@ use Rattle.sx_rules.specs.Rules.{
   judgement_instance,
 }
 use Rattle.sx_rules.specs.Modes.{Modes, inputs_of, outputs_of, Goal, goal_of}
+use Rattle.sx_rules.specs.Limits.{most_levels}
 use Rattle.sx_rules.specs.Derivations.{Proof, Proofs, by, given, no_more, ◌⊳◌}
 pub use Rattle.sx_rules.specs.First.{Answer}
 pub use Rattle.sx_arena.specs.Limits.{
@@ -153,7 +154,12 @@ goal_events modes rules hyps (suc levels) goal =
     given_events modes 0 hyps.judgements goal
     ++ rules_events modes hyps (goal_events modes rules hyps levels) 0 rules goal
 
--- the events of a goal at a depth; the first goal has depth 1, and none is deeper than 3,000
+-- how many levels may stand from a depth on; the first goal has depth 1, and none is deeper than
+-- 3,000
+abbrev pub levels_from : ℕ → ℕ
+levels_from depth = suc most_levels - depth
+
+-- the events of a goal at a depth
 unfoldable pub events : Modes → List Rule → Hypotheses → Goal → ℕ → List (Event Answer)
 unfolding goal_events
-events modes rules hyps goal depth = goal_events modes rules hyps (3001 - depth) goal
+events modes rules hyps goal depth = goal_events modes rules hyps (levels_from depth) goal
