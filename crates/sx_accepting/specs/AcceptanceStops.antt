@@ -83,4 +83,5 @@ defect_of r name rule_defect.RewriteDeep = defect.Budget budget_defect.RewriteDe
 -- the stop of an extension that is not accepted; out of memory has none
 abbrev pub acceptance_stop : Text → Refusing → AcceptError → Option Stop
 acceptance_stop file r Memory = None
-acceptance_stop file r (Rule name what) = Some (defect_at (place.Rule name) file (defect_of r name what))
+acceptance_stop file r (Rule name what) =
+    Some (defect_at (place.Rule name) file (defect_of r name what))

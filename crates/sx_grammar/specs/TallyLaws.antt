@@ -8,7 +8,8 @@ use Rattle.sx_grammar.specs.declared.head.Head.{Head}
 use Rattle.sx_grammar.specs.declared.head.Head.TheVariants.{Labelled, Bracketed}
 use Rattle.sx_grammar.specs.Reading.{IsLiteral, Reading, Readings, Reads, ReadsAll, ReadsBy}
 use Rattle.sx_grammar.specs.Reading.{reading_depth, readings_depth}
-use Rattle.sx_grammar.specs.Tally.{Tally, one_way, times, plus, deeper, tally_of_all, IsTally, AllTallied}
+use Rattle.sx_grammar.specs.Tally.{Tally, one_way, times, plus, deeper, tally_of_all, IsTally}
+use Rattle.sx_grammar.specs.Tally.{AllTallied}
 use Rattle.sx_grammar.specs.Tally.{Among, EachOnce, IsLeafAt, ReadsVia, ReadsAt, IsVariableAt}
 
 -- how the readings of each span are counted from those of its parts
@@ -36,7 +37,8 @@ pub record TallySteps (g : Grammar) (tokens : List Token) : Type 0 where
       ((middle : ℕ) (ks : Readings) → ReadsVia g tokens sort least rest from to middle ks →
       Among middle middles) →
       AllTallied (ReadsVia g tokens sort least rest from to) readings_depth f middles →
-      IsTally (ReadsAll g tokens (part sort least ∷ rest) from to) readings_depth (tally_of_all f middles)
+      IsTally (ReadsAll g tokens (part sort least ∷ rest) from to) readings_depth
+      (tally_of_all f middles)
   -- a node of a production
   pub by_node : (label : ℕ) (p : Production) (from to : ℕ) (t : Tally) →
       slice_get g.productions label ≡ Some p →

@@ -32,7 +32,8 @@ use Rattle.sx_outline.specs.Stages.{with_body}
 use Rattle.sx_outline.specs.Stages.{MayStandAt, Begun, BegunPlain, begun_plain, Stage, at_start}
 use Rattle.sx_outline.specs.Stages.{at_declarations, at_body, at_plains, at_rules, at_premises}
 use Rattle.sx_outline.specs.Stages.{at_conclusion, at_end, head_row, State, start, MayComeNext}
-use Rattle.sx_outline.specs.Stages.{HasMain, Steps, IsBad, IsBar, IsWhole, with_premise, state_after_row}
+use Rattle.sx_outline.specs.Stages.{HasMain, Steps, IsBad, IsBar, IsWhole, with_premise}
+use Rattle.sx_outline.specs.Stages.{state_after_row}
 use Rattle.sx_outline.specs.Outcomes.{IsReadingOutcome}
 use Rattle.sx_outline.specs.Outlined.{outline, IsEnd}
 
@@ -158,7 +159,8 @@ IsRowRefused known s number row (Notation l _) = ⊥
 abbrev pub IsRowTaken : Declared → Reader → ℕ → Row → Result Reader OutlineError → Type 0
 IsRowTaken known r number row result = (s : State) → IsOutlineReader known r s →
     MatchResult result (λ next. MayComeNext s row × HasMain known row ×
-    IsOutlineReader known next (state_after_row s number row)) (λ e. IsRowRefused known s number row e)
+    IsOutlineReader known next (state_after_row s number row))
+    (λ e. IsRowRefused known s number row e)
 
 -- why a line is refused
 abbrev pub IsLineRefused : FileKind → Declared → List ℕ → State → ℕ → List ℕ → OutlineError → Type 0

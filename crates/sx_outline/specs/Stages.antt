@@ -155,7 +155,8 @@ pub record IsGoodRow (kind : FileKind) (known : Declared) (s : State) (text : Li
 
 -- at another stage, all else as before
 abbrev pub at_stage : State → Stage → State
-at_stage s stage = record { stage = stage; declared = s.declared; plains = s.plains; rules = s.rules }
+at_stage s stage =
+    record { stage = stage; declared = s.declared; plains = s.plains; rules = s.rules }
 
 -- the rule is ended, if one has its conclusion
 abbrev pub ended : State → Stage → State

@@ -17,7 +17,8 @@ use Rattle.sx_rewrite.specs.Accepted.{ExtRule, Checked, flat_conclusion, IsCerti
 use Rattle.sx_rewrite.specs.Accepted.{AreTypedSorts, AllDisciplined, Signature, IsAccepted}
 use Rattle.sx_rewrite.specs.Sound.{HasBaseSyntax, flat_given, flat_goal, IsSoundBy, AreSoundBy}
 use Rattle.sx_rewrite.specs.Accepting.{IsStored, IsRejected}
-use Rattle.sx_rewrite.specs.Extensions.{StoredExtension, without_extensions, with_table, extended_by}
+use Rattle.sx_rewrite.specs.Extensions.{StoredExtension, without_extensions, with_table}
+use Rattle.sx_rewrite.specs.Extensions.{extended_by}
 use Rattle.sx_rewrite.specs.Extensions.{GrowsSoundly, BodyFits, FitsRules}
 
 -- a certificate holds for all terms that are put for the rule's variables: from derivations

@@ -28,7 +28,8 @@ abbrev mutual
   -- the proofs with theirs numbered, one proof after another
   pub all_numbered : ℕ → Proofs → Proofs
   all_numbered first no_more = no_more
-  all_numbered first (p ⊳ ps) = numbered_proof first p ⊳ all_numbered (first + length (givens_of p)) ps
+  all_numbered first (p ⊳ ps) =
+      numbered_proof first p ⊳ all_numbered (first + length (givens_of p)) ps
 
 -- the proof at each of the numbers, one after another
 abbrev pub placed_at : Proofs → List ℕ → Proofs

@@ -11,7 +11,13 @@ ghost use Rattle.sx_rewrite.specs.Measured.{is_used};
 ghost use Rattle.sx_rewrite.specs.Copied.{times_given};
 ghost use Rattle.sx_rewrite.specs.Counts as count;
 ghost use Rattle.sx_rewrite.specs.Shallow.{IsShallowFlat};
-ghost use Rattle.sx_rewrite.specs.Sizes.{in_u128, unused_givens, noted_givens, AreUsesOf, AreSizesOf};
+ghost use Rattle.sx_rewrite.specs.Sizes.{
+  in_u128,
+  unused_givens,
+  noted_givens,
+  AreUsesOf,
+  AreSizesOf,
+};
 ghost use Rattle.sx_rules.specs.Limits.{most_levels};
 
 use crate::certificate_size::CertificateSize;

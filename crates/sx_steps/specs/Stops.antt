@@ -18,7 +18,8 @@ use Rattle.sx_steps.specs.Refusal.{about}
 
 -- a defect of a file, at a place
 abbrev pub defect_at : Position → List ℕ → Defect → Stop
-defect_at place file what = record { file = file; refusal = record { place = place; defect = what } }
+defect_at place file what =
+    record { file = file; refusal = record { place = place; defect = what } }
 
 -- ---- files
 

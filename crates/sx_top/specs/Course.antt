@@ -84,7 +84,8 @@ pub record WasStopped (stop : Stop) (answer : WriteAnswer) (old new : Seen) : Ty
 -- the files before this number were written, nothing was sent, and no count rose
 pub record WasShort (plan : Plan) (number : ℕ) (old new : Seen) : Type 0 where
   pub below : number < length plan.files
-  pub files : Told (λ before now. now ≡ after_writes (take number plan.files) before) old.files new.files
+  pub files : Told (λ before now. now ≡ after_writes (take number plan.files) before) old.files
+      new.files
   pub reads : new.reads ≡ old.reads
   pub writes : new.writes ≡ old.writes
   pub bytes : new.bytes ≡ old.bytes
@@ -102,7 +103,8 @@ pub record HasWriteFailed (plan : Plan) (number : ℕ) (answer : WriteAnswer)
     (old new : Seen) : Type 0 where
   pub below : number < length plan.files
   pub files : Told (λ before now.
-      SameBut (name_at plan.files number) (after_writes (take number plan.files) before) now) old.files
+      SameBut (name_at plan.files number) (after_writes (take number plan.files) before) now)
+      old.files
       new.files
   pub reads : new.reads ≡ old.reads
   pub writes : RoseWhere (Unit {0}) old.writes new.writes

@@ -33,7 +33,8 @@ pub(crate) struct WrittenFiles {
 fn compare_base(asked: &Asked, interface: &Interface, base: &ModuleFile) -> Result<(), StepError>
     requires files { HasFiles asked.now }
     requires short { length base.now.bytes.items ≤ most_bytes }
-    ensures step { Gives (λ done. spec.both_written (interface_view interface.now) (module_of base.now))
+    ensures step { Gives
+        (λ done. spec.both_written (interface_view interface.now) (module_of base.now))
         (spec.FitsBase asked.now.name.now (interface_view interface.now) (module_of base.now))
         result }
     ensures fits { IfOk result
