@@ -44,12 +44,12 @@ HasLabel label (hole v) = ⊥
 
 -- the first of the patterns that is a node has the label of the term at its place; where none is,
 -- there are no fewer terms than patterns
-abbrev pub MayFit : List Tree → List Tree → Type 0
-MayFit [] ts = Unit {0}
-MayFit (p ∷ ps) [] = ⊥
-MayFit (node label kids ∷ ps) (t ∷ ts) = HasLabel label t
-MayFit (lexeme kind text ∷ ps) (t ∷ ts) = MayFit ps ts
-MayFit (hole v ∷ ps) (t ∷ ts) = MayFit ps ts
+abbrev pub FirstLabelFits : List Tree → List Tree → Type 0
+FirstLabelFits [] ts = Unit {0}
+FirstLabelFits (p ∷ ps) [] = ⊥
+FirstLabelFits (node label kids ∷ ps) (t ∷ ts) = HasLabel label t
+FirstLabelFits (lexeme kind text ∷ ps) (t ∷ ts) = FirstLabelFits ps ts
+FirstLabelFits (hole v ∷ ps) (t ∷ ts) = FirstLabelFits ps ts
 
 -- the patterns match the terms under no bindings
 abbrev pub NeverFit : List Tree → List Tree → Type 0

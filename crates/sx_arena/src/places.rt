@@ -23,7 +23,7 @@ ghost use Rattle.sx_arena.specs.Limits.{limit_passed};
 ghost use Rattle.sx_arena.specs.Arena.{trees, tree_at, IsArena, AreBelow};
 ghost use Rattle.sx_arena.specs.Binds.{envs, env_at, IsBinds, BindsGrow, IsChainFit};
 ghost use Rattle.sx_arena.specs.Views.{mask_of};
-ghost use Rattle.sx_arena.specs.Places.{selected, patterns_of, AreHeld, IsLimit, HasLabel, MayFit};
+ghost use Rattle.sx_arena.specs.Places.{selected, patterns_of, AreHeld, IsLimit, HasLabel, FirstLabelFits};
 
 use crate::arena::Arena;
 use crate::binds::Binds;
@@ -72,7 +72,7 @@ fn has_label(arena: &Arena, term: usize, label: u32) -> bool
 pub fn may_fit(arena: &Arena, side: &Side, terms: &[usize]) -> bool
     requires arena { IsArena arena.now }
     requires terms { AreBelow (length (trees arena.now)) terms.now }
-    ensures { IsTrue result ↔ MayFit (patterns_of side.now)
+    ensures { IsTrue result ↔ FirstLabelFits (patterns_of side.now)
         (map (tree_at (trees arena.now)) terms.now) }
 {
     let Side {
