@@ -23,7 +23,14 @@ ghost use Rattle.sx_arena.specs.Limits.{limit_passed};
 ghost use Rattle.sx_arena.specs.Arena.{trees, tree_at, IsArena, AreBelow};
 ghost use Rattle.sx_arena.specs.Binds.{envs, env_at, IsBinds, BindsGrow, IsChainFit};
 ghost use Rattle.sx_arena.specs.Views.{mask_of};
-ghost use Rattle.sx_arena.specs.Places.{selected, patterns_of, AreHeld, IsLimit, HasLabel, FirstLabelFits};
+ghost use Rattle.sx_arena.specs.Places.{
+  selected,
+  patterns_of,
+  AreHeld,
+  IsLimit,
+  HasLabel,
+  FirstLabelFits,
+};
 
 use crate::arena::Arena;
 use crate::binds::Binds;
