@@ -1,5 +1,6 @@
 use Rattle.sx_derive.proofs.Stored.{grows_same, grows_then}
-use Rattle.std.proofs.Common.{subst, arith}
+use Rattle.std.proofs.Common.{◌≡◌, Some, subst, arith}
+use Rattle.std.specs.Prelude.{slice_get}
 use Rattle.std.proofs.lemmas.List.{length-map}
 use Rattle.sx_rules.specs.Views.{named}
 use Rattle.sx_arena.specs.Binds.{IsChainFit}
@@ -11,13 +12,15 @@ use Rattle.sx_derive.specs.Stuck.{rule_match}
 use Rattle.sx_derive.proofs.Led.{leading_below, rule_fits, rule_differs, rules_end, rule_within, not_within}
 use Rattle.sx_derive.proofs.Resumed.{shallow_at}
 use Rattle.sx_derive.proofs.candidate_descent.first_rule.Goals as goal
+use Rattle.sx_derive.proofs.candidate_descent.first_rule.Goals.{In-Some}
+
+-- the rule that is looked at
+found : (c : In-Some) → slice_get (rules_of c.args.rules.now) c.loop-rule.number ≡ Some (rule_of c.in-Some.rule.now)
+found c = rule_found c.args.rules.now.rules.items c.loop-rule.number c.in-Some.rule.now c.in-Some.ensures
 
 pub rule_fit-requires-clause-shallow : goal.rule_fit-requires-clause-shallow
 rule_fit-requires-clause-shallow c =
-    let rs = rules_of c.args.rules.now in
-    let r = rule_of c.in-Some.rule.now in
-    let e = rule_found c.args.rules.now.rules.items c.loop-rule.number c.in-Some.rule.now c.in-Some.ensures in
-    shallow_at rs c.loop-rule.number r c.facts.ensures.shallow e
+    shallow_at _ _ _ c.facts.ensures.shallow (found (goal.at.rule_fit-requires-clause-shallow c).In-Some)
 
 pub rule_fit-requires-clause-terms : goal.rule_fit-requires-clause-terms
 rule_fit-requires-clause-terms c =
@@ -31,26 +34,19 @@ returns-in-Some-2-clause-first c =
     let m = set_modes c.args.rules.now in
     let rs = rules_of c.args.rules.now in
     let s = c.args.store.now in
-    let r = rule_of c.in-Some.rule.now in
-    let e = rule_found c.args.rules.now.rules.items c.loop-rule.number c.in-Some.rule.now c.in-Some.ensures in
-    rule_fits m rs c.args.form c.args.terms.now s c.requires.terms c.loop-rule.store c.rule_fit.new.store c.loop-rule.number c.loop-rule.invariant r e c.in_ok-env.ensures.grows c.in-Some-2.env (subst (λ x. IsChainFit (store_trees c.rule_fit.new.store) c.rule_fit.new.store.binds (rule_match m r (goal_in c.loop-rule.store c.args.form c.args.terms.now)) x) c.in-Some-2.is c.in_ok-env.ensures.fit)
+    let e = found (goal.at.returns-in-Some-2-clause-first c).In-Some in
+    rule_fits m rs c.args.form c.args.terms.now s c.requires.terms c.loop-rule.store c.rule_fit.new.store c.loop-rule.number c.loop-rule.invariant _ e c.in_ok-env.ensures.grows c.in-Some-2.env (subst (λ x. IsChainFit (store_trees c.rule_fit.new.store) c.rule_fit.new.store.binds (rule_match m (rule_of c.in-Some.rule.now) (goal_in c.loop-rule.store c.args.form c.args.terms.now)) x) c.in-Some-2.is c.in_ok-env.ensures.fit)
 
 pub overflow_add-number : goal.overflow_add-number
 overflow_add-number c =
-    let rs = rules_of c.args.rules.now in
-    let r = rule_of c.in-Some.rule.now in
-    let e = rule_found c.args.rules.now.rules.items c.loop-rule.number c.in-Some.rule.now c.in-Some.ensures in
-    let w = rule_within rs c.loop-rule.number r e in
+    let w = rule_within (rules_of c.args.rules.now) c.loop-rule.number _ (found (goal.at.overflow_add-number c).In-Some) in
     let n = length-map c.args.rules.now.rules.items rule_of in
     let k = length-map c.args.rules.now.rules.items named in
     omega arith
 
 pub loop-rule-smaller : goal.loop-rule-smaller
 loop-rule-smaller c =
-    let rs = rules_of c.args.rules.now in
-    let r = rule_of c.in-Some.rule.now in
-    let e = rule_found c.args.rules.now.rules.items c.loop-rule.number c.in-Some.rule.now c.in-Some.ensures in
-    let w = rule_within rs c.loop-rule.number r e in
+    let w = rule_within (rules_of c.args.rules.now) c.loop-rule.number _ (found (goal.at.loop-rule-smaller c).In-Some) in
     omega arith
 
 pub loop-rule-preserved : goal.loop-rule-preserved
@@ -58,9 +54,8 @@ loop-rule-preserved c =
     let m = set_modes c.args.rules.now in
     let rs = rules_of c.args.rules.now in
     let s = c.args.store.now in
-    let r = rule_of c.in-Some.rule.now in
-    let e = rule_found c.args.rules.now.rules.items c.loop-rule.number c.in-Some.rule.now c.in-Some.ensures in
-    rule_differs m rs c.args.form c.args.terms.now s c.requires.terms c.loop-rule.store c.rule_fit.new.store c.loop-rule.number c.loop-rule.invariant r e c.in_ok-env.ensures.grows (subst (λ x. IsChainFit (store_trees c.rule_fit.new.store) c.rule_fit.new.store.binds (rule_match m r (goal_in c.loop-rule.store c.args.form c.args.terms.now)) x) c.in-None.is c.in_ok-env.ensures.fit)
+    let e = found (goal.at.loop-rule-preserved c).In-Some in
+    rule_differs m rs c.args.form c.args.terms.now s c.requires.terms c.loop-rule.store c.rule_fit.new.store c.loop-rule.number c.loop-rule.invariant _ e c.in_ok-env.ensures.grows (subst (λ x. IsChainFit (store_trees c.rule_fit.new.store) c.rule_fit.new.store.binds (rule_match m (rule_of c.in-Some.rule.now) (goal_in c.loop-rule.store c.args.form c.args.terms.now)) x) c.in-None.is c.in_ok-env.ensures.fit)
 
 pub returns-clause-first : goal.returns-clause-first
 returns-clause-first c =
