@@ -6,6 +6,17 @@ use Rattle.sx_arena.proofs.Growing.{grown-length}
 use Rattle.sx_derive.specs.Listing.{head_kids}
 use Rattle.sx_derive.proofs.Proved.{kid_read, proving_first, proving_more, proving_end}
 use Rattle.sx_derive.proofs.export_proof.+export_proof.Goals as goal
+use Rattle.sx_derive.proofs.export_proof.+export_proof.Goals.{At-loop-here}
+
+-- the kid at hand is in the store
+within : (t : _) (c : At-loop-here t) → c.loop-here.here ≤ length c.args.store.now.kids.items
+within t c =
+    let s = c.args.store.now in
+    let h = subst (HeadFits (length (store_envs s)) (length (store_kids s))) c.in-By.is c.requires.head in
+    let m = grown-length (kid_step (store_envs s)) s.kids.items in
+    let z = h.1 in
+    let w = c.loop-here.invariant.within in
+    omega arith
 
 pub export_binds-requires-clause-env : goal.export_binds-requires-clause-env
 export_binds-requires-clause-env t c =
@@ -20,23 +31,15 @@ loop-here-init t c = proving_first _ _ _ c.new-proofs.ensures.items
 
 pub index-kid-requires : goal.index-kid-requires
 index-kid-requires t c =
-    let s = c.args.store.now in
-    let h = subst (HeadFits (length (store_envs s)) (length (store_kids s))) c.in-By.is c.requires.head in
-    let m = grown-length (kid_step (store_envs s)) s.kids.items in
-    let z = h.1 in
-    let w = c.loop-here.invariant.within in
+    let l = within t (goal.at.index-kid-requires t c).At-loop-here in
     let p = c.loop-here-test.true in
-    let k = s.kids.ok in
+    let k = c.args.store.now.kids.ok in
     omega arith
 
 pub export_proof-requires : goal.export_proof-requires
 export_proof-requires t c =
     let s = c.args.store.now in
-    let h = subst (HeadFits (length (store_envs s)) (length (store_kids s))) c.in-By.is c.requires.head in
-    let m = grown-length (kid_step (store_envs s)) s.kids.items in
-    let z = h.1 in
-    let w = c.loop-here.invariant.within in
-    let l : c.loop-here.here ≤ length s.kids.items = omega arith in
+    let l = within t (goal.at.export_proof-requires t c).At-loop-here in
     let r = kid_read (store_envs s) s.kids.items c.requires.kids c.loop-here.here c.index-kid.result.now c.loop-here-test.true l c.index-kid.ensures in
     let f = r.head in
     let n : head_kids c.args.head ≡ c.in-By.kids = ap head_kids c.in-By.is in
@@ -51,21 +54,13 @@ export_proof-requires t c =
 pub loop-here-smaller : goal.loop-here-smaller
 loop-here-smaller t c =
     let s = c.args.store.now in
-    let h = subst (HeadFits (length (store_envs s)) (length (store_kids s))) c.in-By.is c.requires.head in
-    let m = grown-length (kid_step (store_envs s)) s.kids.items in
-    let z = h.1 in
-    let w = c.loop-here.invariant.within in
-    let l : c.loop-here.here ≤ length s.kids.items = omega arith in
+    let l = within t (goal.at.loop-here-smaller t c).At-loop-here in
     (kid_read (store_envs s) s.kids.items c.requires.kids c.loop-here.here c.index-kid.result.now c.loop-here-test.true l c.index-kid.ensures).before
 
 pub loop-here-preserved : goal.loop-here-preserved
 loop-here-preserved t c =
     let s = c.args.store.now in
-    let h = subst (HeadFits (length (store_envs s)) (length (store_kids s))) c.in-By.is c.requires.head in
-    let m = grown-length (kid_step (store_envs s)) s.kids.items in
-    let z = h.1 in
-    let w = c.loop-here.invariant.within in
-    let l : c.loop-here.here ≤ length s.kids.items = omega arith in
+    let l = within t (goal.at.loop-here-preserved t c).At-loop-here in
     let r = kid_read (store_envs s) s.kids.items c.requires.kids c.loop-here.here c.index-kid.result.now c.loop-here-test.true l c.index-kid.ensures in
     proving_more (store_envs s) (store_kids s) _ _ _ _ c.index-kid.result.now c.in_ok-new-in-By.field-0 c.in_ok-made-in-By.made c.loop-here.invariant r c.in_ok-made-in-By.ensures c.in_ok-new-in-By.ensures.ok c.in_ok-push-in-By.ensures.items
 
