@@ -1,4 +1,5 @@
 use Rattle.std.proofs.Common.{◌≡◌, ◌<◌, Some, List, map, refl, sym, ◌∙◌, subst, length, arith}
+use Rattle.std.specs.Prelude.{slice_get}
 use Rattle.sx_arena.specs.Places.{selected}
 use Rattle.std.proofs.lemmas.Option.{slice_get_within}
 use Rattle.std.proofs.lemmas.List.{length-map}
@@ -16,11 +17,15 @@ use Rattle.sx_arena.proofs.Patterns.{ok_weaker}
 use Rattle.sx_derive.proofs.Premised.{IsShallowPremise, shallow_premise_at, premise_get}
 use Rattle.sx_derive.proofs.Resumed.{shallow_at, sizes, waits_at, holds_at, resumed_none, resumed_more, kid_store}
 use Rattle.sx_derive.proofs.handing.resume.Goals as goal
+use Rattle.sx_derive.proofs.handing.resume.Goals.{In-Holds}
+
+-- the frame waits for the premise at hand
+waiting : (c : In-Holds) → (c.args.frame.premise < length c.rule_at-rule.result.now.premises.items) × (slice_get (map premise_of c.rule_at-rule.result.now.premises.items) c.args.frame.premise ≡ Some (holds (judgement_of c.in-Holds.judgement)))
+waiting c = holds_at _ _ _ _ _ (waits_at _ _ c.args.store.now _ c.requires.frame _ c.rule_at-rule.ensures).1 c.index.ensures c.in-Holds.is
 
 pub fit_places-requires-clause-shallow : goal.fit_places-requires-clause-shallow
 fit_places-requires-clause-shallow c =
-    let x = waits_at _ _ c.args.store.now _ c.requires.frame _ c.rule_at-rule.ensures in
-    let l = holds_at c.rule_at-rule.result.now.premises.items c.args.frame.premise _ _ _ x.1 c.index.ensures c.in-Holds.is in
+    let l = waiting (goal.at.fit_places-requires-clause-shallow c).In-Holds in
     let r = shallow_at _ _ _ c.requires.shallow c.rule_at-rule.ensures in
     subst (λ (xs : List _). AreShallow (map tree xs)) (sym c.new-side.ensures.places) (subst IsShallowPremise c.in-Holds.is (shallow_premise_at _ r.1 c.args.frame.premise _ l.0 c.index.ensures))
 
@@ -33,8 +38,7 @@ fit_places-requires-clause-env c =
 
 pub overflow_add-from : goal.overflow_add-from
 overflow_add-from c =
-    let x = waits_at _ _ c.args.store.now _ c.requires.frame _ c.rule_at-rule.ensures in
-    let l : c.args.frame.premise < length c.rule_at-rule.result.now.premises.items = (holds_at c.rule_at-rule.result.now.premises.items c.args.frame.premise _ _ _ x.1 c.index.ensures c.in-Holds.is).0 in
+    let l = (waiting (goal.at.overflow_add-from c).In-Holds).0 in
     let k = c.rule_at-rule.result.now.premises.ok in
     omega arith
 
@@ -57,8 +61,7 @@ premises-requires-clause-frames c =
 
 pub returns-in-None : goal.returns-in-None
 returns-in-None c =
-    let x = waits_at _ _ c.args.store.now _ c.requires.frame _ c.rule_at-rule.ensures in
-    let l = holds_at c.rule_at-rule.result.now.premises.items c.args.frame.premise _ _ _ x.1 c.index.ensures c.in-Holds.is in
+    let l = waiting (goal.at.returns-in-None c).In-Holds in
     let s = c.args.store.now in
     resumed_none (set_modes c.args.given.now.rules.now) (rules_of c.args.given.now.rules.now) _ s (record { arena = s.arena; binds = c.fit_places.new.binds; kids = s.kids; frames = s.frames }) c.args.frame (rule_of c.rule_at-rule.result.now) (judgement_of c.in-Holds.judgement) c.args.head c.args.outputs.now
     c.requires.store c.requires.pairs c.requires.frame c.rule_at-rule.ensures l.1 c.requires.head c.in_ok-fit-in-Holds.ensures.grows refl refl refl
@@ -67,8 +70,7 @@ returns-in-None c =
 
 pub returns-in_ok-kids-in-Some : goal.returns-in_ok-kids-in-Some
 returns-in_ok-kids-in-Some c =
-    let x = waits_at _ _ c.args.store.now _ c.requires.frame _ c.rule_at-rule.ensures in
-    let l = holds_at c.rule_at-rule.result.now.premises.items c.args.frame.premise _ _ _ x.1 c.index.ensures c.in-Holds.is in
+    let l = waiting (goal.at.returns-in_ok-kids-in-Some c).In-Holds in
     let s = c.args.store.now in
     let f = rw c.in-Some.is at c.in_ok-fit-in-Holds.ensures.fit in
     ok_weaker _ _ (λ step p. resumed_more (set_modes c.args.given.now.rules.now) (rules_of c.args.given.now.rules.now) _ s (record { arena = s.arena; binds = c.fit_places.new.binds; kids = s.kids; frames = s.frames }) c.args.frame (rule_of c.rule_at-rule.result.now) (judgement_of c.in-Holds.judgement) c.args.head c.args.outputs.now
