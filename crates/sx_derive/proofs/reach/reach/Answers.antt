@@ -1,4 +1,4 @@
-use Rattle.std.proofs.Common.{◌≡◌, ◌+◌, ◌-◌, length, arith, subst}
+use Rattle.std.proofs.Common.{◌≡◌, ◌+◌, ◌-◌, ◌<◌, length, arith, subst}
 use Rattle.std.specs.Prelude.{Ok}
 use Rattle.sx_arena.specs.Views.{rules_of, set_modes}
 use Rattle.sx_arena.proofs.Growing.{extends-length}
@@ -8,7 +8,7 @@ use Rattle.sx_derive.specs.Tasks.{events_left}
 use Rattle.sx_derive.specs.declared.tasks.Ending.TheVariants.{Spent}
 use Rattle.sx_derive.proofs.Resuming.{Reaching, reaching_first, last_less, facts_then, reaching_settled, reaching_end, reaching_spent, rest_fits, task_fits, reaching_failed, reaching_more, reaching_ends}
 use Rattle.sx_derive.proofs.reach.reach.Goals as goal
-use Rattle.sx_derive.proofs.reach.reach.Goals.{After-settle, Else-left-eq0}
+use Rattle.sx_derive.proofs.reach.reach.Goals.{After-settle, In-Some, Else-left-eq0}
 
 -- the search after the top was settled
 settled : (g : _) (c : After-settle g) → Reaching (set_modes c.args.given.now.rules.now) (rules_of c.args.given.now.rules.now) c.args.given.now.pairs.now c.args.given.now.facts.now c.args.store.now c.args.budget c.args.tasks.now.items c.args.steps.now c.loop-budget.store (c.args.budget - c.settle.new.left) c.settle.new.steps c.settle.new.tasks.items
@@ -26,6 +26,10 @@ returns-then-left-eq0 g c = λ js a.
     subst (λ (n : _). IsReached (set_modes c.args.given.now.rules.now) (rules_of c.args.given.now.rules.now) c.args.given.now.pairs.now js (length c.args.given.now.facts.now + length (rules_of c.args.given.now.rules.now)) c.args.store.now c.loop-budget.store c.settle.new.tasks.items c.args.budget c.args.steps.now c.settle.new.steps
     (events_left (set_modes c.args.given.now.rules.now) (rules_of c.args.given.now.rules.now) c.args.given.now.pairs.now js c.args.store.now c.args.tasks.now.items) (Ok (record { ending = Spent; tries = n }))) z
     (reaching_spent (set_modes c.args.given.now.rules.now) (rules_of c.args.given.now.rules.now) c.args.given.now.pairs.now c.args.given.now.facts.now c.args.store.now c.args.budget c.args.tasks.now.items c.args.steps.now c.loop-budget.store (c.args.budget - c.settle.new.left) c.settle.new.steps c.settle.new.tasks.items w k.0 k.1 k.2 k.3 z js a)
+
+-- the task has a candidate
+there : (g : _) (c : In-Some g) → c.in-Some.task.next < length c.args.given.now.facts.now + length (rules_of c.args.given.now.rules.now)
+there g c = last_less c.settle.new.tasks.items c.pop.new.self.items c.in-Some.task _ c.in-Some.ensures.items c.loop-budget-test.ensures.last
 
 -- a try is left
 open_yet : (g : _) (c : Else-left-eq0 g) → (c.args.budget - c.settle.new.left) ≡ c.args.budget → ⊥
@@ -47,21 +51,21 @@ pub turn-requires-clause-task : goal.turn-requires-clause-task
 turn-requires-clause-task g c =
     let w = settled g (goal.at.turn-requires-clause-task g c).After-settle in
     let e = c.in-Some.ensures.items in
-    let l = last_less c.settle.new.tasks.items c.pop.new.self.items c.in-Some.task (length c.args.given.now.facts.now + length (rules_of c.args.given.now.rules.now)) e c.loop-budget-test.ensures.last in
+    let l = there g (goal.at.turn-requires-clause-task g c).In-Some in
     task_fits (set_modes c.args.given.now.rules.now) (rules_of c.args.given.now.rules.now) c.args.given.now.pairs.now c.args.given.now.facts.now c.args.store.now c.args.budget c.args.tasks.now.items c.args.steps.now c.loop-budget.store (c.args.budget - c.settle.new.left) c.settle.new.steps c.settle.new.tasks.items w c.pop.new.self.items c.in-Some.task e l
 
 pub turn-requires-clause-tasks : goal.turn-requires-clause-tasks
 turn-requires-clause-tasks g c =
     let w = settled g (goal.at.turn-requires-clause-tasks g c).After-settle in
     let e = c.in-Some.ensures.items in
-    let l = last_less c.settle.new.tasks.items c.pop.new.self.items c.in-Some.task (length c.args.given.now.facts.now + length (rules_of c.args.given.now.rules.now)) e c.loop-budget-test.ensures.last in
+    let l = there g (goal.at.turn-requires-clause-tasks g c).In-Some in
     rest_fits (set_modes c.args.given.now.rules.now) (rules_of c.args.given.now.rules.now) c.args.given.now.pairs.now c.args.given.now.facts.now c.args.store.now c.args.budget c.args.tasks.now.items c.args.steps.now c.loop-budget.store (c.args.budget - c.settle.new.left) c.settle.new.steps c.settle.new.tasks.items w c.pop.new.self.items c.in-Some.task e l
 
 pub returns-in-Err : goal.returns-in-Err
 returns-in-Err g c = λ js a.
     let w = settled g (goal.at.returns-in-Err g c).After-settle in
     let e = c.in-Some.ensures.items in
-    let l = last_less c.settle.new.tasks.items c.pop.new.self.items c.in-Some.task (length c.args.given.now.facts.now + length (rules_of c.args.given.now.rules.now)) e c.loop-budget-test.ensures.last in
+    let l = there g (goal.at.returns-in-Err g c).In-Some in
     reaching_failed (set_modes c.args.given.now.rules.now) (rules_of c.args.given.now.rules.now) c.args.given.now.pairs.now c.args.given.now.facts.now c.args.store.now c.args.budget c.args.tasks.now.items c.args.steps.now c.loop-budget.store (c.args.budget - c.settle.new.left) c.settle.new.steps c.settle.new.tasks.items w c.pop.new.self.items c.in-Some.task e l (open_yet g (goal.at.returns-in-Err g c).Else-left-eq0) c.tick.new.self c.tick.ensures c.in-Err.e c.turn.new.store c.turn.new.tasks.items js a
 
 pub loop-budget-preserved : goal.loop-budget-preserved
@@ -69,7 +73,7 @@ loop-budget-preserved g c =
     let b = c.requires.facts in
     let w = settled g (goal.at.loop-budget-preserved g c).After-settle in
     let e = c.in-Some.ensures.items in
-    let l = last_less c.settle.new.tasks.items c.pop.new.self.items c.in-Some.task (length c.args.given.now.facts.now + length (rules_of c.args.given.now.rules.now)) e c.loop-budget-test.ensures.last in
+    let l = there g (goal.at.loop-budget-preserved g c).In-Some in
     let x = reaching_more (set_modes c.args.given.now.rules.now) (rules_of c.args.given.now.rules.now) c.args.given.now.pairs.now c.args.given.now.facts.now c.args.store.now c.args.budget c.args.tasks.now.items c.args.steps.now c.loop-budget.store (c.args.budget - c.settle.new.left) c.settle.new.steps c.settle.new.tasks.items w c.pop.new.self.items c.in-Some.task e l (open_yet g (goal.at.loop-budget-preserved g c).Else-left-eq0) c.tick.new.self c.tick.ensures c.turn.new.store c.turn.new.tasks.items b.0 b.1 (λ js a. rw c.in-Ok-None.field-0-is at (c.in-Ok-None.ensures js a)) in
     let i = c.loop-budget.invariant.less in
     let y = c.settle.ensures.less in
@@ -84,7 +88,7 @@ pub returns-in-Ok-Some : goal.returns-in-Ok-Some
 returns-in-Ok-Some g c = λ js a.
     let w = settled g (goal.at.returns-in-Ok-Some g c).After-settle in
     let e = c.in-Some.ensures.items in
-    let l = last_less c.settle.new.tasks.items c.pop.new.self.items c.in-Some.task (length c.args.given.now.facts.now + length (rules_of c.args.given.now.rules.now)) e c.loop-budget-test.ensures.last in
+    let l = there g (goal.at.returns-in-Ok-Some g c).In-Some in
     let x = reaching_ends (set_modes c.args.given.now.rules.now) (rules_of c.args.given.now.rules.now) c.args.given.now.pairs.now c.args.given.now.facts.now c.args.store.now c.args.budget c.args.tasks.now.items c.args.steps.now c.loop-budget.store (c.args.budget - c.settle.new.left) c.settle.new.steps c.settle.new.tasks.items w c.pop.new.self.items c.in-Some.task e l (open_yet g (goal.at.returns-in-Ok-Some g c).Else-left-eq0) c.tick.new.self c.tick.ensures c.turn.new.store c.turn.new.tasks.items c.in-Ok-Some.ending (λ ks d. rw c.in-Ok-Some.field-0-is at (c.in-Ok-Some.ensures ks d)) js a in
     let i = c.loop-budget.invariant.less in
     let y = c.settle.ensures.less in
@@ -110,8 +114,7 @@ pub turn-requires-clause-store : goal.turn-requires-clause-store
 turn-requires-clause-store g c = c.loop-budget.invariant.reaching.grows.store
 
 pub turn-requires-clause-next : goal.turn-requires-clause-next
-turn-requires-clause-next g c =
-    last_less c.settle.new.tasks.items c.pop.new.self.items c.in-Some.task (length c.args.given.now.facts.now + length (rules_of c.args.given.now.rules.now)) c.in-Some.ensures.items c.loop-budget-test.ensures.last
+turn-requires-clause-next g c = there g (goal.at.turn-requires-clause-next g c).In-Some
 
 pub settle-requires-clause-store : goal.settle-requires-clause-store
 settle-requires-clause-store g c = c.loop-budget.invariant.reaching.grows.store
