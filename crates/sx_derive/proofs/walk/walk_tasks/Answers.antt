@@ -1,4 +1,4 @@
-use Rattle.std.proofs.Common.{◌+◌, ◌-◌, ◌<◌, ◌++◌, ◌∷◌, [], length, arith}
+use Rattle.std.proofs.Common.{ℕ, ◌≡◌, ◌+◌, ◌-◌, ◌<◌, ◌++◌, ◌∷◌, [], length, arith}
 use Rattle.sx_arena.specs.Views.{rules_of, set_modes}
 use Rattle.sx_arena.proofs.Growing.{extends-length}
 use Rattle.sx_arena.proofs.Parted.{pairs_more_terms}
@@ -19,6 +19,10 @@ there : (g : _) (c : In-Some g) → c.in-Some.task.next < length c.args.given.no
 there g c =
     let b = c.requires.facts in
     (c.in-Some.ensures.popped b.0 (facts_now (set_modes c.args.given.now.rules.now) (rules_of c.args.given.now.rules.now) c.args.given.now.pairs.now c.args.given.now.facts.now c.args.wanted.now c.args.store.now c.args.budget c.args.tasks.items c.args.steps.now c.loop-task.store c.loop-task.left c.loop-task.steps c.loop-task.tasks.items c.loop-task.invariant b.0 b.1)).0
+
+-- what is not nothing is something
+some_left : (n : ℕ) → (n ≡ 0 → ⊥) → 0 < n
+some_left n z = omega arith
 
 -- the walk after the cut
 cut_walk : (g : _) (c : After-cut g) → Walking (set_modes c.args.given.now.rules.now) (rules_of c.args.given.now.rules.now) c.args.given.now.pairs.now c.args.given.now.facts.now c.args.wanted.now c.args.store.now c.args.budget c.args.tasks.items c.args.steps.now c.loop-task.store c.next_counted.new.left c.next_counted.new.steps (c.next_counted.new.tasks.items ++ c.in-Some.task ∷ []) → Walking (set_modes c.args.given.now.rules.now) (rules_of c.args.given.now.rules.now) c.args.given.now.pairs.now c.args.given.now.facts.now c.args.wanted.now c.args.store.now c.args.budget c.args.tasks.items c.args.steps.now c.cut.new.self c.next_counted.new.left c.next_counted.new.steps (c.next_counted.new.tasks.items ++ c.in-Some.task ∷ [])
@@ -69,20 +73,20 @@ turn-requires-clause-tasks g c =
 pub returns-in-Err : goal.returns-in-Err
 returns-in-Err g c = λ js a.
     let p = (goal.at.returns-in-Err g c).In-Some in
-    let l : 0 < c.next_counted.new.left = (let z = c.if-left-eq0.false in omega arith) in
+    let l = some_left _ c.if-left-eq0.false in
     walking_failed (set_modes c.args.given.now.rules.now) (rules_of c.args.given.now.rules.now) c.args.given.now.pairs.now c.args.given.now.facts.now c.args.wanted.now c.args.store.now c.args.budget c.args.tasks.items c.args.steps.now c.loop-task.store c.next_counted.new.left c.next_counted.new.steps c.in-Some.task c.next_counted.new.tasks.items (popped g p) (there g p) c.in-Err.e l js a c.turn.new.store c.tick.new.self c.tick.ensures
 
 pub loop-task-preserved : goal.loop-task-preserved
 loop-task-preserved g c =
     let b = c.requires.facts in
     let w = cut_walk g (goal.at.loop-task-preserved g c).After-cut (popped g (goal.at.loop-task-preserved g c).In-Some) in
-    let l : 0 < c.next_counted.new.left = (let z = c.if-left-eq0.false in omega arith) in
+    let l = some_left _ c.if-left-eq0.false in
     walking_more (set_modes c.args.given.now.rules.now) (rules_of c.args.given.now.rules.now) c.args.given.now.pairs.now c.args.given.now.facts.now c.args.wanted.now c.args.store.now c.args.budget c.args.tasks.items c.args.steps.now c.cut.new.self c.next_counted.new.left c.next_counted.new.steps c.in-Some.task c.next_counted.new.tasks.items w l c.requires.wanted c.turn.new.store c.turn.new.tasks.items (λ js a. rw c.in-Ok-None.field-0-is at (c.in-Ok-None.ensures js a)) b.0 b.1 c.tick.new.self c.tick.ensures
 
 pub returns-in-Ok-Some : goal.returns-in-Ok-Some
 returns-in-Ok-Some g c = λ js a.
     let w = cut_walk g (goal.at.returns-in-Ok-Some g c).After-cut (popped g (goal.at.returns-in-Ok-Some g c).In-Some) in
-    let l : 0 < c.next_counted.new.left = (let z = c.if-left-eq0.false in omega arith) in
+    let l = some_left _ c.if-left-eq0.false in
     walking_ends (set_modes c.args.given.now.rules.now) (rules_of c.args.given.now.rules.now) c.args.given.now.pairs.now c.args.given.now.facts.now c.args.wanted.now c.args.store.now c.args.budget c.args.tasks.items c.args.steps.now c.cut.new.self c.next_counted.new.left c.next_counted.new.steps c.in-Some.task c.next_counted.new.tasks.items w l c.requires.wanted c.turn.new.store c.turn.new.tasks.items c.in-Ok-Some.ending (λ ks b. rw c.in-Ok-Some.field-0-is at (c.in-Ok-Some.ensures ks b)) c.tick.new.self c.tick.ensures js a
 
 pub returns : goal.returns
