@@ -1,5 +1,5 @@
 -- What is proved of the walk, of the machine and of the stuck goal.
-use Rattle.std.specs.Prelude.{◌≤◌, ◌-◌, ◌≡◌, ℕ, suc, List, [], ◌∷◌, ◌++◌, ◌⊎◌, Option, Some}
+use Rattle.std.specs.Prelude.{◌≤◌, ◌≡◌, ℕ, suc, List, [], ◌∷◌, ◌++◌, ◌⊎◌, Option, Some}
 use Rattle.sx_term.specs.Tree.{Tree}
 use Rattle.sx_rules.specs.Rules.{Judgement, Rule, Hypotheses}
 use Rattle.sx_rules.specs.Modes.{Modes, Goal, goal_of, outputs_of, AllModed}
