@@ -16,10 +16,9 @@ use Rattle.sx_plain.proofs.measure.+measured.Goals as goal
 
 pub body_measure-image_measure-measure-requires : goal.body_measure-image_measure-measure-requires
 body_measure-image_measure-measure-requires t c =
-    let a = greatest_depth-at _ _ _ c.loop-i-test.true c.index-parts-i.is in
     let f = fits-kids (table_of c.args.table.now) _ _ _ c.requires.fit c.loop-i-test.true c.index-parts-i.is in
     let s = c.requires.shallow in
-    let d : depth_of (tree c.index-parts-i.result) ≤ 1000 = omega arith in
+    let d : depth_of (tree c.index-parts-i.result) ≤ 1000 = omega (arith, greatest_depth-at _ _ _ c.loop-i-test.true c.index-parts-i.is) in
     search (rules, the_lemmas)
 
 pub body_measure-overflow_add-part : goal.body_measure-overflow_add-part
