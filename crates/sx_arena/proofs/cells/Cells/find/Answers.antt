@@ -7,6 +7,11 @@ use Rattle.sx_arena.specs.declared.arena.Cell.{Cell}
 use Rattle.sx_arena.specs.Found.{IsFind}
 use Rattle.sx_arena.proofs.Finding.{hash_alike, not_both, Wants, cell_first, cell_next, cell_there, cell_found, cell_none}
 use Rattle.sx_arena.proofs.cells.Cells.find.Goals as goal
+use Rattle.sx_arena.proofs.cells.Cells.find.Goals.{In-Some}
+
+-- the cell that is looked at next is the one that is sought, or stands behind it
+sought_here : (c : In-Some) → IsSought c.self.inside.slots (Wants c.self.inside.cells.items (shape_eq.it c.args.shape.now)) (folded c.args.hash) (Some c.in-Some.number)
+sought_here c = subst (λ (o : Option ℕ). IsSought c.self.inside.slots (Wants c.self.inside.cells.items (shape_eq.it c.args.shape.now)) (folded c.args.hash) o) c.in-Some.is c.loop-here.invariant
 
 pub loop-here-init : goal.loop-here-init
 loop-here-init c =
@@ -21,24 +26,22 @@ loop-here-smaller c =
 pub loop-here-preserved : goal.loop-here-preserved
 loop-here-preserved c =
     cell_next _ (shape_eq.it c.args.shape.now) (folded c.args.hash) (λ s t. ap folded (sym (hash_alike _ s t) ∙ sym c.requires.hash)) c.self.inside.slots c.self.invariant c.in-Some.number c.index.result.now c.before-here.result
-    (subst (λ (o : Option ℕ). IsSought c.self.inside.slots (Wants c.self.inside.cells.items (shape_eq.it c.args.shape.now)) (folded c.args.hash) o) c.in-Some.is c.loop-here.invariant)
+    (sought_here (goal.at.loop-here-preserved c).In-Some)
     c.index.ensures (not_both _ (sym c.eq.ensures ∙ c.if-eq.false)) c.before-here.ensures
 
 pub index-requires : goal.index-requires
 index-requires c =
-    let s : IsSought c.self.inside.slots (Wants c.self.inside.cells.items (shape_eq.it c.args.shape.now)) (folded c.args.hash) (Some c.in-Some.number) = subst (λ (o : Option ℕ). IsSought c.self.inside.slots (Wants c.self.inside.cells.items (shape_eq.it c.args.shape.now)) (folded c.args.hash) o) c.in-Some.is c.loop-here.invariant in
+    let s = sought_here (goal.at.index-requires c).In-Some in
     let l = cell_there _ (shape_eq.it c.args.shape.now) (folded c.args.hash) (λ s t. ap folded (sym (hash_alike _ s t) ∙ sym c.requires.hash)) c.self.inside.slots c.self.invariant c.in-Some.number s in
     let k = c.self.inside.cells.ok in
     omega arith
 
 pub before-here-requires : goal.before-here-requires
-before-here-requires c =
-    let s : IsSought c.self.inside.slots (Wants c.self.inside.cells.items (shape_eq.it c.args.shape.now)) (folded c.args.hash) (Some c.in-Some.number) = subst (λ (o : Option ℕ). IsSought c.self.inside.slots (Wants c.self.inside.cells.items (shape_eq.it c.args.shape.now)) (folded c.args.hash) o) c.in-Some.is c.loop-here.invariant in
-    s.0
+before-here-requires c = (sought_here (goal.at.before-here-requires c).In-Some).0
 
 pub returns-then-eq : goal.returns-then-eq
 returns-then-eq c =
-    let s : IsSought c.self.inside.slots (Wants c.self.inside.cells.items (shape_eq.it c.args.shape.now)) (folded c.args.hash) (Some c.in-Some.number) = subst (λ (o : Option ℕ). IsSought c.self.inside.slots (Wants c.self.inside.cells.items (shape_eq.it c.args.shape.now)) (folded c.args.hash) o) c.in-Some.is c.loop-here.invariant in
+    let s = sought_here (goal.at.returns-then-eq c).In-Some in
     subst (λ (cs : List Cell). IsFind (shape_eq.it c.args.shape.now) cs (Some c.in-Some.number)) c.self.view_is
     (cell_found _ (shape_eq.it c.args.shape.now) (folded c.args.hash) (λ s t. ap folded (sym (hash_alike _ s t) ∙ sym c.requires.hash)) c.self.inside.slots c.self.invariant c.in-Some.number c.index.result.now s c.index.ensures (sym c.eq.ensures ∙ c.if-eq.true))
 
