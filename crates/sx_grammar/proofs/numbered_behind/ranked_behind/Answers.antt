@@ -8,6 +8,7 @@ use Rattle.sx_grammar.specs.Tables.{GrammarData, AreNumbered, HaveLiteralsBelow}
 use Rattle.sx_grammar.proofs.MakeLaws.{line_known_here, lines_contain, few_names, few_texts}
 use Rattle.sx_grammar.proofs.Behind.{numbered_both, below_both}
 use Rattle.sx_grammar.proofs.numbered_behind.ranked_behind.Goals as goal
+use Rattle.sx_grammar.proofs.numbered_behind.ranked_behind.Goals.{In_ok-productions}
 
 pub number_productions-requires-clause-known : goal.number_productions-requires-clause-known
 number_productions-requires-clause-known c =
@@ -21,21 +22,9 @@ number_productions-requires-clause-few c = few_names (parts c.args.from.now) c.a
 pub number_productions-requires-clause-few_literals : goal.number_productions-requires-clause-few_literals
 number_productions-requires-clause-few_literals c = few_texts (parts c.args.from.now) c.args.literals.now c.requires.literals c.requires.limits.literals
 
-pub ranks_behind-requires-clause-numbered : goal.ranks_behind-requires-clause-numbered
-ranks_behind-requires-clause-numbered c =
-    let p = parts c.base.inside.parts in
-    let whole = parts c.args.from.now in
-    let more = map line c.args.more.now in
-    let ps = c.base.inside.productions.items in
-    let qs = c.in_ok-own.own.items in
-    let grows = subst (λ (d : GrammarData). GrammarGrows d.parts more whole) (sym c.base.view_is) c.requires.behind in
-    let low = subst (λ l. HaveLiteralsBelow (length l) ps) c.base.invariant.has_texts c.base.invariant.below in
-    subst (AreNumbered whole) (sym c.deref-2.ensures.value)
-    (numbered_both p more whole grows c.base.invariant.is_grammar.0.0.0.0 c.args.literals.now c.args.sorts.now ps qs c.in_ok-productions.productions.items c.base.invariant.has_productions low
-    c.requires.literals c.requires.sorts c.in_ok-own.ensures.same (c.in_ok-productions.ensures ∙ ap (λ (l : List NumberedProduction). map bare (l ++ qs)) c.deref.ensures.value))
-
-pub returns-in-Ok-clause-same : goal.returns-in-Ok-clause-same
-returns-in-Ok-clause-same c =
+-- all productions are those of the whole, with numbers
+all_numbered : (c : In_ok-productions) → AreNumbered (parts c.args.from.now) c.in_ok-productions.productions.items
+all_numbered c =
     let p = parts c.base.inside.parts in
     let whole = parts c.args.from.now in
     let more = map line c.args.more.now in
@@ -45,6 +34,12 @@ returns-in-Ok-clause-same c =
     let low = subst (λ l. HaveLiteralsBelow (length l) ps) c.base.invariant.has_texts c.base.invariant.below in
     numbered_both p more whole grows c.base.invariant.is_grammar.0.0.0.0 c.args.literals.now c.args.sorts.now ps qs c.in_ok-productions.productions.items c.base.invariant.has_productions low
     c.requires.literals c.requires.sorts c.in_ok-own.ensures.same (c.in_ok-productions.ensures ∙ ap (λ (l : List NumberedProduction). map bare (l ++ qs)) c.deref.ensures.value)
+
+pub ranks_behind-requires-clause-numbered : goal.ranks_behind-requires-clause-numbered
+ranks_behind-requires-clause-numbered c = subst (AreNumbered (parts c.args.from.now)) (sym c.deref-2.ensures.value) (all_numbered (goal.at.ranks_behind-requires-clause-numbered c).In_ok-productions)
+
+pub returns-in-Ok-clause-same : goal.returns-in-Ok-clause-same
+returns-in-Ok-clause-same c = all_numbered (goal.at.returns-in-Ok-clause-same c).In_ok-productions
 
 pub returns-in-Ok-clause-below : goal.returns-in-Ok-clause-below
 returns-in-Ok-clause-below c =
