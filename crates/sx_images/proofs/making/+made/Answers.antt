@@ -10,7 +10,7 @@ use Rattle.sx_images.proofs.making.+made.Goals.{new_image-In-Some}
 
 -- the term is the node that is read
 node_read : (t : ℕ) (c : new_image-In-Some t) → IsNodeAt (trees c.args.arena.now) (tree_at (trees c.args.arena.now) c.args.term) (Some c.in-Some.node)
-node_read t c = node_is (table_of c.args.table.now) (trees c.args.arena.now) (tree_at (trees c.args.arena.now) c.args.term) c.in_ok-node.field-0 c.in-Some.node c.in_ok-node.ensures c.in-Some.is
+node_read t c = node_is (table_of c.args.table.now) _ _ _ _ c.in_ok-node.ensures c.in-Some.is
 
 pub made-returns-in-Some-clause-image : goal.made-returns-in-Some-clause-image
 made-returns-in-Some-clause-image t c =
