@@ -13,12 +13,12 @@ loop-i-init c = keyed_first _ _ _ _ _
 
 pub loop-i-preserved-then-is_output-outputs : goal.loop-i-preserved-then-is_output-outputs
 loop-i-preserved-then-is_output-outputs c =
-    let p = get_at c.args.side.now.places.now c.loop-i.i c.loop-i-test.true in
+    let p = get_at _ _ c.loop-i-test.true in
     keyed_skip _ _ _ _ _ _ _ p.0 c.loop-i.invariant c.loop-i-test.true p.1 (λ q. is_other _ _ c.if-is_output-outputs.true (c.is_output.ensures ∙ q))
 
 pub returns-then-taken-terms : goal.returns-then-taken-terms
 returns-then-taken-terms c =
-    let p = get_at c.args.side.now.places.now c.loop-i.i c.loop-i-test.true in
+    let p = get_at _ _ c.loop-i-test.true in
     (
       (λ z. cc),
       (λ h. absurd (keyed_few _ _ _ _ _ _ _ p.0 c.loop-i.invariant c.loop-i-test.true p.1 (sym c.is_output.ensures ∙ is_same _ _ c.if-is_output-outputs.false) c.if-taken-terms.true h)),
