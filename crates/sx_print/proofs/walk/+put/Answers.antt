@@ -1,22 +1,27 @@
-use Rattle.std.proofs.Common.{rules, arith, length, sym, subst, ◌+◌}
+use Rattle.std.proofs.Common.{◌≡◌, ℕ, Some, rules, arith, length, sym, subst, ◌+◌}
+use Rattle.std.specs.Prelude.{slice_get}
 use Rattle.std.proofs.lemmas.Result.{on_ok_weaker}
 use Rattle.sx_term.specs.declared.term.Term.TheViews.{the_lemmas}
 use Rattle.sx_term.proofs.Cores.{Grows-trans}
 use Rattle.sx_term.proofs.Kids.{tree-at_node, greatest_depth-kids, greatest_depth-at}
+use Rattle.sx_grammar.specs.Numbered.{production}
 use Rattle.sx_grammar.specs.Parts.{numbered}
 use Rattle.sx_grammar.specs.Tables.{literals_of}
 use Rattle.sx_print.proofs.Walking.{production_here, label_within, kids_are_built, row_below, pair_within, lexeme_adds, variable_adds, node_plain, node_bracketed, kid_is_built, Progress, no_progress, kid_of_lexeme, kid_of_part, past_literal, past_lexeme, past_part, leads_to_end}
 use Rattle.sx_print.proofs.walk.+put.Goals as goal
-use Rattle.sx_print.proofs.walk.+put.Goals.{put_symbols-in-Lit+in_ok-put_literal-in-Lit, put_symbols-in-Lex+in_ok-put_term-in-Lex, put_symbols-in-Part+in_ok-put_term-in-Part}
+use Rattle.sx_print.proofs.walk.+put.Goals.{put_symbols-in-Lit+in_ok-put_literal-in-Lit, put_symbols-in-Lex+in_ok-put_term-in-Lex, put_symbols-in-Part+in_ok-put_term-in-Part, put_term-After-index-productions-label}
+
+-- the production at the label of the node
+here : (t : ℕ) (c : put_term-After-index-productions-label t) → slice_get (numbered c.args.grammar.now.parts).productions c.in-Node.label ≡ Some (production (literals_of c.args.grammar.now.parts) c.index-productions-label.result)
+here t c = production_here c.args.grammar.now.parts c.productions.result.now c.in-Node.label (length c.args.vars.now) c.index-productions-label.result _ _ c.productions.ensures.same (tree-at_node _ _ _ c.in-Node.is) c.requires.built c.index-productions-label.is
 
 pub put_term-put_symbols-requires : goal.put_term-put_symbols-requires
 put_term-put_symbols-requires t c =
     let is = tree-at_node _ _ _ c.in-Node.is in
-    let here = production_here c.args.grammar.now.parts c.productions.result.now c.in-Node.label (length c.args.vars.now) c.index-productions-label.result _ _ c.productions.ensures.same is c.requires.built c.index-productions-label.is in
     let deep = greatest_depth-kids _ _ _ _ c.in-Node.is c.deref-in-None.ensures.value in
     let lt = label_within c.args.grammar.now.parts c.productions.result.now c.in-Node.label (length c.args.vars.now) _ _ c.productions.ensures.same is c.requires.built in
     let low = row_below _ c.productions.result.now c.in-Node.label c.index-productions-label.result _ c.productions.ensures.below lt c.index-productions-label.is c.deref.ensures.value in
-    let both = kids_are_built c.args.grammar.now.parts c.in-Node.label (length c.args.vars.now) c.index-productions-label.result _ _ _ _ c.in-Node.is here c.deref.ensures.value c.deref-in-None.ensures.value c.requires.built in
+    let both = kids_are_built c.args.grammar.now.parts c.in-Node.label (length c.args.vars.now) c.index-productions-label.result _ _ _ _ c.in-Node.is (here t (goal.at.put_term-put_symbols-requires t c).After-index-productions-label) c.deref.ensures.value c.deref-in-None.ensures.value c.requires.built in
     (search (rules, the_lemmas), ((let d = c.requires.depth in omega (arith, deep, d)), (low, (both.0, both.1))))
 
 pub put_term-put_literal-requires : goal.put_term-put_literal-requires
@@ -25,11 +30,10 @@ put_term-put_literal-requires t c = (pair_within (literals_of c.args.grammar.now
 pub put_term-put_symbols-requires-in-Some : goal.put_term-put_symbols-requires-in-Some
 put_term-put_symbols-requires-in-Some t c =
     let is = tree-at_node _ _ _ c.in-Node.is in
-    let here = production_here c.args.grammar.now.parts c.productions.result.now c.in-Node.label (length c.args.vars.now) c.index-productions-label.result _ _ c.productions.ensures.same is c.requires.built c.index-productions-label.is in
     let deep = greatest_depth-kids _ _ _ _ c.in-Node.is c.deref-in-Some-2.ensures.value in
     let lt = label_within c.args.grammar.now.parts c.productions.result.now c.in-Node.label (length c.args.vars.now) _ _ c.productions.ensures.same is c.requires.built in
     let low = row_below _ c.productions.result.now c.in-Node.label c.index-productions-label.result _ c.productions.ensures.below lt c.index-productions-label.is c.deref-in-Some.ensures.value in
-    let both = kids_are_built c.args.grammar.now.parts c.in-Node.label (length c.args.vars.now) c.index-productions-label.result _ _ _ _ c.in-Node.is here c.deref-in-Some.ensures.value c.deref-in-Some-2.ensures.value c.requires.built in
+    let both = kids_are_built c.args.grammar.now.parts c.in-Node.label (length c.args.vars.now) c.index-productions-label.result _ _ _ _ c.in-Node.is (here t (goal.at.put_term-put_symbols-requires-in-Some t c).After-index-productions-label) c.deref-in-Some.ensures.value c.deref-in-Some-2.ensures.value c.requires.built in
     (search (rules, the_lemmas), ((let d = c.requires.depth in omega (arith, deep, d)), (low, (both.0, both.1))))
 
 pub put_term-put_literal-requires-in-Some : goal.put_term-put_literal-requires-in-Some
@@ -37,18 +41,14 @@ put_term-put_literal-requires-in-Some t c = (pair_within (literals_of c.args.gra
 
 pub put_term-returns-in-None-clause-ok : goal.put_term-returns-in-None-clause-ok
 put_term-returns-in-None-clause-ok t c =
-    let is = tree-at_node _ _ _ c.in-Node.is in
-    let here = production_here c.args.grammar.now.parts c.productions.result.now c.in-Node.label (length c.args.vars.now) c.index-productions-label.result _ _ c.productions.ensures.same is c.requires.built c.index-productions-label.is in
     on_ok_weaker c.put_symbols.result
-    (λ adds. node_plain c.args.grammar.now.parts c.args.vars.now c.args.term.now c.in-Node.label c.in-Node.kids c.index-productions-label.result c.args.least _ _ _ _ c.in-Node.is here c.deref.ensures.value c.deref-in-None.ensures.value c.in-None.ensures adds)
+    (λ adds. node_plain c.args.grammar.now.parts c.args.vars.now c.args.term.now c.in-Node.label c.in-Node.kids c.index-productions-label.result c.args.least _ _ _ _ c.in-Node.is (here t (goal.at.put_term-returns-in-None-clause-ok t c).After-index-productions-label) c.deref.ensures.value c.deref-in-None.ensures.value c.in-None.ensures adds)
     c.put_symbols.ensures.ok
 
 pub put_term-returns-in_ok-put_symbols-in-Some-clause-ok : goal.put_term-returns-in_ok-put_symbols-in-Some-clause-ok
 put_term-returns-in_ok-put_symbols-in-Some-clause-ok t c =
-    let is = tree-at_node _ _ _ c.in-Node.is in
-    let here = production_here c.args.grammar.now.parts c.productions.result.now c.in-Node.label (length c.args.vars.now) c.index-productions-label.result _ _ c.productions.ensures.same is c.requires.built c.index-productions-label.is in
     on_ok_weaker c.put_literal-in-Some.result
-    (λ last. node_bracketed c.args.grammar.now.parts c.args.vars.now c.args.term.now c.in-Node.label c.in-Node.kids c.index-productions-label.result c.args.least _ _ c.in-Some.opening c.in-Some.closing _ _ _ _ c.in-Node.is here c.deref-in-Some.ensures.value c.deref-in-Some-2.ensures.value c.in-Some.ensures
+    (λ last. node_bracketed c.args.grammar.now.parts c.args.vars.now c.args.term.now c.in-Node.label c.in-Node.kids c.index-productions-label.result c.args.least _ _ c.in-Some.opening c.in-Some.closing _ _ _ _ c.in-Node.is (here t (goal.at.put_term-returns-in_ok-put_symbols-in-Some-clause-ok t c).After-index-productions-label) c.deref-in-Some.ensures.value c.deref-in-Some-2.ensures.value c.in-Some.ensures
     c.in_ok-put_literal-in-Some.ensures.ok c.in_ok-put_symbols-in-Some.ensures.ok last)
     c.put_literal-in-Some.ensures.ok
 
