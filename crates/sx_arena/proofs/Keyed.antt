@@ -77,8 +77,7 @@ module _ (ts : List Tree) (mask : List Bool) (o : Bool) (places : List Term) (te
       pub keyed_node : (label : ℕ) (kids : Vec Term Global) (found : Bool) → p ≡ Node label kids → IsTrue found ↔ HasLabel label (tree_at ts t) →
           IsTrue found ↔ FirstLabelFits (selected o mask (map tree places)) (map (tree_at ts) terms)
       keyed_node label kids found q h =
-          let same : FirstLabelFits (tree p ∷ patterns_behind) (tree_at ts t ∷ map (tree_at ts) (drop (k + 1) terms)) ≡ HasLabel label (tree_at ts t) = ap (λ r. FirstLabelFits (r ∷ patterns_behind) (tree_at ts t ∷ map (tree_at ts) (drop (k + 1) terms))) (ap tree q ∙ tree-at_node (Node label kids) label kids refl) in
-          (
+          let same : FirstLabelFits (tree p ∷ patterns_behind) (tree_at ts t ∷ map (tree_at ts) (drop (k + 1) terms)) ≡ HasLabel label (tree_at ts t) = ap (λ r. FirstLabelFits (r ∷ patterns_behind) (tree_at ts t ∷ map (tree_at ts) (drop (k + 1) terms))) (ap tree q ∙ tree-at_node (Node label kids) label kids refl) in (
             (λ x. there (subst (λ (X : Type 0). X) (sym same) (h.0 x))),
             (λ x. h.1 (subst (λ (X : Type 0). X) same (back x))),
           )

@@ -18,8 +18,7 @@ loop-i-preserved-then-is_output-outputs c =
 
 pub returns-then-taken-terms : goal.returns-then-taken-terms
 returns-then-taken-terms c =
-    let p = get_at _ _ c.loop-i-test.true in
-    (
+    let p = get_at _ _ c.loop-i-test.true in (
       (λ z. cc),
       (λ h. absurd (keyed_few _ _ _ _ _ _ _ p.0 c.loop-i.invariant c.loop-i-test.true p.1 (sym c.is_output.ensures ∙ is_same _ _ c.if-is_output-outputs.false) c.if-taken-terms.true h)),
     )
@@ -35,14 +34,15 @@ returns-in-Node c =
 
 pub loop-i-preserved : goal.loop-i-preserved
 loop-i-preserved c = elim c.match-places-i.branch [
-    in-Lex w ↦ subst (λ (k : ℕ). Keyed (trees c.args.arena.now) (mask_of c.args.side.now.roles.now) c.args.side.now.outputs c.args.side.now.places.now c.args.terms.now (c.loop-i.i + 1) k) (sym w.taken-is)
-        (keyed_lexeme _ _ _ _ _ _ _ _ c.loop-i.invariant c.loop-i-test.true c.index-places-i.is (sym c.is_output.ensures ∙ is_same _ _ c.if-is_output-outputs.false) _ c.if-taken-terms.false
-        (get_or_default c.args.terms.now c.loop-i.taken 0 (get_or c.args.terms.now c.loop-i.taken 0) c.if-taken-terms.false)
-        _ _ w.in-Lex.is)
+  | in-Lex w ↦ subst (λ (k : ℕ). Keyed (trees c.args.arena.now) (mask_of c.args.side.now.roles.now) c.args.side.now.outputs c.args.side.now.places.now c.args.terms.now (c.loop-i.i + 1) k) (sym w.taken-is)
+      (keyed_lexeme _ _ _ _ _ _ _ _ c.loop-i.invariant c.loop-i-test.true c.index-places-i.is (sym c.is_output.ensures ∙ is_same _ _ c.if-is_output-outputs.false) _ c.if-taken-terms.false
+      (get_or_default c.args.terms.now c.loop-i.taken 0 (get_or c.args.terms.now c.loop-i.taken 0) c.if-taken-terms.false)
+      _ _ w.in-Lex.is)
   | in-Var w ↦ subst (λ (k : ℕ). Keyed (trees c.args.arena.now) (mask_of c.args.side.now.roles.now) c.args.side.now.outputs c.args.side.now.places.now c.args.terms.now (c.loop-i.i + 1) k) (sym w.taken-is)
-        (keyed_hole _ _ _ _ _ _ _ _ c.loop-i.invariant c.loop-i-test.true c.index-places-i.is (sym c.is_output.ensures ∙ is_same _ _ c.if-is_output-outputs.false) _ c.if-taken-terms.false
-        (get_or_default c.args.terms.now c.loop-i.taken 0 (get_or c.args.terms.now c.loop-i.taken 0) c.if-taken-terms.false)
-        _ w.in-Var.is) ]
+      (keyed_hole _ _ _ _ _ _ _ _ c.loop-i.invariant c.loop-i-test.true c.index-places-i.is (sym c.is_output.ensures ∙ is_same _ _ c.if-is_output-outputs.false) _ c.if-taken-terms.false
+      (get_or_default c.args.terms.now c.loop-i.taken 0 (get_or c.args.terms.now c.loop-i.taken 0) c.if-taken-terms.false)
+      _ w.in-Var.is)
+]
 
 pub returns : goal.returns
 returns c =

@@ -9,5 +9,5 @@ pub returns-in-None : goal.returns-in-None
 returns-in-None c = (
   refl,
   ap (λ text. option_map (λ (n : ℕ). of_limit n 0) (count_of most_levels text)) (sym c.bytes.ensures.value)
-  ∙ ap (option_map (λ (n : ℕ). of_limit n 0)) (sym c.count_of.ensures.value ∙ c.in-None.is),
+      ∙ ap (option_map (λ (n : ℕ). of_limit n 0)) (sym c.count_of.ensures.value ∙ c.in-None.is),
 )
