@@ -103,7 +103,7 @@ module _ (l : BaseLanguage) (budgets : Budgets) where
     },
   )
   one_more (f ∷ files) file x y z m n h k =
-      let defect_at = went_on _ _ _ m h in
+      let at = went_on _ _ _ m h in
       let rest = one_more files file at.given y z at.after n at.goes k in
       (at.before + rest.0, record { given = Ok at.given; before = at.before; after = rest.0; begins = at.begins; goes = rest.1; sum = refl })
 
