@@ -11,7 +11,7 @@ use Rattle.sx_rules.specs.Sets.{forms_in, rules_in}
 use Rattle.sx_rules.specs.Views.{NamedRule, subjects_in}
 use Rattle.sx_directives.specs.declared.rows.FormLine.{FormLine}
 use Rattle.sx_rewrite.specs.Extensions.{StoredExtension, FitsRules, with_table, without_extensions}
-use Rattle.sx_rewrite.specs.Extensions.{extended_by as grown}
+use Rattle.sx_rewrite.specs.Extensions.{extended_by}
 use Rattle.sx_rewrite.specs.Kinds.{HaveSortsFor}
 use Rattle.sx_rewrite.specs.Sound.{AreSoundBy}
 use Rattle.sx_rewrite.specs.Stored.{signature_of}
@@ -55,7 +55,7 @@ with_added d x = record {
   parts = extended d.parts x.lines;
   rule_parts = x.by_rules;
   rules = d.rules ++ x.rules;
-  set = grown d.set x.extension;
+  set = extended_by d.set x.extension;
 }
 
 -- The extension fits the dialect and is sound after it, all rules are a rule set, and the lexemes
