@@ -3,7 +3,7 @@
 ghost use Rattle.std.specs.Prelude.{◌≡◌, map, Ok, Err, IfOk};
 ghost use Rattle.sx_term.specs.Shapes.{shapes as shapes_in};
 ghost use Rattle.sx_grammar.specs.Told.{shapes_of};
-ghost use Rattle.sx_steps.specs.Stop.{Does, IsNoFault, Gives};
+ghost use Rattle.sx_steps.specs.Stop.{Does, IsNoFault};
 ghost use Rattle.sx_accepting.specs.AcceptanceStops.{CanTellError};
 ghost use Rattle.sx_accepting.specs.ExtendedLanguages.{base_of, extended_data};
 ghost use Rattle.sx_accepting.specs.Extending.{read_data, Accepts, WasRead, GoesOnBy, IsStopToldBy};

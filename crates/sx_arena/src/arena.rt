@@ -2,7 +2,7 @@
 //! this crate knows lacks memory, it answers `AllocError`: that takes no room, and so a number or
 //! this error is handed back in registers.
 
-ghost use Rattle.std.specs.Prelude.{◌≡◌, ℕ, ◌+◌, ◌-◌, ◌^◌, ◌<◌, ◌≤◌, [], ◌∷◌, IfOk, length};
+ghost use Rattle.std.specs.Prelude.{◌≡◌, ◌-◌, ◌^◌, ◌<◌, [], ◌∷◌, IfOk, length};
 ghost use Rattle.std.specs.Prelude.{map, min};
 ghost use Rattle.std.specs.Prelude.{take, None};
 ghost use Rattle.sx_term.specs.Tree.{node, lexeme, hole, forest, greatest_depth, total_size};

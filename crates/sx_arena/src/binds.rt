@@ -1,10 +1,10 @@
 //! Bindings of variables to terms of an arena, as chains that share what they have in common.
 
-ghost use Rattle.std.specs.Prelude.{◌≡◌, ℕ, ◌+◌, ◌≤◌, ◌<◌, List, [], ◌∷◌, ◌++◌, IfOk, OnOk, length};
+ghost use Rattle.std.specs.Prelude.{◌≡◌, ◌+◌, ◌≤◌, ◌<◌, List, [], ◌∷◌, ◌++◌, IfOk, OnOk, length};
 ghost use Rattle.std.specs.Prelude.{take};
 ghost use Rattle.sx_term.specs.Tree.{Tree};
 ghost use Rattle.sx_arena.specs.Grown.{Extends};
-ghost use Rattle.sx_arena.specs.Binds.{envs, env_at, bind_step, IsBinds, IsBoundTerm, BindsGrow};
+ghost use Rattle.sx_arena.specs.Binds.{envs, env_at, IsBinds, IsBoundTerm};
 
 use std::alloc::Global;
 use sx_term::NoMemory;

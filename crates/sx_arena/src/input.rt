@@ -1,12 +1,12 @@
 //! Terms, hypotheses and pairs are put into an arena.
 
-ghost use Rattle.std.specs.Prelude.{◌≡◌, ℕ, ◌≤◌, IfOk, length, map};
+ghost use Rattle.std.specs.Prelude.{◌≤◌, IfOk, map};
 ghost use Rattle.sx_term.specs.Tree.{depth_of};
 ghost use Rattle.sx_term.specs.Term.{tree};
 ghost use Rattle.sx_rules.specs.Deep.{AreShallow};
 ghost use Rattle.sx_rules.specs.Derivations.{ShallowJudgements};
 ghost use Rattle.sx_rules.specs.Views.{pair};
-ghost use Rattle.sx_arena.specs.Arena.{trees, IsArena, IsHeld};
+ghost use Rattle.sx_arena.specs.Arena.{IsArena, IsHeld};
 ghost use Rattle.sx_arena.specs.Entered.{IsFactIn, AreFactsIn, ArePairsShallow, IsPairIn};
 ghost use Rattle.sx_arena.specs.Entered.{ArePairsIn};
 ghost use Rattle.sx_arena.specs.Places.{selected, AreHeld};

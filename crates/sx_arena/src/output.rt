@@ -1,6 +1,6 @@
 //! Terms of an arena, and proofs of a store, as values of their own.
 
-ghost use Rattle.std.specs.Prelude.{◌≡◌, ℕ, ◌≤◌, ◌<◌, IfOk, length, map};
+ghost use Rattle.std.specs.Prelude.{◌≡◌, ◌≤◌, ◌<◌, IfOk, length, map};
 ghost use Rattle.sx_term.specs.Term.{tree};
 ghost use Rattle.sx_term.specs.Tree.{lexeme as leaf};
 ghost use Rattle.sx_arena.specs.Matching.{filled};

@@ -1,6 +1,6 @@
 //! Patterns: their instances, and matching.
 
-ghost use Rattle.std.specs.Prelude.{◌≡◌, ℕ, ◌≤◌, ◌<◌, IfOk, OnOk, length, map};
+ghost use Rattle.std.specs.Prelude.{◌≡◌, ◌≤◌, ◌<◌, IfOk, OnOk, length, map};
 ghost use Rattle.sx_term.specs.Tree.{node, lexeme, hole, forest, depth_of, greatest_depth};
 ghost use Rattle.sx_term.specs.Term.{tree};
 ghost use Rattle.sx_rules.specs.Instances.{instance};

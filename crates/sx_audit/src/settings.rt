@@ -1,6 +1,6 @@
 //! The settings of auditors.
 
-ghost use Rattle.std.specs.Prelude.{◌≡◌, ◌==◌, ◌≤◌, map, length, true, IfOk, option_map};
+ghost use Rattle.std.specs.Prelude.{◌≡◌, ◌==◌, map, true, IfOk, option_map};
 ghost use Rattle.std.specs.List.{slice_split};
 ghost use Rattle.sx_audit.specs.Kinds as spec;
 

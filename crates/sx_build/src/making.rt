@@ -1,6 +1,6 @@
 //! The steps that make one module of a closure.
 
-ghost use Rattle.std.specs.Prelude.{◌≡◌, ◌++◌, ◌∷◌, [], ◌≤◌, IfOk, length, map};
+ghost use Rattle.std.specs.Prelude.{◌≡◌, ◌++◌, ◌∷◌, [], IfOk, map};
 ghost use Rattle.std.specs.List.{AllByRecursion};
 ghost use Rattle.sx_unit.specs.Written.{unit_of};
 ghost use Rattle.sx_environment.specs.SeenFrom.{IsShort, interfaces_of};

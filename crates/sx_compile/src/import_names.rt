@@ -1,6 +1,6 @@
 //! The steps that look at the names of a module's imports.
 
-ghost use Rattle.std.specs.Prelude.{◌≡◌, ◌∷◌, [], IfOk, IsTrue, Contains};
+ghost use Rattle.std.specs.Prelude.{◌≡◌, ◌∷◌, [], IfOk};
 ghost use Rattle.sx_interface.specs.HeaderView.{header_view};
 ghost use Rattle.sx_steps.specs.Stop.{Gives, IsNoFault};
 ghost use Rattle.sx_walking.specs.Reached.{TellsCycle};

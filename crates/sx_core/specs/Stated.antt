@@ -1,6 +1,6 @@
 -- What a core file states.
 use Rattle.std.specs.Prelude.{◌≡◌, ℕ, ◌+◌, ◌≤◌, Bool, true, false, IsTrue, List, [], ◌∷◌, map}
-use Rattle.std.specs.Prelude.{length, Some, slice_get, Contains, codes}
+use Rattle.std.specs.Prelude.{length, Some, slice_get, codes}
 use Rattle.sx_term.specs.declared.lex_kind.LexKind.TheVariants.{Id, Num, Str}
 use Rattle.sx_term.specs.declared.sort.Sort.{Sort}
 use Rattle.sx_term.specs.declared.sort.Sort.TheVariants.{Lex, Plain, Typed}

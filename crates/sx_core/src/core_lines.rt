@@ -5,7 +5,7 @@ ghost use Rattle.sx_lines.specs.Left.{left as left_of};
 ghost use Rattle.sx_lines.specs.Reading.{kept};
 ghost use Rattle.sx_term.specs.Shapes.{shapes};
 ghost use Rattle.sx_core.specs.Stated.{AreStatedNames};
-ghost use Rattle.sx_core.specs.Resolving.{sort_names, rows_in, IsSortTable};
+ghost use Rattle.sx_core.specs.Resolving.{rows_in, IsSortTable};
 ghost use Rattle.sx_core.specs.Fitting.{AreSorts};
 ghost use Rattle.sx_core.specs.CoreRead.{AreCoreLinesRead};
 ghost use Rattle.sx_core.specs.Machine.{IsReaderBegun};

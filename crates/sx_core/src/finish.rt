@@ -1,6 +1,6 @@
 //! The end of the reading of a core file.
 
-ghost use Rattle.std.specs.Prelude.{◌≡◌, ℕ, IfOk, map};
+ghost use Rattle.std.specs.Prelude.{◌≡◌, IfOk, map};
 ghost use Rattle.sx_rules.specs.Deep.{RulesAreShallow};
 ghost use Rattle.sx_rules.specs.Views as view;
 ghost use Rattle.sx_core.specs.Rows.{sort_row};

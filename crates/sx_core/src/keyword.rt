@@ -1,6 +1,6 @@
 //! The words that begin the lines of a core file.
 
-ghost use Rattle.std.specs.Prelude.{◌≡◌, List, ℕ, MatchOption};
+ghost use Rattle.std.specs.Prelude.{◌≡◌, MatchOption};
 ghost use Rattle.sx_core.specs.Table.{core_keyword_text, IsKeyword, NoKeyword};
 ghost use Rattle.sx_core.specs.declared.keyword.Keyword.{Keyword as KeywordOf};
 

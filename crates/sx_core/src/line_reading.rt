@@ -1,6 +1,5 @@
 //! Reading one line of a core file.
 
-ghost use Rattle.std.specs.Prelude.{◌≡◌, ℕ, List, codes};
 ghost use Rattle.sx_core.specs.Table.{IsKeyword};
 ghost use Rattle.sx_core.specs.Reading.{context, AreNamesFound, IsLineAnswer};
 ghost use Rattle.sx_core.specs.declared.keyword.Keyword.TheVariants as keyword;

@@ -1,6 +1,6 @@
 //! Reading the next line of a core file.
 
-ghost use Rattle.std.specs.Prelude.{◌≡◌, ◌↔◌, IsTrue, ℕ, codes, MatchResult};
+ghost use Rattle.std.specs.Prelude.{◌≡◌, ◌↔◌, IsTrue, codes, MatchResult};
 ghost use Rattle.sx_core.specs.declared.stage.Stage.TheVariants as stages;
 ghost use Rattle.sx_core.specs.Machine as spec;
 ghost use Rattle.sx_core.specs.Machine.{IsUsual, NextRead, NextRefused};

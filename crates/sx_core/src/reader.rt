@@ -1,6 +1,6 @@
 //! The reading of a core file, line by line.
 
-ghost use Rattle.std.specs.Prelude.{◌≡◌, ℕ, ◌++◌, [], ◌∷◌, Contains, IsOk, MatchResult};
+ghost use Rattle.std.specs.Prelude.{◌≡◌, ℕ, Contains, IsOk, MatchResult};
 ghost use Rattle.sx_rules.specs.Views.{premise};
 ghost use Rattle.sx_core.specs.Machine.{IsFresh, CoreSteps, StepRefused, TakesPremise, keyword_of};
 ghost use Rattle.sx_core.specs.declared.line_read.LineRead.TheVariants as line;

@@ -1,10 +1,10 @@
 //! What the rows before the rules state.
 
-ghost use Rattle.std.specs.Prelude.{◌≡◌, ℕ, ◌+◌, ◌<◌, ◌≤◌, ◌^◌, ◌↔◌, IsTrue, List, length};
+ghost use Rattle.std.specs.Prelude.{◌≡◌, ◌+◌, ◌<◌, ◌↔◌, IsTrue};
 ghost use Rattle.std.specs.Prelude.{MatchOption, MatchResult, map};
 ghost use Rattle.sx_term.specs.Shapes.{shape};
 ghost use Rattle.sx_rules.specs.declared.rule.Place.{Place as PlaceOf};
-ghost use Rattle.sx_rules.specs.Views.{FormData, form, is_sub};
+ghost use Rattle.sx_rules.specs.Views.{form, is_sub};
 ghost use Rattle.sx_core.specs.Stated as spec;
 ghost use Rattle.sx_core.specs.Stated.{MayHave, MayHaveSort, AreStatedPlaces};
 ghost use Rattle.sx_term.specs.Untyped.{IsUntypedSort, AreUntypedSorts};

@@ -1,6 +1,6 @@
 //! Reading the lines before the rules.
 
-ghost use Rattle.std.specs.Prelude.{◌≡◌, ℕ, List, ◌++◌, codes, map, MatchOption, MatchResult};
+ghost use Rattle.std.specs.Prelude.{◌++◌, codes, map, MatchOption, MatchResult};
 ghost use Rattle.sx_core.specs.File.{sort_line, con_line, form_line};
 ghost use Rattle.sx_core.specs.Rows.{sort_row, con_row, place_row, form_row, IsDeclarationLine};
 ghost use Rattle.sx_core.specs.Rows.{NoRow};

@@ -1,6 +1,6 @@
 //! Sorts, found by their names.
 
-ghost use Rattle.std.specs.Prelude.{◌≡◌, ℕ, ◌+◌, ◌<◌, ◌^◌, List, length, Some, None, slice_get};
+ghost use Rattle.std.specs.Prelude.{◌≡◌, ℕ, ◌<◌, List, Some, None, slice_get};
 ghost use Rattle.std.specs.Prelude.{MatchOption, MatchResult, map};
 ghost use Rattle.sx_term.specs.declared.sort.Sort.{Sort as SortOf};
 ghost use Rattle.sx_core.specs.Rows.{sort_row};

@@ -1,6 +1,6 @@
 //! The terms of a line of a core file.
 
-ghost use Rattle.std.specs.Prelude.{◌≡◌, ℕ, [], ◌∷◌, map, MatchResult};
+ghost use Rattle.std.specs.Prelude.{◌≡◌, [], ◌∷◌, map, MatchResult};
 ghost use Rattle.sx_term.specs.Term.{tree};
 ghost use Rattle.sx_core.specs.TermsText as spec;
 ghost use Rattle.sx_core.specs.TermsText.{OneRead, OneRefused, RowRead, IsDeepRow, RefusedAs};

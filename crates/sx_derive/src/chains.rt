@@ -1,6 +1,6 @@
 //! Proofs and frames as chains of cells that share what they have in common.
 
-ghost use Rattle.std.specs.Prelude.{◌≡◌, ℕ, ◌+◌, ◌≤◌, [], ◌∷◌, ◌++◌, IfOk, OnOk, length};
+ghost use Rattle.std.specs.Prelude.{◌≡◌, ◌+◌, [], ◌∷◌, ◌++◌, IfOk, OnOk, length};
 
 use std::alloc::Global;
 use sx_term::NoMemory;

@@ -1,18 +1,6 @@
 //! The first derivation of a goal.
 
-ghost use Rattle.std.specs.Prelude.{
-  ◌≡◌,
-  ℕ,
-  ◌^◌,
-  ◌≤◌,
-  ◌<◌,
-  List,
-  Option,
-  IfOk,
-  MatchOption,
-  length,
-  map,
-};
+ghost use Rattle.std.specs.Prelude.{◌^◌, ◌<◌, List, Option, IfOk, MatchOption, length, map};
 ghost use Rattle.std.specs.Option.{option_map};
 ghost use Rattle.sx_term.specs.Term.{tree};
 ghost use Rattle.sx_term.specs.Tree.{Tree};
@@ -22,7 +10,7 @@ ghost use Rattle.sx_rules.specs.First.{IsFirst};
 ghost use Rattle.sx_rules.specs.Views.{goal as goal_of, hypotheses};
 ghost use Rattle.sx_arena.specs.Entered.{ArePairsShallow};
 ghost use Rattle.sx_arena.specs.Views.{rules_of, set_modes};
-ghost use Rattle.sx_derive.specs.Deriving.{answer_of, IsTold, IsDerived, IsNone, AreCounted};
+ghost use Rattle.sx_derive.specs.Deriving.{answer_of, IsDerived, IsNone, AreCounted};
 ghost use Rattle.sx_derive.specs.Search.{walk, tries_of};
 ghost use Rattle.sx_derive.specs.Store.{IsStore};
 ghost use Rattle.sx_derive.specs.Tasks.{IsEnding};

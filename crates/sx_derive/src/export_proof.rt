@@ -1,6 +1,6 @@
 //! Proofs of a store as values of their own.
 
-ghost use Rattle.std.specs.Prelude.{◌≡◌, ℕ, IfOk, length};
+ghost use Rattle.std.specs.Prelude.{◌≡◌, IfOk, length};
 ghost use Rattle.sx_rules.specs.ProofView.{proof};
 ghost use Rattle.sx_arena.specs.Arena.{trees, IsArena};
 ghost use Rattle.sx_arena.specs.Binds.{IsBinds};

@@ -1,18 +1,6 @@
 //! The list of the first derivation of a goal.
 
-ghost use Rattle.std.specs.Prelude.{
-  ◌≡◌,
-  ℕ,
-  ◌^◌,
-  ◌≤◌,
-  ◌<◌,
-  List,
-  Option,
-  IfOk,
-  MatchOption,
-  length,
-  map,
-};
+ghost use Rattle.std.specs.Prelude.{◌^◌, ◌<◌, List, Option, IfOk, MatchOption, length, map};
 ghost use Rattle.std.specs.Option.{option_map};
 ghost use Rattle.sx_term.specs.Term.{tree};
 ghost use Rattle.sx_term.specs.Tree.{Tree};

@@ -1,6 +1,6 @@
 //! What a search has found, or why it has found nothing.
 
-ghost use Rattle.std.specs.Prelude.{◌≡◌, ◌^◌, ◌<◌, List, Option, length};
+ghost use Rattle.std.specs.Prelude.{◌^◌, ◌<◌, List, Option, length};
 ghost use Rattle.sx_term.specs.Tree.{Tree};
 ghost use Rattle.sx_rules.specs.Deep.{AreShallow};
 ghost use Rattle.sx_rules.specs.Derivations.{ShallowJudgements};

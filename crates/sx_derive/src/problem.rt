@@ -1,6 +1,6 @@
 //! A problem in a store, and its search.
 
-ghost use Rattle.std.specs.Prelude.{◌≡◌, ℕ, ◌^◌, ◌<◌, IfOk, MatchOption, length, map, Some};
+ghost use Rattle.std.specs.Prelude.{◌^◌, ◌<◌, IfOk, MatchOption, length, map};
 ghost use Rattle.std.specs.Option.{option_map};
 ghost use Rattle.sx_term.specs.Term.{tree};
 ghost use Rattle.sx_rules.specs.Deep.{AreShallow};

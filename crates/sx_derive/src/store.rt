@@ -1,6 +1,6 @@
 //! All that a search makes: terms, bindings, proofs and frames.
 
-ghost use Rattle.std.specs.Prelude.{◌≡◌, [], List};
+ghost use Rattle.std.specs.Prelude.{List};
 ghost use Rattle.sx_rules.specs.Rules.{Rule};
 ghost use Rattle.sx_rules.specs.Modes.{Modes};
 ghost use Rattle.sx_derive.specs.Store.{IsStore, IsMark, IsChainsCut, IsStoreCut};

@@ -1,18 +1,6 @@
 //! The way from the subject of a rule's conclusion to that of a premise.
 
-ghost use Rattle.std.specs.Prelude.{
-  ◌≡◌,
-  ℕ,
-  ◌≤◌,
-  false,
-  IfOk,
-  MatchOption,
-  List,
-  [],
-  ◌∷◌,
-  map,
-  get_or,
-};
+ghost use Rattle.std.specs.Prelude.{◌≡◌, ◌≤◌, false, IfOk, MatchOption, List, [], ◌∷◌, map, get_or};
 ghost use Rattle.sx_term.specs.Tree.{Tree, depth_of};
 ghost use Rattle.sx_term.specs.Term.{tree};
 ghost use Rattle.sx_rules.specs.Modes.{outputs, outputs_of};

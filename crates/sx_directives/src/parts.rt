@@ -1,6 +1,6 @@
 //! The parts of a line.
 
-ghost use Rattle.std.specs.Prelude.{◌≡◌, ℕ, ◌<◌, [], ◌∷◌, length, MatchOption, IfOk, IfSome};
+ghost use Rattle.std.specs.Prelude.{◌≡◌, ◌<◌, [], ◌∷◌, length, MatchOption, IfOk, IfSome};
 ghost use Rattle.sx_lines.specs.Bytes as spec;
 ghost use Rattle.sx_directives.specs.Parts.{parts_of, IsBlankFront, IsPartEnd};
 ghost use Rattle.sx_grammar.specs.Parts.{texts};

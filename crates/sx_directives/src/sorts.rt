@@ -1,6 +1,6 @@
 //! Reading sorts as they are spelled in symbols.
 
-ghost use Rattle.std.specs.Prelude.{◌≡◌, List, ℕ, ◌++◌, ◌∷◌, MatchOption, MatchResult};
+ghost use Rattle.std.specs.Prelude.{◌≡◌, ◌++◌, ◌∷◌, MatchOption, MatchResult};
 ghost use Rattle.sx_directives.specs.Spelling.{lex_text, NotLexical, NoAt, IsLevelled, IsSortName};
 ghost use Rattle.sx_directives.specs.Spelling.{SpellsSort, NoneIs};
 

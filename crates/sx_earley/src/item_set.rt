@@ -1,6 +1,6 @@
 //! Items, each once, that are found by their hashes.
 
-ghost use Rattle.std.specs.Prelude.{◌≡◌, ℕ, ◌+◌, ◌-◌, ◌^◌, ◌<◌, ◌≤◌, List, [], OnOk, OnErr};
+ghost use Rattle.std.specs.Prelude.{◌≡◌, ℕ, ◌+◌, ◌-◌, ◌^◌, ◌<◌, List, [], OnOk, OnErr};
 ghost use Rattle.std.specs.Prelude.{IsTrue, IsFalse, Contains, length, map, get_or, slice_get};
 ghost use Rattle.sx_slots.specs.Slots.{slot_of, AreLinked, IsSlotTable};
 ghost use Rattle.sx_grammar.specs.Tally.{EachOnce};

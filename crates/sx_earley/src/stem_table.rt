@@ -1,8 +1,6 @@
 //! The sorts of stems.
 
 ghost use Rattle.std.specs.Prelude.{◌≡◌, ℕ, List, IfOk, IsTrue, false};
-ghost use Rattle.std.specs.HashMap.{get_by};
-ghost use Rattle.std.specs.Str.{bytes_eq};
 ghost use Rattle.sx_term.specs.declared.sort.Sort.{Sort};
 ghost use Rattle.sx_earley.specs.Tokens.{without_digits, meta_stem, stem_sort};
 ghost use Rattle.sx_earley.specs.Shown.{literal_texts};

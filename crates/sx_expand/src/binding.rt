@@ -9,7 +9,7 @@ ghost use Rattle.sx_arena.specs.Arena.{trees, tree_at, IsArena, AreBelow};
 ghost use Rattle.sx_arena.specs.Limits.{first_values};
 ghost use Rattle.sx_arena.specs.Matching.{Assignment, nothing_bound, match_all, filled, IsBound};
 ghost use Rattle.sx_arena.specs.Places.{selected, AreHeld};
-ghost use Rattle.sx_arena.specs.Views.{judgement_of, rule_of, set_modes};
+ghost use Rattle.sx_arena.specs.Views.{judgement_of, set_modes};
 ghost use Rattle.sx_expand.specs.Followed.{IsWork, bindings_of};
 
 use crate::work::Work;

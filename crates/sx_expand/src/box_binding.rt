@@ -1,6 +1,6 @@
 //! What is bound at a node whose derivation is made in boxes, and the node when its kids are made.
 
-ghost use Rattle.std.specs.Prelude.{◌≡◌, ℕ, List, [], Some, IfOk, OnOk, length, map, slice_get};
+ghost use Rattle.std.specs.Prelude.{◌≡◌, ℕ, [], Some, IfOk, OnOk, length, map, slice_get};
 ghost use Rattle.sx_term.specs.Term.{tree};
 ghost use Rattle.sx_rules.specs.Derivations.{by, given as hypothesis};
 ghost use Rattle.sx_rules.specs.Modes.{outputs_of};

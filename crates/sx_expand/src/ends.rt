@@ -1,6 +1,6 @@
 //! Where the derivations end that begin with the entries of a list.
 
-ghost use Rattle.std.specs.Prelude.{◌≡◌, ◌+◌, ◌<◌, ◌∷◌, IfOk, List, ℕ, length, map, get_or};
+ghost use Rattle.std.specs.Prelude.{◌≡◌, ◌+◌, ◌<◌, IfOk, List, ℕ, length, map, get_or};
 ghost use Rattle.sx_rules.specs.Derivations as spec;
 ghost use Rattle.sx_rules.specs.Derivations.{nodes_of};
 ghost use Rattle.sx_rules.specs.EntryView.{entries};

@@ -1,6 +1,6 @@
 //! Nodes whose kids are read.
 
-ghost use Rattle.std.specs.Prelude.{◌≡◌, List, [], OnOk, IfOk, length, map};
+ghost use Rattle.std.specs.Prelude.{◌≡◌, [], OnOk, IfOk, length, map};
 ghost use Rattle.sx_arena.specs.Arena.{tree_at, AreBelow};
 ghost use Rattle.sx_expand.specs.Followed.{IsWork, bindings_of};
 ghost use Rattle.sx_expand.specs.ReadDerivations.{IsDerivationRead};

@@ -1,7 +1,7 @@
 //! Plain images of the terms that are bound at a node, by number.
 
 ghost use Rattle.std.specs.Prelude.{◌≡◌, ◌<◌, ◌≤◌, IfOk, length, map, get_or};
-ghost use Rattle.sx_term.specs.Tree.{Tree, depth_of, forest};
+ghost use Rattle.sx_term.specs.Tree.{depth_of, forest};
 ghost use Rattle.sx_rules.specs.Deep.{AreShallow};
 ghost use Rattle.sx_plain.specs.Plain.{image};
 ghost use Rattle.sx_plain.specs.Tables.{FitsTable, FitTable};

@@ -1,6 +1,6 @@
 //! Lists of derivations, lowered.
 
-ghost use Rattle.std.specs.Prelude.{◌≡◌, ◌≤◌};
+ghost use Rattle.std.specs.Prelude.{◌≤◌};
 ghost use Rattle.sx_rules.specs.Derivations as spec;
 ghost use Rattle.sx_rules.specs.Derivations.{height_of};
 ghost use Rattle.sx_rules.specs.EntryView.{entries};

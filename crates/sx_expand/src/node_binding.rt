@@ -1,7 +1,7 @@
 //! The bindings of a node, from the inputs of its conclusion over the outputs of its kids to its
 //! own outputs.
 
-ghost use Rattle.std.specs.Prelude.{◌≡◌, List, [], IfOk, OnOk, length, map};
+ghost use Rattle.std.specs.Prelude.{◌≡◌, [], IfOk, OnOk, length, map};
 ghost use Rattle.sx_rules.specs.Deep.{AreShallow};
 ghost use Rattle.sx_rules.specs.Instances.{bound_by};
 ghost use Rattle.sx_rules.specs.Modes.{outputs_of};

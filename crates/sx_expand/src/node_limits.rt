@@ -1,6 +1,6 @@
 //! The limits of the terms of lowered nodes, by measures alone.
 
-ghost use Rattle.std.specs.Prelude.{◌≡◌, ◌≤◌, List, IfOk, map, slice_get, None};
+ghost use Rattle.std.specs.Prelude.{◌≤◌, List, IfOk, map, slice_get, None};
 ghost use Rattle.sx_term.specs.Tree.{Tree, greatest_depth, forest};
 ghost use Rattle.sx_term.specs.Term.{tree};
 ghost use Rattle.sx_term.specs.Instances.{instance, bound_by};

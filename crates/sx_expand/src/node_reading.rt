@@ -1,22 +1,19 @@
 //! Derivations that are read from their lists, node by node, by the numbers of their terms.
 
-ghost use Rattle.std.specs.Prelude.{◌≡◌, ◌&&◌, List, OnOk, length};
-ghost use Rattle.sx_term.specs.Tree.{Tree};
+ghost use Rattle.std.specs.Prelude.{◌≡◌, ◌&&◌, OnOk, length};
 ghost use Rattle.sx_rules.specs.Deep.{AreShallow};
 ghost use Rattle.sx_rules.specs.Derivations as spec;
 ghost use Rattle.sx_rules.specs.Rules as known;
 ghost use Rattle.sx_rules.specs.Views.{judgement};
 ghost use Rattle.sx_arena.specs.Arena.{AreBelow};
-ghost use Rattle.sx_rewrite.specs.Accepted.{extended_rules};
 ghost use Rattle.sx_rewrite.specs.Needed.{needed};
 ghost use Rattle.sx_rewrite.specs.Stored.{certificate_at};
 ghost use Rattle.sx_expand.specs.Followed.{IsWork, bindings_of};
-ghost use Rattle.sx_expand.specs.Listed.{StandsIn};
 ghost use Rattle.sx_expand.specs.ReadDerivations.{CanReadDerivation, AreInputs, IsDerivationRead};
 ghost use Rattle.sx_expand.specs.ReadNodes.{NodeData, IsNodeIn, AreFollowed, AreRead, proof_by};
 ghost use Rattle.sx_expand.specs.ReadNodes.{KidData, IsKidIn, IsKidDone};
 ghost use Rattle.sx_expand.specs.Readers.{terms_in, IsLoweringReader, ReaderGoesOn};
-ghost use Rattle.sx_expand.specs.Readings.{IsListReading, set_by, hyps_by};
+ghost use Rattle.sx_expand.specs.Readings.{IsListReading, set_by};
 
 use crate::ends::{entry_at, number_at};
 use crate::finishing::finish_node;

@@ -1,7 +1,6 @@
 //! The check of a rule whose flat terms are within the limits.
 
-ghost use Rattle.std.specs.Prelude.{◌≡◌, true, false, OnOk, option_map, map, MatchResult, IfOk};
-ghost use Rattle.sx_term.specs.Term.{tree};
+ghost use Rattle.std.specs.Prelude.{◌≡◌, true, false};
 ghost use Rattle.sx_rules.specs.EntryView.{entries};
 ghost use Rattle.sx_rewrite.specs.declared.ext_rule.ExtRule.{ExtRule as ExtRuleOf};
 ghost use Rattle.sx_rewrite.specs.ExtensionView.{ext_rule};

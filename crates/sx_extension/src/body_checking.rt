@@ -1,6 +1,6 @@
 //! Checking the bodies of the rules of an extension.
 
-ghost use Rattle.std.specs.Prelude.{◌≡◌, ◌≤◌, ◌↔◌, IsTrue, Option, IsSome, IfSome, option_map};
+ghost use Rattle.std.specs.Prelude.{◌≤◌, ◌↔◌, IsTrue, Option, IsSome, IfSome, option_map};
 ghost use Rattle.std.specs.Prelude.{MatchOption, map};
 ghost use Rattle.std.specs.List.{AllByRecursion};
 ghost use Rattle.sx_term.specs.declared.sort.Sort.{Sort};

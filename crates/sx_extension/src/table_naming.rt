@@ -1,6 +1,6 @@
 //! Refusals of plain tables by names.
 
-ghost use Rattle.std.specs.Prelude.{◌<◌, length, map, IfOk};
+ghost use Rattle.std.specs.Prelude.{◌<◌, length, map};
 ghost use Rattle.sx_outline.specs.Stages.{plain_data};
 ghost use Rattle.sx_extension.specs.Defects.{CanName};
 ghost use Rattle.sx_extension.specs.TableRefusals.{IsPlainRefusal, IsNoPlain, IsTableRefusal};

@@ -3,7 +3,7 @@ use Rattle.std.proofs.Common.{◌≡◌, ℕ, ◌+◌, ◌<◌, ◌≤◌, drop,
 use Rattle.std.proofs.lemmas.List.{at_drop_more, at_drop_all}
 use Rattle.std.specs.declared.alloc.Global.{Global}
 use Rattle.sx_grammar.specs.Reading as plain
-use Rattle.sx_grammar.specs.Reading.{Readings, branch, bracket, leaf, variable, done, ◌▸◌}
+use Rattle.sx_grammar.specs.Reading.{branch, bracket, done, ◌▸◌}
 use Rattle.sx_grammar.specs.Reading.{reading_depth, readings_depth}
 use Rattle.sx_forest.specs.declared.reading.Reading.{Reading, Row_of-Reading, end_of-Reading}
 use Rattle.sx_forest.specs.declared.reading.Reading.{more_of-Reading, Node, Bracket}

@@ -10,7 +10,7 @@ ghost use Rattle.sx_earley.specs.Shown.{tokens_of};
 ghost use Rattle.sx_grammar.specs.Items.{ReadsToken, Span};
 ghost use Rattle.sx_forest.specs.Readings.{plain_reading, plain_readings};
 ghost use Rattle.sx_forest.specs.Forests.{grammar_in, tokens_in, lists_in, symbols_of, end_of};
-ghost use Rattle.sx_forest.specs.Forests.{followed, IsBy, IsForest, IsShallowEntry, IsOpened, IsAt};
+ghost use Rattle.sx_forest.specs.Forests.{followed, IsBy, IsForest, IsShallowEntry, IsOpened};
 ghost use Rattle.sx_forest.specs.Forests.{IsItemStep, IsReadTo, HasKids, IsReadingMade};
 
 use crate::entry::{Entry, Maker};

@@ -1,10 +1,9 @@
 //! Two readings of a span.
 
 ghost use Rattle.std.specs.Prelude.{◌≡◌, ◌≢◌, suc, [], None, OnOk, IfOk, IfSome};
-ghost use Rattle.sx_grammar.specs.Reading.{ReadsAll};
 ghost use Rattle.sx_forest.specs.Readings.{plain_reading, plain_readings};
 ghost use Rattle.sx_forest.specs.Tallies.{tally_of};
-ghost use Rattle.sx_forest.specs.Forests.{grammar_in, tokens_in, lists_in, symbols_of, end_of};
+ghost use Rattle.sx_forest.specs.Forests.{grammar_in, tokens_in, lists_in, end_of};
 ghost use Rattle.sx_forest.specs.Forests.{one_of, other_of, IsBy, IsMore, IsForest, IsShallowEntry};
 ghost use Rattle.sx_forest.specs.Forests.{IsOpened, IsAt, IsReadTo, IsItemStep, IsForkAt, IsMoreAt};
 ghost use Rattle.sx_forest.specs.Forests.{IsParting, AreKidsApart};

@@ -1,6 +1,6 @@
 //! The order in which spans are counted.
 
-ghost use Rattle.std.specs.Prelude.{◌≡◌, ◌≤◌, ℕ, Some, IfOk, OnOk, Contains};
+ghost use Rattle.std.specs.Prelude.{◌≡◌, ◌≤◌, Some, IfOk, OnOk, Contains};
 ghost use Rattle.std.specs.List.Sorted.{IsPermutation};
 ghost use Rattle.sx_grammar.specs.Grammar.{production_of};
 ghost use Rattle.sx_grammar.specs.Order.{rank_at};

@@ -1,14 +1,13 @@
 //! The verdict on what is shown.
 
-ghost use Rattle.std.specs.Prelude.{◌≡◌, ◌≤◌, ℕ, List, length};
+ghost use Rattle.std.specs.Prelude.{◌≤◌, ℕ, List};
 ghost use Rattle.sx_grammar.specs.Grammar as plain;
 ghost use Rattle.sx_grammar.specs.Reading.{ReadsWhole, reading_depth};
 ghost use Rattle.sx_grammar.specs.Tally.{IsTally};
 ghost use Rattle.sx_grammar.specs.ReadOne.{MoreHold};
-ghost use Rattle.sx_earley.specs.Shown.{plain, tokens_of};
+ghost use Rattle.sx_earley.specs.Shown.{plain};
 ghost use Rattle.sx_forest.specs.Tallies.{tally_of};
 ghost use Rattle.sx_forest.specs.Rows.{AllSorted, IsWholeWays};
-ghost use Rattle.sx_forest.specs.Table.{IsFull};
 ghost use Rattle.sx_forest.specs.Verdict.{IsVerdict};
 ghost use Rattle.sx_grammar.specs.ReadOne.{most_items};
 ghost use Rattle.sx_term.specs.Limits.{most_tokens};

@@ -1,6 +1,6 @@
 //! Reading what is shown.
 
-ghost use Rattle.std.specs.Prelude.{◌≡◌, ◌≤◌, List, ℕ, IfOk, IfErr, length};
+ghost use Rattle.std.specs.Prelude.{◌≤◌, List, ℕ, IfOk, IfErr, length};
 ghost use Rattle.sx_grammar.specs.Order.{IsRanking, rank_at};
 ghost use Rattle.sx_grammar.specs.Tally.{EachOnce};
 ghost use Rattle.sx_grammar.specs.Reading as plain;

@@ -1,6 +1,6 @@
 //! The step that a reading takes at a symbol.
 
-ghost use Rattle.std.specs.Prelude.{◌≤◌, ◌<◌, length};
+ghost use Rattle.std.specs.Prelude.{◌<◌, length};
 ghost use Rattle.sx_forest.specs.Forests.{grammar_in, tokens_in, lists_in, symbols_of, IsForest};
 ghost use Rattle.sx_forest.specs.Forests.{IsOpened, IsAt, IsItemStep};
 

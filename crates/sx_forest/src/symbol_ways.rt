@@ -1,6 +1,6 @@
 //! The ways to read a symbol, and then the symbols after it.
 
-ghost use Rattle.std.specs.Prelude.{◌≡◌, ◌≤◌, ◌<◌, ◌^◌, ℕ, Some, IfSome, length, slice_get};
+ghost use Rattle.std.specs.Prelude.{◌≤◌, ◌<◌, Some, IfSome, length};
 ghost use Rattle.std.specs.Prelude.{option_map};
 ghost use Rattle.sx_grammar.specs.Numbered.{symbol};
 ghost use Rattle.sx_earley.specs.Shown.{plain, literal_texts, tokens_of, IsLiteralBelow};

@@ -1,6 +1,6 @@
 //! How many readings there are.
 
-ghost use Rattle.std.specs.Prelude.{◌≡◌, ◌+◌, ◌-◌, ◌<◌, ◌≤◌, ◌^◌, max};
+ghost use Rattle.std.specs.Prelude.{◌≡◌, ◌+◌, ◌-◌, ◌<◌, ◌^◌, max};
 ghost use Rattle.sx_grammar.specs.Tally.{plus, times, deeper};
 ghost use Rattle.sx_forest.specs.Tallies.{tally_of, IsSmallTally};
 

@@ -1,6 +1,6 @@
 //! The tree text of a reading.
 
-ghost use Rattle.std.specs.Prelude.{◌≡◌, ◌<◌, ◌≤◌, ◌++◌, List, ℕ, [], length, map, slice_index_or};
+ghost use Rattle.std.specs.Prelude.{◌≡◌, ◌<◌, ◌≤◌, ◌++◌, List, ℕ, [], length, slice_index_or};
 ghost use Rattle.std.specs.Prelude.{OnOk, OnErr};
 ghost use Rattle.sx_grammar.specs.Parts.{labels};
 ghost use Rattle.sx_grammar.specs.Reading.{reading_depth, readings_depth};

@@ -7,7 +7,7 @@ use Rattle.sx_grammar.specs.declared.symbol.Symbol.{Symbol}
 use Rattle.sx_grammar.specs.declared.symbol.Symbol.TheVariants.{Lit, Lex, Part}
 use Rattle.sx_grammar.specs.declared.sort_line.SortLine.{SortLine}
 use Rattle.sx_grammar.specs.Grammar as plain
-use Rattle.sx_grammar.specs.Grammar.{Text, Production, part, pair_of, HasLevels}
+use Rattle.sx_grammar.specs.Grammar.{Text, part, pair_of, HasLevels}
 use Rattle.sx_grammar.specs.Parts.{Line, Parts, names, sorts_named, number_of, symbol_sorts}
 use Rattle.sx_grammar.specs.Parts.{numbered, numbered_symbol, numbered_line, numbered_sort}
 use Rattle.sx_grammar.specs.Made.{IsGrammar, HasNone, IsUnknownSort, LacksBrackets}

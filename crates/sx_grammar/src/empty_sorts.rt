@@ -1,6 +1,6 @@
 //! The sorts that derive the empty list.
 
-ghost use Rattle.std.specs.Prelude.{◌≡◌, ℕ, ◌<◌, length, slice_index_or, count_by, map, not};
+ghost use Rattle.std.specs.Prelude.{◌≡◌, ℕ, ◌<◌, length, slice_index_or, map};
 ghost use Rattle.std.specs.Prelude.{is_some, false, List, MatchOption, IsFalse, IfOk};
 ghost use Rattle.sx_grammar.specs.Grammar.{Grammar};
 ghost use Rattle.sx_grammar.specs.Numbered.{AreOf};

@@ -1,7 +1,7 @@
 //! What follows from rules.
 
-ghost use Rattle.std.specs.Prelude.{[], ◌≡◌, ℕ, ◌<◌, ◌≤◌, length, slice_get, slice_index, Some};
-ghost use Rattle.std.specs.Prelude.{Contains, MatchOption, OnOk, IfOk};
+ghost use Rattle.std.specs.Prelude.{[], ◌≡◌, ◌<◌, length, slice_get, slice_index, Some};
+ghost use Rattle.std.specs.Prelude.{MatchOption, OnOk, IfOk};
 ghost use Rattle.sx_grammar.specs.declared.rule.Rule.{Rule as RuleOf};
 ghost use Rattle.sx_grammar.specs.Ranks.{HasRank, AreRulesBelow, AreRankedTo, IsFounded};
 ghost use Rattle.sx_grammar.specs.Ranks.{IsComplete, HasRanksBelow, waiting_at};

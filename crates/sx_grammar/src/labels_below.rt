@@ -1,9 +1,9 @@
 //! The labels in a term.
 
-ghost use Rattle.std.specs.Prelude.{◌≡◌, ◌≤◌, ◌↔◌, IsTrue, map};
-ghost use Rattle.sx_term.specs.Tree.{depth_of, greatest_depth, forest};
+ghost use Rattle.std.specs.Prelude.{◌≤◌, ◌↔◌, IsTrue};
+ghost use Rattle.sx_term.specs.Tree.{depth_of};
 ghost use Rattle.sx_term.specs.Term.{tree};
-ghost use Rattle.sx_grammar.specs.Told.{HasLabelsBelow, HaveLabelsBelow};
+ghost use Rattle.sx_grammar.specs.Told.{HasLabelsBelow};
 ghost use Rattle.sx_term.specs.Limits.{most_depth};
 
 use sx_term::Term;

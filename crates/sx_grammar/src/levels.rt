@@ -6,7 +6,7 @@ ghost use Rattle.sx_grammar.specs.declared.numbered.NumberedProduction as number
 ghost use Rattle.sx_grammar.specs.Parts.{parts};
 ghost use Rattle.sx_grammar.specs.Tables.{AreNumbered};
 ghost use Rattle.sx_grammar.specs.Cycles.{HaveSortsBelow, HavePartsBelow};
-ghost use Rattle.sx_grammar.specs.Levels.{raised, raised_by, lowered, greatest_after, least_after};
+ghost use Rattle.sx_grammar.specs.Levels.{raised_by, greatest_after, least_after};
 ghost use Rattle.sx_grammar.specs.Levels.{ArePartsBelow, AreGreatest, AreLeast};
 ghost use Rattle.sx_grammar.specs.Made.{KeepsSorts, HasBrackets, IsGrammarRefused};
 

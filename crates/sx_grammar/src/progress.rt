@@ -1,8 +1,8 @@
 //! What follows from rules so far.
 
-ghost use Rattle.std.specs.Prelude.{◌≡◌, ℕ, ◌<◌, length, MatchOption, OnOk, IfOk, IsFalse, IsTrue};
-ghost use Rattle.std.specs.Prelude.{◌++◌, ◌∷◌, [], ◌↔◌};
-ghost use Rattle.sx_grammar.specs.Ranks.{HasRank, waiting_at, IsBlank, IsWaitingPut};
+ghost use Rattle.std.specs.Prelude.{◌<◌, length, OnOk, IfOk, IsTrue};
+ghost use Rattle.std.specs.Prelude.{◌↔◌};
+ghost use Rattle.sx_grammar.specs.Ranks.{HasRank, IsBlank, IsWaitingPut};
 ghost use Rattle.sx_grammar.specs.Ranks.{IsWaitingTaken, IsLearnt};
 
 use std::alloc::{AllocError, Global};

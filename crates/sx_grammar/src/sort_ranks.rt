@@ -1,8 +1,8 @@
 //! Ranks of the sorts: each steps only to sorts of lower ranks.
 
-ghost use Rattle.std.specs.Prelude.{◌≡◌, ℕ, ◌<◌, ◌^◌, length, map, Some, MatchOption, IfOk};
+ghost use Rattle.std.specs.Prelude.{◌≡◌, ◌<◌, ◌^◌, length, map, Some, MatchOption, IfOk};
 ghost use Rattle.sx_grammar.specs.Grammar.{Grammar};
-ghost use Rattle.sx_grammar.specs.Cyclic.{IsCyclic, IsNotCyclic};
+ghost use Rattle.sx_grammar.specs.Cyclic.{IsNotCyclic};
 ghost use Rattle.sx_grammar.specs.Numbered.{AreOf};
 ghost use Rattle.sx_grammar.specs.Order.{AreRanks};
 ghost use Rattle.sx_grammar.specs.Ranks.{HasRanksBelow};

@@ -1,6 +1,6 @@
 //! The steps from a sort to the sorts of parts that may be all that it derives.
 
-ghost use Rattle.std.specs.Prelude.{◌≡◌, ℕ, ◌<◌, ◌⊎◌, length, slice_get, Some, Contains};
+ghost use Rattle.std.specs.Prelude.{◌≡◌, ℕ, ◌<◌, ◌⊎◌, length, Some, Contains};
 ghost use Rattle.std.specs.Prelude.{MatchOption, OnOk, IfOk};
 ghost use Rattle.sx_grammar.specs.declared.numbered.NumberedProduction.{NumberedProduction};
 ghost use Rattle.sx_grammar.specs.Cycles.{list_at, unmarked, IsPartOpen, IsTarget, HasStep};

@@ -1,14 +1,12 @@
 -- Why bytes have no interface.
-use Rattle.std.proofs.Common.{◌≡◌, ℕ, List, inl, inr, refl, sym, ap, ◌∙◌, subst}
-use Rattle.std.specs.Prelude.{Option, Some, None, Result, Ok, Err, IfSome, IfErr}
-use Rattle.std.specs.Str.{IsUtf8}
-use Rattle.std.specs.Str.Lossy.{utf8_valid_len}
+use Rattle.std.proofs.Common.{◌≡◌, ℕ, List, inl, inr, refl, sym, ap, ◌∙◌}
+use Rattle.std.specs.Prelude.{Option, Some, None, Err, IfSome}
 use Rattle.sx_lines.specs.FirstBad.{IsFirstBad}
 use Rattle.sx_lines.specs.Lines.{lines_from, line_texts}
 use Rattle.sx_interface.specs.declared.error.HeaderError.{HeaderError}
 use Rattle.sx_interface.specs.declared.error.HeaderError.TheVariants as header_error
 use Rattle.sx_interface.specs.declared.interfaces.Interface.{Interface}
-use Rattle.sx_interface.specs.Interfaces.{InterfaceParts, interface_of, other_version}
+use Rattle.sx_interface.specs.Interfaces.{interface_of, other_version}
 use Rattle.sx_interface.specs.InterfaceView.{interface_view}
 use Rattle.sx_interface.specs.Reading.{AnswersVersion, error_line}
 use Rattle.sx_interface.specs.Stated.{StatesInterface}

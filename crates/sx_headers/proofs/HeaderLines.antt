@@ -1,5 +1,5 @@
 -- The numbers of lines, one line after the other.
-use Rattle.std.proofs.Common.{◌≡◌, ℕ, suc, ◌+◌, ◌-◌, ◌<◌, ◌≤◌, List, sym, ap, ◌∙◌, subst, refl}
+use Rattle.std.proofs.Common.{◌≡◌, ℕ, suc, ◌+◌, ◌-◌, ◌<◌, List, sym, ap, ◌∙◌}
 use Rattle.std.proofs.Common.{arith}
 use Rattle.sx_lines.specs.Lines.{Lines, over, line}
 use Rattle.sx_headers.specs.HeaderRows.{number_at}

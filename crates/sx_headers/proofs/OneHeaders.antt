@@ -1,7 +1,7 @@
 -- The steps that read headers and interfaces have one result each, read faults aside.
 use Rattle.std.proofs.Common.{◌≡◌, ℕ, suc, List, [], ◌∷◌, ◌++◌, length, refl, sym, ap, ◌∙◌, subst}
 use Rattle.std.proofs.Common.{inl, inr}
-use Rattle.std.specs.Prelude.{Result, Ok, Err, Option, Some, None, Contains}
+use Rattle.std.specs.Prelude.{Ok, Err, Some, None, Contains}
 use Rattle.sx_lines.specs.Lines.{Lines, lines_from, line_texts}
 use Rattle.sx_lines.specs.Reading.{kept}
 use Rattle.sx_interface.specs.Headers.{HeaderParts}
@@ -11,7 +11,7 @@ use Rattle.sx_interface.specs.StatedHeader.{StatesHeader}
 use Rattle.sx_interface.proofs.HeaderStated.{header_again}
 use Rattle.sx_interface.proofs.InterfaceLaws.{interface_again}
 use Rattle.sx_interface.proofs.VersionLaws.{version_known, one_form}
-use Rattle.sx_interface.specs.FreeNames.{AreFree, IsFirstIn}
+use Rattle.sx_interface.specs.FreeNames.{AreFree}
 use Rattle.sx_interface.proofs.FreeNames.{first_none}
 use Rattle.sx_outside.specs.Files.{Files}
 use Rattle.sx_steps.specs.declared.stop.Stop.{Stop}

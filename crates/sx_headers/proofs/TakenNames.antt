@@ -1,9 +1,9 @@
 -- The first of some names that is a literal.
 use Rattle.std.proofs.Common.{◌≡◌, ℕ, zero, suc, ◌+◌, ◌<◌, ◌≤◌, List, [], ◌∷◌, ◌++◌, length, take}
-use Rattle.std.proofs.Common.{drop, get_or, refl, sym, ap, ◌∙◌, subst, arith}
+use Rattle.std.proofs.Common.{drop, get_or, refl, sym, ap, subst, arith}
 use Rattle.std.specs.Prelude.{Contains, Some, slice_get}
 use Rattle.std.proofs.lemmas.Option.{slice_get_within, get_or_from_slice_get}
-use Rattle.sx_interface.specs.FreeNames.{AreFree, IsFirstIn}
+use Rattle.sx_interface.specs.FreeNames.{AreFree}
 use Rattle.sx_headers.specs.FreeImports.{IsTakenAt}
 
 module _ (literals : List (List ℕ)) where

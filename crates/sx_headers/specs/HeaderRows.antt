@@ -1,5 +1,5 @@
 -- The rows of a header, and the lines on which they stand.
-use Rattle.std.specs.Prelude.{ℕ, zero, suc, ◌+◌, List, length}
+use Rattle.std.specs.Prelude.{ℕ, zero, suc, ◌+◌, length}
 use Rattle.sx_lines.specs.Lines.{Lines, over, line, lines_from}
 use Rattle.sx_lines.specs.Reading.{kept}
 use Rattle.sx_interface.specs.Headers.{HeaderParts}

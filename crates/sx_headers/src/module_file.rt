@@ -1,6 +1,6 @@
 //! The steps that read a module's header.
 
-ghost use Rattle.std.specs.Prelude.{◌≡◌, ◌≤◌, IfOk, length};
+ghost use Rattle.std.specs.Prelude.{◌≤◌, IfOk, length};
 ghost use Rattle.sx_outside.specs.Told.{WhereTold};
 ghost use Rattle.sx_steps.specs.Stop.{Gives, OnlyReads, IsNoFault};
 ghost use Rattle.sx_headers.specs.ReadModule.{module_of, HasHeader, StatesModule, ReadsModule};

@@ -1,6 +1,6 @@
 //! The current folder as a shelf. It tells nothing of its content.
 
-ghost use Rattle.std.specs.Prelude.{◌≡◌, ◌≤◌, None, vec_len};
+ghost use Rattle.std.specs.Prelude.{◌≤◌, None, vec_len};
 
 use std::fs::File;
 use std::io::{ErrorKind, Read, Write};

@@ -1,6 +1,6 @@
 //! Standard input as a source. It tells nothing of its content.
 
-ghost use Rattle.std.specs.Prelude.{◌≡◌, None};
+ghost use Rattle.std.specs.Prelude.{None};
 
 use std::io::Read;
 use sx_outside::{Source, TakeAnswer};

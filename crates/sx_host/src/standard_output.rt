@@ -1,6 +1,6 @@
 //! Standard output as a sink. It tells nothing of its content.
 
-ghost use Rattle.std.specs.Prelude.{◌≡◌, None};
+ghost use Rattle.std.specs.Prelude.{None};
 
 use std::io::{self, Write};
 use sx_outside::{Sink, WriteAnswer};

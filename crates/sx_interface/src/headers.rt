@@ -4,7 +4,6 @@ ghost use Rattle.std.specs.Prelude.{◌≡◌, [], ◌≤◌, length, IfOk, Ok, 
 ghost use Rattle.sx_lines.specs.FirstBad.{IsFirstBad};
 ghost use Rattle.sx_interface.specs.Headers.{HeaderParts};
 ghost use Rattle.sx_interface.specs.StatedHeader.{StatesHeader};
-ghost use Rattle.std.specs.Str.{IsUtf8};
 ghost use Rattle.sx_lines.specs.Lines.{lines_from};
 ghost use Rattle.sx_lines.specs.Words.{is_name};
 ghost use Rattle.sx_lines.specs.Reading.{GivesRead, kept};

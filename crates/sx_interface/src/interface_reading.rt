@@ -1,6 +1,6 @@
 //! Reading interfaces.
 
-ghost use Rattle.std.specs.Prelude.{◌≡◌, option_map, true, false, Ok, None, IfOk, IfErr, IfSome};
+ghost use Rattle.std.specs.Prelude.{◌≡◌, true, false, Ok, None, IfOk, IfErr, IfSome};
 ghost use Rattle.std.specs.Str.{IsUtf8};
 ghost use Rattle.sx_lines.specs.FirstBad.{IsFirstBad};
 ghost use Rattle.sx_lines.specs.Words.{is_name};

@@ -1,6 +1,6 @@
 //! The sorts of the stems of names.
 
-ghost use Rattle.std.specs.Prelude.{◌≡◌, ◌<◌, ◌^◌, length, IfOk};
+ghost use Rattle.std.specs.Prelude.{◌<◌, ◌^◌, length, IfOk};
 ghost use Rattle.sx_language.specs.RuleTexts.{HaveStemSorts, NamesHaveStems};
 
 use std::alloc::Global;

@@ -1,11 +1,10 @@
 -- The last productions of a grammar by which rules are read.
-use Rattle.std.proofs.Common.{◌≡◌, ℕ, zero, suc, ◌+◌, ◌-◌, ◌≤◌, List, [], ◌∷◌, ◌++◌, length, length-append, drop, map, refl, ap, ◌∙◌, sym, arith}
+use Rattle.std.proofs.Common.{◌≡◌, ℕ, zero, suc, ◌+◌, ◌-◌, ◌≤◌, List, [], ◌∷◌, ◌++◌, length, length-append, drop, map, refl, ap, ◌∙◌, arith}
 use Rattle.std.proofs.lemmas.List.{length-map}
 use Rattle.sx_grammar.specs.declared.grammar_parts.GrammarParts.{GrammarParts}
-use Rattle.sx_grammar.specs.declared.production.Production.{Production}
 use Rattle.sx_grammar.specs.Parts.{Line, Parts, line, parts}
 use Rattle.sx_directives.specs.declared.rows.FormLine.{FormLine}
-use Rattle.sx_notation.specs.RuleParts.{judgement_sort, form_line, apart_lines, rule_parts}
+use Rattle.sx_notation.specs.RuleParts.{form_line, apart_lines, rule_parts}
 
 drop_front : {X : Type 0} (xs ys : List X) → drop (length xs) (xs ++ ys) ≡ ys
 drop_front [] ys = refl

@@ -1,5 +1,5 @@
 -- The term that a line of text spells.
-use Rattle.std.specs.Prelude.{◌≡◌, ℕ, true, List, length, Some, None, Err, IfSome}
+use Rattle.std.specs.Prelude.{◌≡◌, ℕ, true, List, length, Some, Err, IfSome}
 use Rattle.sx_term.specs.declared.sort.Sort.{Sort}
 use Rattle.sx_term.specs.Cutting.{IsOutcome, tokens}
 use Rattle.sx_term.specs.Tree.{Tree}

@@ -7,7 +7,6 @@ ghost use Rattle.sx_term.specs.Term.{tree};
 ghost use Rattle.sx_grammar.specs.Parts.{numbered};
 ghost use Rattle.sx_grammar.specs.ReadOne.{IsAnswer, only};
 ghost use Rattle.sx_earley.specs.Tokens.{Stems, plain_tokens};
-ghost use Rattle.sx_earley.specs.Unknown.{IsFirstUnknown};
 ghost use Rattle.sx_earley.specs.Completed.{IsSort, sort_number};
 ghost use Rattle.sx_forest.specs.Readings.{plain_reading};
 ghost use Rattle.sx_notation.specs.WhyUnread.{IsReadError};

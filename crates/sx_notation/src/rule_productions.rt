@@ -1,6 +1,6 @@
 //! The grammar by which rules are read.
 
-ghost use Rattle.std.specs.Prelude.{◌≡◌, ◌++◌, ◌∷◌, [], List, IfOk, OnOk, map, length, codes};
+ghost use Rattle.std.specs.Prelude.{◌≡◌, ◌++◌, List, IfOk, OnOk, map, length, codes};
 ghost use Rattle.std.specs.Str.{IsUtf8};
 ghost use Rattle.sx_grammar.specs.Parts.{Parts, line, parts};
 ghost use Rattle.sx_grammar.specs.Extended.{widened};

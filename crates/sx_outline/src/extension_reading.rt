@@ -3,10 +3,8 @@
 ghost use Rattle.std.specs.Prelude.{length, IfOk};
 ghost use Rattle.std.specs.Str.{IsUtf8};
 ghost use Rattle.sx_lines.specs.Left.{left};
-ghost use Rattle.sx_outline.specs.Declarations.{declared_before};
 ghost use Rattle.sx_outline.specs.Headers.{header as header_of};
 ghost use Rattle.sx_outline.specs.Known.{kept_lines};
-ghost use Rattle.sx_outline.specs.Tables.{declared_in};
 ghost use Rattle.sx_outline.specs.ExtensionOutlined.{IsExtensionOutlined};
 ghost use Rattle.sx_outline.specs.ExtensionOutlined.{extension_outline as outline_of};
 ghost use Rattle.sx_outline.specs.ExtensionReading.{AreAfterRead};

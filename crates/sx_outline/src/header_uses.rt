@@ -1,6 +1,6 @@
 //! The names that the first lines of an extension file use.
 
-ghost use Rattle.std.specs.Prelude.{◌≡◌, [], ◌∷◌, ◌++◌, Contains, IfOk, OnOk};
+ghost use Rattle.std.specs.Prelude.{◌≡◌, [], IfOk, OnOk};
 ghost use Rattle.sx_outline.specs.HeaderReading.{AreUsesFound, IsUseAdded};
 
 use crate::places::Places;

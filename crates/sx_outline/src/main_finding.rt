@@ -1,6 +1,6 @@
 //! Finding main forms.
 
-ghost use Rattle.std.specs.Prelude.{◌↔◌, IsTrue, ℕ, List, [], ◌∷◌, MatchOption};
+ghost use Rattle.std.specs.Prelude.{ℕ, List, [], ◌∷◌, MatchOption};
 ghost use Rattle.sx_term.specs.declared.lex_kind.LexKind.TheVariants as kinds;
 ghost use Rattle.sx_outline.specs.declared.main_form.MainForm.{MainForm as MainFormOf};
 ghost use Rattle.sx_outline.specs.Fitting.{IsConstructor, IsMainOf, Kid, of_kind, of_sort};

@@ -1,6 +1,6 @@
 //! A source in memory, whose takes fail where a test says so.
 
-ghost use Rattle.std.specs.Prelude.{◌≡◌, ◌≢◌, ◌≤◌, Some, drop};
+ghost use Rattle.std.specs.Prelude.{◌≡◌, ◌≢◌, ◌≤◌, Some};
 ghost use Rattle.sx_outside.specs.Faults.{Rose};
 ghost use Rattle.sx_outside.specs.Calls.{failing_at};
 ghost use Rattle.sx_outside.specs.Source.{IsTaking};

@@ -1,10 +1,9 @@
 -- What terms that fit the grammar are.
-use Rattle.std.proofs.Common.{◌≡◌, ℕ, suc, ◌+◌, ◌<◌, ◌≤◌, List, [], ◌∷◌, length, Some, sym, refl, ap, ◌∙◌, subst, ◌⊎◌, inl, inr, arith}
-use Rattle.std.specs.Prelude.{slice_get}
+use Rattle.std.proofs.Common.{◌≡◌, ℕ, ◌≤◌, List, [], length, Some, sym, refl, ap, ◌∙◌, subst, inl, inr, arith}
 use Rattle.std.proofs.lemmas.Option.{none-some, slice_get_within}
-use Rattle.sx_term.specs.Tree.{Tree, Trees, node, lexeme, hole, ◌▹◌, listed}
-use Rattle.sx_grammar.specs.Grammar.{Text, Symbol, literal, lexical, part, Production, Grammar}
-use Rattle.sx_grammar.specs.Grammar.{Stem, of_kind, of_sort}
+use Rattle.sx_term.specs.Tree.{Tree, Trees, listed}
+use Rattle.sx_grammar.specs.Grammar.{Text, Symbol, Grammar}
+use Rattle.sx_grammar.specs.Grammar.{Stem, of_sort}
 use Rattle.sx_grammar.specs.Print.{print, Fits, node_fits, lexeme_fits, hole_fits, AllFit, none_fit}
 use Rattle.sx_grammar.specs.Print.{past_literal_fit, lexical_fit, part_fit, HasBrackets}
 use Rattle.sx_grammar.specs.Print.{BracketsWhereAsked}

@@ -1,12 +1,12 @@
 -- Printed tokens of terms without variables are lexemes of the term and literals of the grammar.
 use Rattle.std.proofs.Common.{◌≡◌, ℕ, List, [], ◌∷◌, ◌++◌, Bool, true, false, cond, Some, sym, refl, subst, Contains}
-use Rattle.std.specs.Prelude.{slice_get, None, Option, nat_lt}
+use Rattle.std.specs.Prelude.{None, Option, nat_lt}
 use Rattle.std.specs.List.{AllByRecursion}
 use Rattle.std.proofs.lemmas.Option.{none-some}
 use Rattle.sx_term.specs.declared.mark.Mark.TheVariants as TheMark
-use Rattle.sx_term.specs.Tree.{Tree, Trees, node, lexeme, hole, ◌▹◌}
+use Rattle.sx_term.specs.Tree.{Tree, Trees}
 use Rattle.sx_term.specs.Spaced.{IsTokenText}
-use Rattle.sx_grammar.specs.Grammar.{Text, Symbol, literal, lexical, part, Production, Brackets, Grammar, pair_of, Stem, of_kind, of_sort, Mark, is_literal, is_lexeme, is_variable, Token}
+use Rattle.sx_grammar.specs.Grammar.{Text, Symbol, literal, lexical, part, Brackets, pair_of, Stem, of_kind, of_sort, Mark, is_literal, is_lexeme, is_variable, Token}
 use Rattle.sx_grammar.specs.Print.{literal_token, print_symbols, in_brackets, print_node, print, print_each, Fits, node_fits, lexeme_fits, hole_fits, AllFit, none_fit, past_literal_fit, lexical_fit, part_fit}
 use Rattle.sx_grammar.specs.Parts.{Parts, numbered}
 use Rattle.sx_grammar.specs.Made.{IsGrammar}

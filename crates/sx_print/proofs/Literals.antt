@@ -1,5 +1,5 @@
 -- The literals of productions and brackets are among those of the grammar.
-use Rattle.std.proofs.Common.{◌≡◌, ℕ, List, [], ◌∷◌, ◌++◌, map, Bool, true, false, not, Some, sym, refl, ap, ◌∙◌, subst, ◌⊎◌, inl, inr, ⊎_elim, Contains}
+use Rattle.std.proofs.Common.{◌≡◌, ℕ, List, [], ◌∷◌, Bool, true, false, not, Some, sym, refl, ap, ◌∙◌, subst, ◌⊎◌, inl, inr, ⊎_elim, Contains}
 use Rattle.std.specs.Prelude.{slice_get, option_map, None, Option, flat_map, filter}
 use Rattle.std.specs.Str.{bytes_eq}
 use Rattle.std.proofs.lemmas.Bool.{cases_Bool}
@@ -11,7 +11,7 @@ use Rattle.sx_grammar.specs.declared.symbol.Symbol.TheVariants.{Lit, Lex, Part}
 use Rattle.sx_grammar.specs.declared.sort_line.SortLine.{SortLine}
 use Rattle.sx_grammar.specs.Grammar as plain
 use Rattle.sx_grammar.specs.Grammar.{Text, Production, literal, pair_of, brackets_of}
-use Rattle.sx_grammar.specs.Parts.{Line, Parts, names, literals, bracket_literals, symbol_literals, numbered, numbered_symbol, numbered_line, numbered_sort}
+use Rattle.sx_grammar.specs.Parts.{Parts, names, literals, bracket_literals, symbol_literals, numbered, numbered_symbol, numbered_line, numbered_sort}
 use Rattle.sx_grammar.specs.Made.{IsGrammar, IsBadLiteral}
 use Rattle.sx_grammar.specs.Distinct.{distinct}
 use Rattle.sx_grammar.specs.Tables.{literals_of}

@@ -1,10 +1,10 @@
 -- Terms that are well sorted by the shapes of a grammar fit it.
-use Rattle.std.proofs.Common.{◌≡◌, ℕ, List, [], ◌∷◌, map, Bool, true, false, cond, Some, sym, refl, ap, ◌∙◌, subst, length, inl, arith}
+use Rattle.std.proofs.Common.{◌≡◌, ℕ, List, [], ◌∷◌, map, Bool, true, false, cond, sym, refl, ap, ◌∙◌, subst, inl, arith}
 use Rattle.std.specs.Prelude.{slice_get, option_map, flat_map}
 use Rattle.std.proofs.lemmas.Option.{slice_get-map}
 use Rattle.std.proofs.lemmas.List.{length-map}
 use Rattle.sx_term.specs.declared.sort.Sort.{Sort}
-use Rattle.sx_term.specs.declared.sort.Sort.TheVariants.{Lex, Plain, Typed}
+use Rattle.sx_term.specs.declared.sort.Sort.TheVariants.{Plain, Typed}
 use Rattle.sx_term.specs.Tree.{Tree, Trees, node, lexeme, hole, none, ◌▹◌}
 use Rattle.sx_term.specs.Sorts.{HasSort, KidsHaveSorts}
 use Rattle.sx_grammar.specs.declared.sort_line.SortLine.{SortLine}
@@ -15,7 +15,7 @@ use Rattle.sx_grammar.specs.Told.{is_typed, sort_with, kid_sorts, shape_of, shap
 use Rattle.sx_grammar.specs.Print.{Fits, node_fits, lexeme_fits, hole_fits, AllFit, none_fit}
 use Rattle.sx_grammar.specs.Print.{past_literal_fit, lexical_fit, part_fit}
 use Rattle.sx_grammar.proofs.Finding.{mapped_at}
-use Rattle.sx_print.specs.Printed.{IsAskedFor, IsPrintableTerm}
+use Rattle.sx_print.specs.Printed.{IsAskedFor}
 use Rattle.sx_print.specs.Sorted.{place_of_sort, SortedTermsFit, SortedTermsArePrintable}
 
 place_with : (sorts : List SortLine) (number : ℕ) → place_of_sort (sort_with sorts number) ≡ of_sort number

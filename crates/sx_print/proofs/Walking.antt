@@ -6,7 +6,7 @@ use Rattle.std.proofs.lemmas.List.{at_drop_more, at_drop_all, length-map, append
 use Rattle.std.proofs.lemmas.Option.{slice_get_within, slice_get_read, get_or_from_slice_get, slice_get-get_or}
 use Rattle.sx_term.specs.declared.term.Term.{Term, Node}
 use Rattle.sx_term.specs.declared.term.Term.TheVariants as TheTerm
-use Rattle.sx_term.specs.Tree.{Tree, Trees, node, ◌▹◌, listed}
+use Rattle.sx_term.specs.Tree.{Tree, Trees, node, listed}
 use Rattle.sx_term.specs.Term.{tree}
 use Rattle.sx_term.proofs.Kids.{trees, tree-at_node, trees-drop}
 use Rattle.sx_term.proofs.Cores.{Grows, Grows-trans}

@@ -4,7 +4,7 @@ use Rattle.std.specs.Prelude.{cond, nat_lt, length, map, flat_map}
 use Rattle.std.specs.List.{slice_get, AllByRecursion, join_with_byte}
 use Rattle.std.specs.Str.{IsUtf8}
 use Rattle.sx_term.specs.Tree.{Tree, Trees, node, lexeme, hole, none, ◌▹◌, listed}
-use Rattle.sx_grammar.specs.Grammar.{Text, Symbol, literal, lexical, part, Production, Brackets}
+use Rattle.sx_grammar.specs.Grammar.{Symbol, literal, lexical, part, Production, Brackets}
 use Rattle.sx_grammar.specs.Grammar.{Grammar, pair_of, Stem, of_kind, of_sort, Token}
 use Rattle.sx_grammar.specs.Print.{Fits}
 

@@ -1,5 +1,4 @@
 -- How the pieces that a text is cut into show as tokens of a grammar.
-use Rattle.std.specs.Prelude.{List, ℕ}
 use Rattle.sx_term.specs.declared.mark.Mark.{Mark}
 use Rattle.sx_term.specs.declared.mark.Mark.TheVariants.{Lit, Lex, Meta}
 use Rattle.sx_term.specs.Cutting.{Piece}

@@ -2,7 +2,7 @@
 use Rattle.std.proofs.Common.{◌≡◌, ℕ, false, List, [], ◌∷◌, map, refl, sym, ap, subst}
 use Rattle.std.proofs.Common.{◌∙◌}
 use Rattle.std.specs.Prelude.{Result, Ok, Err}
-use Rattle.sx_outside.specs.Files.{Files, after_writes}
+use Rattle.sx_outside.specs.Files.{Files}
 use Rattle.sx_words.specs.Commands.{AuditWord, Meant, builds, compiles, verifies, SpellsCommand}
 use Rattle.sx_words.proofs.CommandLaws.{one_command}
 use Rattle.sx_words.proofs.OneAnswer.{no_misfit}

@@ -1,6 +1,6 @@
 //! An entry against a goal.
 
-ghost use Rattle.std.specs.Prelude.{◌≡◌, ℕ, ◌≤◌, IfOk, Some, length, slice_get, map};
+ghost use Rattle.std.specs.Prelude.{◌≡◌, IfOk, Some, length, slice_get};
 ghost use Rattle.sx_rules.specs.Deep.{RulesAreShallow};
 ghost use Rattle.sx_rules.specs.Rules.{Judgement};
 ghost use Rattle.sx_rules.specs.EntryView.{entry as entry_of};

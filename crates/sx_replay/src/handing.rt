@@ -1,6 +1,6 @@
 //! Outputs, and the rules that wait for them.
 
-ghost use Rattle.std.specs.Prelude.{◌≡◌, ℕ, ◌≤◌, IfOk, length, map};
+ghost use Rattle.std.specs.Prelude.{IfOk, length, map};
 ghost use Rattle.sx_rules.specs.Deep.{RulesAreShallow};
 ghost use Rattle.sx_arena.specs.Arena.{tree_at, AreBelow};
 ghost use Rattle.sx_arena.specs.Pairs.{ArePairs};

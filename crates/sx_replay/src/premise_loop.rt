@@ -1,6 +1,6 @@
 //! The premises of a rule.
 
-ghost use Rattle.std.specs.Prelude.{◌≡◌, ℕ, ◌≤◌, Some, IfOk, length, map, drop, slice_get};
+ghost use Rattle.std.specs.Prelude.{◌≡◌, ◌≤◌, Some, IfOk, length, map, drop, slice_get};
 ghost use Rattle.sx_rules.specs.Deep.{RuleIsShallow};
 ghost use Rattle.sx_arena.specs.Pairs.{ArePairs};
 ghost use Rattle.sx_arena.specs.Views.{rule_of, rules_of, set_modes, premise_of};

@@ -1,6 +1,6 @@
 //! Certificates under what is put for the variables of their rules.
 
-ghost use Rattle.std.specs.Prelude.{◌≡◌, ℕ, ◌++◌, ◌∷◌, [], ◌<◌, ◌≤◌, List, IfOk, MatchResult};
+ghost use Rattle.std.specs.Prelude.{◌≡◌, ◌++◌, ◌∷◌, [], ◌<◌, ◌≤◌, List, IfOk, MatchResult};
 ghost use Rattle.std.specs.Prelude.{length, map};
 ghost use Rattle.sx_term.specs.Tree.{Tree};
 ghost use Rattle.sx_term.specs.Term.{tree};

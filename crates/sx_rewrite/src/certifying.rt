@@ -1,6 +1,6 @@
 //! Nodes by extension rules, lowered.
 
-ghost use Rattle.std.specs.Prelude.{◌≡◌, ℕ, ◌≤◌, List, length};
+ghost use Rattle.std.specs.Prelude.{◌≡◌, ◌≤◌, List, length};
 ghost use Rattle.sx_term.specs.Tree.{Tree};
 ghost use Rattle.sx_term.specs.Instances.{bound_by};
 ghost use Rattle.sx_rules.specs.Derivations as spec;

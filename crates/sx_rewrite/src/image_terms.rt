@@ -2,7 +2,7 @@
 
 ghost use Rattle.std.specs.Prelude.{◌≡◌, ◌<◌, ◌≤◌, IfOk, length, map, get_or};
 ghost use Rattle.sx_term.specs.Term.{tree};
-ghost use Rattle.sx_term.specs.Tree.{Tree, node, none, depth_of, greatest_depth, forest};
+ghost use Rattle.sx_term.specs.Tree.{node, none, depth_of, greatest_depth, forest};
 ghost use Rattle.sx_plain.specs.Plain.{image};
 ghost use Rattle.sx_plain.specs.Tables.{FitsTable, FitTable};
 ghost use Rattle.sx_plain.specs.Views.{table_of};

@@ -1,6 +1,6 @@
 //! The terms of one node of a certificate, under what is put for the variables.
 
-ghost use Rattle.std.specs.Prelude.{◌≡◌, ℕ, ◌≤◌, List, map, slice_get};
+ghost use Rattle.std.specs.Prelude.{◌≡◌, ◌≤◌, List, map, slice_get};
 ghost use Rattle.sx_term.specs.Tree.{Tree, greatest_depth, forest};
 ghost use Rattle.sx_term.specs.Term.{tree};
 ghost use Rattle.sx_term.specs.Instances.{instance, bound_by};

@@ -1,6 +1,6 @@
 //! What is put for the variables of a rule at a node whose kids are lowered.
 
-ghost use Rattle.std.specs.Prelude.{◌≡◌, ℕ, ◌≤◌, List, [], IfOk, length, map, Some, slice_get};
+ghost use Rattle.std.specs.Prelude.{◌≡◌, ◌≤◌, List, IfOk, length, map, Some, slice_get};
 ghost use Rattle.sx_term.specs.Term.{tree};
 ghost use Rattle.sx_term.specs.Tree.{Tree, greatest_depth, forest};
 ghost use Rattle.sx_rules.specs.Rules as known;

@@ -1,7 +1,6 @@
 //! Copies of forms and rules.
 
-ghost use Rattle.std.specs.Prelude.{◌≡◌, ◌≤◌, IfOk, map};
-ghost use Rattle.sx_term.specs.Tree.{depth_of};
+ghost use Rattle.std.specs.Prelude.{◌≡◌, IfOk, map};
 ghost use Rattle.sx_term.specs.Term.{tree};
 ghost use Rattle.sx_rules.specs.Deep.{AreShallow, PremiseIsShallow, PremisesAreShallow};
 ghost use Rattle.sx_rules.specs.Deep.{RuleIsShallow, RulesAreShallow};

@@ -1,12 +1,12 @@
 //! The subject discipline.
 
-ghost use Rattle.std.specs.Prelude.{◌≡◌, ℕ, ◌+◌, ◌≤◌, IfOk, IsTrue, map, slice_get, Option, Some};
-ghost use Rattle.std.specs.Prelude.{None, nat_eq, []};
+ghost use Rattle.std.specs.Prelude.{◌≡◌, ◌+◌, IfOk, map, Option, Some};
+ghost use Rattle.std.specs.Prelude.{None, []};
 ghost use Rattle.std.specs.List.{list_all};
 ghost use Rattle.sx_term.specs.Term.{tree};
-ghost use Rattle.sx_rules.specs.Deep.{AreShallow, RuleIsShallow};
-ghost use Rattle.sx_rules.specs.Views.{form, forms, places_at, judgement, premise, rule};
-ghost use Rattle.sx_rules.specs.Chosen.{chosen, holes_among};
+ghost use Rattle.sx_rules.specs.Deep.{RuleIsShallow};
+ghost use Rattle.sx_rules.specs.Views.{form, forms, judgement, premise, rule};
+ghost use Rattle.sx_rules.specs.Chosen.{chosen};
 ghost use Rattle.sx_rules.specs.Subjects as spec;
 
 use crate::chosen::{Part, is_part, place_at, places_of};

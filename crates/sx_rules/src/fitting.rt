@@ -1,15 +1,15 @@
 //! Well sorted terms, judgements and rules.
 
-ghost use Rattle.std.specs.Prelude.{◌≡◌, ℕ, ◌+◌, ◌≤◌, ◌↔◌, IsTrue, map, slice_get, MatchOption};
+ghost use Rattle.std.specs.Prelude.{◌≡◌, ◌≤◌, ◌↔◌, IsTrue, map, slice_get, MatchOption};
 ghost use Rattle.std.specs.Prelude.{Some, None};
-ghost use Rattle.sx_term.specs.Tree.{depth_of, greatest_depth, forest};
+ghost use Rattle.sx_term.specs.Tree.{depth_of};
 ghost use Rattle.sx_term.specs.Term.{tree};
-ghost use Rattle.sx_term.specs.Sorts.{HasSort, KidsHaveSorts, HaveSorts};
+ghost use Rattle.sx_term.specs.Sorts.{HasSort, HaveSorts};
 ghost use Rattle.sx_rules.specs.Deep.{AreShallow, PremiseIsShallow, PremisesAreShallow};
 ghost use Rattle.sx_rules.specs.Deep.{RuleIsShallow};
 ghost use Rattle.sx_rules.specs.Fits.{JudgementFits, AreOfOneKind, PremiseFits, PremisesFit};
 ghost use Rattle.sx_rules.specs.Fits.{RuleFits};
-ghost use Rattle.sx_term.specs.Shapes.{shape, shapes};
+ghost use Rattle.sx_term.specs.Shapes.{shapes};
 ghost use Rattle.sx_rules.specs.Views.{form, forms, judgement, premise, rule};
 ghost use Rattle.sx_term.specs.Limits.{most_depth};
 

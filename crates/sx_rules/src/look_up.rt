@@ -1,9 +1,9 @@
 //! What a rule set has.
 
-ghost use Rattle.std.specs.Prelude.{◌≡◌, ◌≤◌, ◌^◌, ◌<◌, map, length, IfOk, MatchOption, slice_get};
+ghost use Rattle.std.specs.Prelude.{◌≡◌, ◌<◌, map, IfOk, MatchOption, slice_get};
 ghost use Rattle.std.specs.Prelude.{Some, None};
 ghost use Rattle.sx_term.specs.Shapes.{shapes};
-ghost use Rattle.sx_rules.specs.Views.{forms, named, rule_name, modes_of, subjects_in, sorts_of};
+ghost use Rattle.sx_rules.specs.Views.{forms, named, rule_name, modes_of, sorts_of};
 ghost use Rattle.sx_rules.specs.Sets.{shapes_in, forms_in, rules_in, bare_rules_in, names_in};
 ghost use Rattle.sx_rules.specs.Good.{IsAmong, IsRuleSet, names_of};
 ghost use Rattle.sx_rules.specs.Modes.{AllModed};

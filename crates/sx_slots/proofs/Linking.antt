@@ -1,7 +1,7 @@
 -- Numbers in slots: one is put in, one is taken out, and one is sought.
-use Rattle.std.proofs.Common.{◌≡◌, ℕ, suc, ◌+◌, ◌-◌, ◌^◌, ◌<◌, ◌≤◌, ◌⊎◌, inl, inr, min, List, [], ◌∷◌, ◌++◌, take, drop, replicate, length, get_or, Option, Some, None, refl, sym, ap, ◌∙◌, subst, arith}
+use Rattle.std.proofs.Common.{◌≡◌, ℕ, suc, ◌+◌, ◌-◌, ◌^◌, ◌<◌, ◌≤◌, ◌⊎◌, inl, inr, min, List, [], ◌∷◌, ◌++◌, take, drop, replicate, length, get_or, Option, refl, sym, ap, ◌∙◌, subst, arith}
 use Rattle.std.proofs.lemmas.Bool.{cases_eq, cases_lt}
-use Rattle.std.proofs.lemmas.List.{append-nil, drop_all, take_all, get_or_default, get_or_append_left, get_or_past, get_or-take, get_or-replicate, length-replicate, length-take, length_push}
+use Rattle.std.proofs.lemmas.List.{append-nil, drop_all, take_all, get_or_append_left, get_or_past, get_or-take, get_or-replicate, length-replicate, length-take, length_push}
 use Rattle.sx_slots.specs.Slots.{slot_of, slot_at, IsLast, AreLinked, IsSlotTable, IsLastWith}
 
 module _ (n : ℕ) (hs links lasts : List ℕ) where

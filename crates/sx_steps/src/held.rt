@@ -1,6 +1,6 @@
 //! The step that reads a file.
 
-ghost use Rattle.std.specs.Prelude.{◌≡◌, ◌≤◌, IfOk, length};
+ghost use Rattle.std.specs.Prelude.{◌≤◌, IfOk, length};
 ghost use Rattle.sx_outside.specs.Told.{WhereTold};
 ghost use Rattle.sx_steps.specs.Held.{Held};
 ghost use Rattle.sx_steps.specs.Stop.{Gives, OnlyReads};

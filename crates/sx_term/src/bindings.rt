@@ -1,12 +1,12 @@
 //! Finite maps from variables to terms.
 
-ghost use Rattle.std.specs.Prelude.{◌≡◌, ℕ, ◌+◌, ◌-◌, ◌^◌, ◌<◌, ◌≤◌, ◌==◌, ◌++◌, ◌∷◌, [], ◌↔◌};
-ghost use Rattle.std.specs.Prelude.{IsTrue, IfOk, IfSome, OnOk, OnErr, MatchOption, Some, None};
-ghost use Rattle.std.specs.Prelude.{if◌then◌else◌, slice_get, length, take, min};
+ghost use Rattle.std.specs.Prelude.{◌≡◌, ℕ, ◌+◌, ◌-◌, ◌<◌, ◌≤◌, ◌==◌, ◌++◌, ◌∷◌, []};
+ghost use Rattle.std.specs.Prelude.{IfSome, OnOk, OnErr, MatchOption, Some, None};
+ghost use Rattle.std.specs.Prelude.{if◌then◌else◌, length, take};
 ghost use Rattle.sx_term.specs.Tree.{depth_of};
 ghost use Rattle.sx_term.specs.Term.{tree};
 ghost use Rattle.sx_term.specs.Bindings.{lookup};
-ghost use Rattle.sx_term.specs.Bound.{bindings, bound_entry, IsFirstAt};
+ghost use Rattle.sx_term.specs.Bound.{bindings, IsFirstAt};
 ghost use Rattle.sx_term.specs.Limits.{most_depth};
 
 use crate::binding::Binding;

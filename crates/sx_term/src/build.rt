@@ -1,10 +1,10 @@
 //! The core notation: the term of a core text.
 
-ghost use Rattle.std.specs.Prelude.{◌≡◌, ℕ, ◌<◌, ◌≤◌, ◌++◌, List, ◌+◌, take, drop, length, IfOk};
+ghost use Rattle.std.specs.Prelude.{◌≡◌, ℕ, ◌<◌, ◌≤◌, List, ◌+◌, take, drop, length, IfOk};
 ghost use Rattle.std.specs.Str.{IsUtf8};
 ghost use Rattle.sx_term.specs.Tree.{Tree, depth_of, lexeme};
 ghost use Rattle.sx_term.specs.Term.{tree};
-ghost use Rattle.sx_term.specs.Core.{core, HasCore, NoDigit};
+ghost use Rattle.sx_term.specs.Core.{core, HasCore};
 ghost use Rattle.sx_term.specs.Reading.{Starts, IsBuilt};
 ghost use Rattle.sx_term.specs.Limits.{most_depth};
 

@@ -1,6 +1,6 @@
 //! The core notation: writing.
 
-ghost use Rattle.std.specs.Prelude.{◌≡◌, ℕ, ◌≤◌, List, ◌++◌, OnOk, OnErr, IfOk, decimal};
+ghost use Rattle.std.specs.Prelude.{◌≡◌, ℕ, ◌≤◌, List, ◌++◌, OnOk, OnErr, decimal};
 ghost use Rattle.sx_term.specs.Tree.{depth_of};
 ghost use Rattle.sx_term.specs.Term.{tree};
 ghost use Rattle.sx_term.specs.Core.{core, kind_byte, IsWritable, HasCore};

@@ -1,6 +1,6 @@
 //! The shapes of literals.
 
-ghost use Rattle.std.specs.Prelude.{◌≡◌, ℕ, ◌<◌, ◌≤◌, ◌↔◌, IsTrue, length};
+ghost use Rattle.std.specs.Prelude.{◌≡◌, ◌↔◌, IsTrue};
 ghost use Rattle.sx_term.specs.Cutting.{AreSymbols};
 ghost use Rattle.sx_term.specs.Spaced.{IsWordLiteral, IsSymbolLiteral};
 

@@ -1,6 +1,6 @@
 //! The shapes of constructors, and well sorted terms.
 
-ghost use Rattle.std.specs.Prelude.{◌≡◌, ℕ, ◌+◌, ◌≤◌, ◌↔◌, ◌++◌, IsTrue, IfOk, List, map};
+ghost use Rattle.std.specs.Prelude.{◌≡◌, ◌+◌, ◌≤◌, ◌↔◌, ◌++◌, IsTrue, IfOk, List, map};
 ghost use Rattle.std.specs.Prelude.{slice_get, MatchOption, Some, None};
 ghost use Rattle.sx_term.specs.Tree.{depth_of, greatest_depth, forest};
 ghost use Rattle.sx_term.specs.Term.{tree};

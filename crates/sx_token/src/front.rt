@@ -1,6 +1,6 @@
 //! The blank, comment or token at the front of a text.
 
-ghost use Rattle.std.specs.Prelude.{◌≡◌, ◌≢◌, ℕ, ◌<◌, ◌≤◌, List, ◌∷◌, length, slice_index, IsTrue};
+ghost use Rattle.std.specs.Prelude.{◌≡◌, ◌≢◌, ℕ, ◌<◌, List, ◌∷◌, length, slice_index, IsTrue};
 ghost use Rattle.sx_term.specs.Cutting.{is_symbol, is_blank_or_feed};
 ghost use Rattle.std.specs.Char.{is_ascii_digit};
 ghost use Rattle.sx_token.specs.Table.{IsLiteralTable};

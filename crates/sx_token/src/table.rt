@@ -1,6 +1,6 @@
 //! The literals, found by their text.
 
-ghost use Rattle.std.specs.Prelude.{◌≡◌, ◌≢◌, ℕ, ◌<◌, ◌≤◌, ◌^◌, List, ◌∷◌, ◌++◌, length, take};
+ghost use Rattle.std.specs.Prelude.{◌≡◌, ℕ, ◌<◌, ◌≤◌, ◌^◌, List, ◌∷◌, length, take};
 ghost use Rattle.std.specs.Prelude.{drop, Some, slice_get, slice_index, Contains, IfOk, IfNone};
 ghost use Rattle.std.specs.Prelude.{IfSome, IsTrue, IsFalse};
 ghost use Rattle.std.specs.Str.{IsCharBoundary};

@@ -1,6 +1,6 @@
 -- The first derivation of a core problem's goal.
-use Rattle.std.specs.Prelude.{List, [], map, None}
-use Rattle.sx_rules.specs.Rules.{Rule, Hypotheses, no_hypotheses}
+use Rattle.std.specs.Prelude.{List, map, None}
+use Rattle.sx_rules.specs.Rules.{Rule, no_hypotheses}
 use Rattle.sx_rules.specs.Views.{modes_of}
 use Rattle.sx_rules.specs.First.{Answer, IsFirst}
 use Rattle.sx_core.specs.Problem.{Problem}

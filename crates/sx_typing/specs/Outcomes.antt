@@ -6,7 +6,7 @@ use Rattle.sx_term.specs.Sorts.{Shape, HaveSorts}
 use Rattle.sx_term.specs.declared.sort.Sort.{Sort}
 use Rattle.sx_grammar.specs.Grammar.{Text}
 use Rattle.sx_print.specs.Cut.{HasLexemes}
-use Rattle.sx_rules.specs.Rules.{Rule, Hypotheses, no_hypotheses}
+use Rattle.sx_rules.specs.Rules.{Rule, no_hypotheses}
 use Rattle.sx_rules.specs.Modes.{inputs, outputs, Goal}
 use Rattle.sx_rules.specs.Sorts.{GoalIsSorted}
 use Rattle.sx_rules.specs.Views.{FormData, NamedRule, modes_of, subjects_in, sorts_of}

@@ -5,7 +5,7 @@ ghost use Rattle.sx_term.specs.Term.{tree};
 ghost use Rattle.sx_term.specs.Tree.{depth_of};
 ghost use Rattle.sx_rules.specs.Deep.{AreShallow};
 ghost use Rattle.sx_rules.specs.Sets.{forms_in, rules_in};
-ghost use Rattle.sx_rules.specs.Views.{goal as goal_of, modes_of, subjects_in, places_at};
+ghost use Rattle.sx_rules.specs.Views.{goal as goal_of, modes_of, subjects_in};
 ghost use Rattle.sx_derive.specs.Deriving.{AreCounted};
 ghost use Rattle.sx_derive.specs.Listing.{IsListed};
 ghost use Rattle.sx_derive.specs.Search.{tries_of};

@@ -3,7 +3,6 @@
 ghost use Rattle.std.specs.Prelude.{◌≡◌, ◌≤◌, ◌+◌, ℕ, IfOk, IfErr};
 ghost use Rattle.sx_extcheck.specs.declared.budgets.Budgets as budget;
 ghost use Rattle.sx_term.specs.Term.{tree};
-ghost use Rattle.sx_term.specs.Tree.{Tree};
 ghost use Rattle.sx_term.specs.declared.role.Role.TheVariants.{Sub};
 ghost use Rattle.sx_forest.specs.Readings.{plain_reading};
 ghost use Rattle.sx_typing.specs.Goals.{IsBody, IsTypedBy};

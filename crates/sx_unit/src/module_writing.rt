@@ -1,6 +1,6 @@
 //! Writing a module's texts.
 
-ghost use Rattle.std.specs.Prelude.{◌≡◌, ◌≤◌, ◌++◌, ◌∷◌, [], length, IfOk, IfErr, OnOk};
+ghost use Rattle.std.specs.Prelude.{◌≡◌, ◌++◌, ◌∷◌, [], length, IfOk, IfErr, OnOk};
 ghost use Rattle.std.specs.List.{AllByRecursion};
 ghost use Rattle.sx_term.specs.Term.{tree};
 ghost use Rattle.sx_rules.specs.Derivations.{Proof, nodes_of};
@@ -14,7 +14,7 @@ ghost use Rattle.sx_typing.specs.BodySource.{CanType};
 ghost use Rattle.sx_typing.specs.Goals.{IsBody};
 ghost use Rattle.sx_unit.specs.Modules.{module_data};
 ghost use Rattle.sx_unit.specs.PrintedParts.{printed_of};
-ghost use Rattle.sx_unit.specs.Texts.{printed, base_text, interface_text as known_interface};
+ghost use Rattle.sx_unit.specs.Texts.{printed, base_text};
 ghost use Rattle.sx_unit.specs.Written.{ArePrintable, IsGoodPart, IsUnwritten, IsWritten, unit_of};
 
 use crate::compiled::Compiled;

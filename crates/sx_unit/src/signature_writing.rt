@@ -2,8 +2,6 @@
 
 ghost use Rattle.std.specs.Prelude.{◌≡◌, ◌+◌, ◌-◌, ◌≤◌, ◌<◌, length, IfOk, IfErr};
 ghost use Rattle.std.specs.Str.{IsUtf8};
-ghost use Rattle.sx_term.specs.Term.{tree};
-ghost use Rattle.sx_typing.specs.Dialects.{IsDialectOf};
 ghost use Rattle.sx_typing.specs.BodySource.{CanType};
 ghost use Rattle.sx_unit.specs.Modules.{module_data};
 ghost use Rattle.sx_unit.specs.PrintedParts.{printed_of};

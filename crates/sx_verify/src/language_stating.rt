@@ -4,7 +4,6 @@ ghost use Rattle.std.specs.Prelude.{◌≡◌, ◌≤◌, IfOk, length};
 ghost use Rattle.sha2.specs.Sha256.{sha256};
 ghost use Rattle.sx_notation.specs.Language.{IsLanguage};
 ghost use Rattle.sx_steps.specs.Stop.{Gives, IsNoFault};
-ghost use Rattle.sx_accepting.specs.LanguageFiles.{language_file};
 ghost use Rattle.sx_accepting.specs.ReadLanguage.{stated_of, StatesLanguage, HasText};
 ghost use Rattle.sx_term.specs.Limits.{most_bytes};
 

@@ -1,6 +1,6 @@
 //! The step that reads a derivation list.
 
-ghost use Rattle.std.specs.Prelude.{◌≡◌, ◌≤◌, IfOk, length};
+ghost use Rattle.std.specs.Prelude.{◌≤◌, IfOk, length};
 ghost use Rattle.sx_outside.specs.Told.{WhereTold};
 ghost use Rattle.sx_rules.specs.RuleNames.{AreNames};
 ghost use Rattle.sx_rules.specs.Sets.{names_in};

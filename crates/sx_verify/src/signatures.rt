@@ -1,7 +1,6 @@
 //! The step that compares the signature of an interface.
 
 ghost use Rattle.std.specs.Prelude.{◌≡◌, IfOk};
-ghost use Rattle.std.specs.Str.{IsUtf8};
 ghost use Rattle.sx_term.specs.declared.role.Role.TheVariants.{Out};
 ghost use Rattle.sx_term.specs.Term.{tree};
 ghost use Rattle.sx_notation.specs.Language.{IsLanguage, language_data};

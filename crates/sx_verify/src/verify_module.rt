@@ -1,12 +1,11 @@
 //! The steps of `verify NAME`.
 
-ghost use Rattle.std.specs.Prelude.{◌≡◌, ◌≤◌, IfOk, length, map};
+ghost use Rattle.std.specs.Prelude.{◌≡◌, ◌≤◌, length, map};
 ghost use Rattle.std.specs.List.{AllByRecursion};
 ghost use Rattle.sha2.specs.Sha256.{sha256};
-ghost use Rattle.sx_interface.specs.InterfaceView.{mark_view};
 ghost use Rattle.sx_outside.specs.Told.{WhereTold};
 ghost use Rattle.sx_environment.specs.SeenFrom.{IsShort, interfaces_of};
-ghost use Rattle.sx_steps.specs.Stop.{Gives, OnlyReads, IsNoFault};
+ghost use Rattle.sx_steps.specs.Stop.{Gives, OnlyReads};
 ghost use Rattle.sx_steps.specs.Work.{plan_of};
 ghost use Rattle.sx_verify.specs.AskedFiles.{HasFiles};
 ghost use Rattle.sx_verify.specs.VerifyModule as spec;

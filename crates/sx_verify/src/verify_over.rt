@@ -1,6 +1,6 @@
 //! The steps of `verify NAME` over files that were compared.
 
-ghost use Rattle.std.specs.Prelude.{◌≡◌, ◌≤◌, IfOk, length};
+ghost use Rattle.std.specs.Prelude.{◌≡◌, ◌≤◌, length};
 ghost use Rattle.sx_grammar.specs.Tables.{literals_of};
 ghost use Rattle.sx_outside.specs.Told.{WhereTold};
 ghost use Rattle.sx_term.specs.declared.role.Role.TheVariants.{In, Sub, Out};

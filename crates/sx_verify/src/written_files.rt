@@ -1,6 +1,6 @@
 //! The steps that read a module's interface and its base file.
 
-ghost use Rattle.std.specs.Prelude.{◌≡◌, ◌≤◌, IfOk, length};
+ghost use Rattle.std.specs.Prelude.{◌≤◌, IfOk, length};
 ghost use Rattle.sx_interface.specs.InterfaceView.{interface_view};
 ghost use Rattle.sx_interface.specs.StatedHeader.{ArePlainNames};
 ghost use Rattle.sx_outside.specs.Told.{WhereTold};

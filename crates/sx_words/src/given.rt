@@ -1,6 +1,6 @@
 //! Options, one by one.
 
-ghost use Rattle.std.specs.Prelude.{◌≡◌, ◌≤◌, option_map, IfSome, MatchOption};
+ghost use Rattle.std.specs.Prelude.{◌≡◌, option_map, IfSome, MatchOption};
 ghost use Rattle.std.specs.Str.{IsUtf8};
 ghost use Rattle.sx_words.specs.Reading as spec;
 ghost use Rattle.sx_words.specs.View.{given_view, pair_view};

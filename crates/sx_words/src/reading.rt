@@ -1,7 +1,7 @@
 //! Reading the words from the left.
 
-ghost use Rattle.std.specs.Prelude.{◌≡◌, ◌+◌, ◌≤◌, ◌<◌, ◌^◌, ℕ, List, [], ◌∷◌, drop, length};
-ghost use Rattle.std.specs.Prelude.{slice_index, is_some, Ok};
+ghost use Rattle.std.specs.Prelude.{◌≡◌, ◌+◌, ◌<◌, ◌^◌, ℕ, List, [], drop};
+ghost use Rattle.std.specs.Prelude.{is_some, Ok};
 ghost use Rattle.sx_lines.specs.Reading.{GivesRead};
 ghost use Rattle.sx_lines.specs.Words.{count_of};
 ghost use Rattle.sx_words.specs.Commands as command;

@@ -2,7 +2,7 @@
 
 ghost use Rattle.std.specs.Prelude.{◌≡◌, ◌++◌, OnOk, OnErr, IfOk};
 ghost use Rattle.sx_words.specs.Lines.{line_text};
-ghost use Rattle.sx_words.specs.RefusalText.{defect_text, place_text, refusal_text};
+ghost use Rattle.sx_words.specs.RefusalText.{defect_text, refusal_text};
 
 use crate::budget_defect::{BudgetDefect, put_budget};
 use crate::closure_defect::{ClosureDefect, put_closure};

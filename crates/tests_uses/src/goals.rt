@@ -1,6 +1,6 @@
 //! Goals from core texts, and what is asked of a goal.
 
-ghost use Rattle.std.specs.Prelude.{◌≡◌, ◌≤◌, ℕ, [], true, IfSome, length, map};
+ghost use Rattle.std.specs.Prelude.{◌≡◌, ◌≤◌, [], true, IfSome, length, map};
 ghost use Rattle.sx_term.specs.Shapes.{shapes};
 ghost use Rattle.sx_term.specs.Sorts.{HaveSorts};
 ghost use Rattle.sx_term.specs.Term.{tree};

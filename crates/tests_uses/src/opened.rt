@@ -1,7 +1,7 @@
 //! Derivations from a hypothesis, by the plain rules of a language with extensions: they are
 //! expanded as lists, made in boxes from these, and rewritten in boxes.
 
-ghost use Rattle.std.specs.Prelude.{◌≡◌, ◌≤◌, ℕ, List, [], true, IfSome, map};
+ghost use Rattle.std.specs.Prelude.{◌≡◌, ◌≤◌, List, [], true, IfSome, map};
 ghost use Rattle.sx_term.specs.Shapes.{shapes};
 ghost use Rattle.sx_term.specs.Term.{tree};
 ghost use Rattle.sx_term.specs.Tree.{Tree, depth_of};

@@ -1,4 +1,4 @@
-use Rattle.std.proofs.Common.{◌≡◌, ℕ, ◌+◌, ◌∙◌, sym, subst, get_or, refl, arith}
+use Rattle.std.proofs.Common.{ℕ, ◌+◌, ◌∙◌, sym, subst, get_or, refl, arith}
 use Rattle.std.proofs.lemmas.List.{get_or_default}
 use Rattle.sx_arena.specs.Arena.{trees}
 use Rattle.sx_arena.specs.Views.{mask_of}

@@ -1,5 +1,5 @@
 use Rattle.std.proofs.Common.{List, map, refl, subst, arith}
-use Rattle.std.specs.Prelude.{Ok, Err}
+use Rattle.std.specs.Prelude.{Err}
 use Rattle.sx_unit.specs.Written.{unit_of}
 use Rattle.sx_steps.specs.Steps.{Untried}
 use Rattle.sx_steps.specs.Stop.{Does}

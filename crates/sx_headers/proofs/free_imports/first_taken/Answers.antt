@@ -1,4 +1,4 @@
-use Rattle.std.proofs.Common.{ℕ, List, ap, sym, ◌∙◌, subst}
+use Rattle.std.proofs.Common.{ℕ, List, ap, ◌∙◌, subst}
 use Rattle.std.specs.Prelude.{Contains, Some}
 use Rattle.sx_grammar.specs.Tables.{literals_of}
 use Rattle.sx_headers.proofs.TakenNames.{free_next, taken_here}

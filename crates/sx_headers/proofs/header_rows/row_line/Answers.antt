@@ -1,4 +1,4 @@
-use Rattle.std.proofs.Common.{◌≡◌, ◌-◌, ℕ, sym, ap, ◌∙◌, arith}
+use Rattle.std.proofs.Common.{◌≡◌, ◌-◌, ap, ◌∙◌, arith}
 use Rattle.sx_lines.specs.Lines.{Lines}
 use Rattle.sx_lines.specs.Left.{left}
 use Rattle.sx_lines.specs.Reading.{kept}

@@ -1,4 +1,4 @@
-use Rattle.std.proofs.Common.{◌≡◌, ◌++◌, ◌∷◌, [], Some, None, List, ℕ, Contains, sym, subst}
+use Rattle.std.proofs.Common.{List, ℕ, sym, subst}
 use Rattle.sx_term.specs.Vars.{IsAdded}
 use Rattle.sx_notation.proofs.AmongNames.{is_there, not_there}
 use Rattle.sx_notation.proofs.named_tokens.is_among.Goals as goal

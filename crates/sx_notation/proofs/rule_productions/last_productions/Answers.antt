@@ -1,7 +1,6 @@
-use Rattle.std.proofs.Common.{◌≡◌, ◌+◌, ◌-◌, ◌++◌, ◌∙◌, length, drop, map, ap, arith}
+use Rattle.std.proofs.Common.{◌≡◌, ◌+◌, ◌-◌, ◌∙◌, length, drop, map, ap, arith}
 use Rattle.std.proofs.lemmas.Result.{IfOk-weaker}
-use Rattle.sx_grammar.specs.Parts.{line, parts}
-use Rattle.sx_notation.specs.RuleParts.{form_line, apart_lines, rule_parts}
+use Rattle.sx_grammar.specs.Parts.{line}
 use Rattle.sx_notation.proofs.Further.{further}
 use Rattle.sx_notation.proofs.rule_productions.last_productions.Goals as goal
 

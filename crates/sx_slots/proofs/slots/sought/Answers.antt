@@ -1,4 +1,4 @@
-use Rattle.std.proofs.Common.{◌-◌, get_or, refl, arith}
+use Rattle.std.proofs.Common.{◌-◌, refl, arith}
 use Rattle.sx_slots.proofs.Linking.{seeking_first, seeking_past}
 use Rattle.sx_slots.proofs.slots.sought.Goals as goal
 

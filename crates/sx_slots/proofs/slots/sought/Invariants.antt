@@ -1,4 +1,4 @@
-use Rattle.std.proofs.Common.{ℕ, List, ◌≡◌, ◌≤◌, length}
+use Rattle.std.proofs.Common.{ℕ, List, ◌≤◌, length}
 use Rattle.sx_slots.specs.Slots.{slot_of, IsLast, AreLinked}
 use Rattle.sx_slots.proofs.Linking.{Seeking}
 use Rattle.sx_slots.proofs.slots.sought.Given as goal

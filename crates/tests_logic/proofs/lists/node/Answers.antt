@@ -1,4 +1,4 @@
-use Rattle.std.proofs.Common.{◌≤◌, ap, arith, refl, ◌∙◌, ◌++◌, ◌∷◌, []}
+use Rattle.std.proofs.Common.{ap, arith, refl, ◌∙◌, ◌++◌, ◌∷◌, []}
 use Rattle.sx_rules.specs.Derivations.{height_of, most_height}
 use Rattle.sx_rules.specs.ProofView.{proof, boxed}
 use Rattle.sx_rules.specs.declared.proof.Proof.{By}

@@ -1,4 +1,4 @@
-use Rattle.std.proofs.Common.{◌≡◌, ◌<◌, ℕ, List, Option, Some, None, arith, sym, ap, ◌∙◌, subst, length}
+use Rattle.std.proofs.Common.{◌<◌, ℕ, List, Option, Some, None, arith, sym, ap, ◌∙◌, subst, length}
 use Rattle.sx_slots.specs.Mixed.{folded}
 use Rattle.sx_slots.specs.Slots.{IsLastWith}
 use Rattle.sx_slots.proofs.Seeking.{IsSought, left_of, goes_back}

@@ -1,4 +1,4 @@
-use Rattle.std.proofs.Common.{List, ℕ, ◌≡◌, sym, ◌∙◌, subst}
+use Rattle.std.proofs.Common.{List, ℕ, ◌≡◌, sym, subst}
 use Rattle.std.specs.Prelude.{Some, None}
 use Rattle.sx_outside.specs.Views.{clean_files_of}
 use Rattle.sx_uses.specs.ExtensionFile.{extension_of}
