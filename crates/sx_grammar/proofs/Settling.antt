@@ -180,9 +180,13 @@ ranked_more ranks needs place before here k x lt got = elim (cases_lt k place) [
       subst (HasRank ranks) (ap (λ p. get_or needs p 0) last ∙ get_or_from_slice_get needs k x 0 got) here)
 ]
 
+-- the first need without a rank is here
+abbrev pub IsUnranked : List (Option ℕ) → List ℕ → ℕ → Type 0
+IsUnranked ranks needs later = (later < length needs) × AreRankedTo ranks needs later × ¬ (HasRank ranks (get_or needs later 0))
+
 -- a search through a copy of the ranks and of the needs
 abbrev Finds : List (Option ℕ) → List ℕ → ℕ → ℕ → Type 0
-Finds ranks needs place later = AreRankedTo ranks needs place → (later < length needs) × AreRankedTo ranks needs later × ¬ (HasRank ranks (get_or needs later 0))
+Finds ranks needs place later = AreRankedTo ranks needs place → IsUnranked ranks needs later
 
 abbrev FindsNone : List (Option ℕ) → List ℕ → ℕ → Type 0
 FindsNone ranks needs place = AreRankedTo ranks needs place → AreRankedTo ranks needs (length needs)
