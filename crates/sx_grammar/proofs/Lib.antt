@@ -30,3 +30,4 @@ pub mod Extending
 pub mod Behind
 pub mod TokenLaws
 pub mod LoopLaws
+pub mod StemLaws

@@ -24,3 +24,4 @@ pub mod Settled
 pub mod Sorting
 pub mod High
 pub mod Standing
+pub mod Stems

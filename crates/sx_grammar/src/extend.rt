@@ -9,6 +9,7 @@ use crate::grammar::Grammar;
 use crate::grammar_error::GrammarError;
 use crate::grammar_parts::GrammarParts;
 use crate::growing::tables_behind;
+use crate::moving::move_behind;
 use crate::production::Production;
 use crate::sort_line::SortLine;
 use std::alloc::Global;
@@ -22,7 +23,6 @@ fn with_more(
 ) -> Result<GrammarParts, NoMemory>
     ensures { IfOk result (λ p. parts p ≡ extended (parts from.now) (map line more.items)) }
 {
-    let mut more = more;
     let mut all = match from.copy(alloc) {
         Ok(all) => all,
         Err(e) => {
@@ -30,9 +30,7 @@ fn with_more(
             return Err(e);
         }
     };
-    let added = all.productions.append(&mut more);
-    drop(more);
-    match added {
+    match move_behind(&mut all.productions, more) {
         Ok(()) => Ok(all),
         Err(e) => {
             drop(all);

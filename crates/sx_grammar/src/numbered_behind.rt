@@ -17,6 +17,7 @@ use crate::grammar_parts::GrammarParts;
 use crate::levels::has_brackets;
 use crate::mixing::keeps_sorts;
 use crate::more_sorts::{brackets_with, has_more, ranks_with};
+use crate::moving::move_behind;
 use crate::numbered::NumberedProduction;
 use crate::numbered_parts::NumberedParts;
 use crate::numbering::number_productions;
@@ -47,7 +48,6 @@ fn joined(
 ) -> Result<Vec<NumberedProduction>, NoMemory>
     ensures { IfOk result (λ v. map bare v.items ≡ map bare (before.now ++ more.items)) }
 {
-    let mut more = more;
     let mut all = match copy_numbered(alloc, before) {
         Ok(all) => all,
         Err(e) => {
@@ -55,9 +55,7 @@ fn joined(
             return Err(e);
         }
     };
-    let added = all.append(&mut more);
-    drop(more);
-    match added {
+    match move_behind(&mut all, more) {
         Ok(()) => Ok(all),
         Err(e) => {
             drop(all);
