@@ -1,7 +1,7 @@
 -- Terms of an arena as values of their own.
 use Rattle.std.proofs.Common.{◌≡◌, ℕ, zero, suc, ◌+◌, ◌<◌, ◌≤◌, List, [], ◌∷◌, ◌++◌, map, take, length, get_or, Option, Some, None, Vec, refl, sym, ap, ◌∙◌, arith, subst}
 use Rattle.std.specs.declared.alloc.Global.{Global}
-use Rattle.std.proofs.lemmas.List.{map_push, take_all}
+use Rattle.std.proofs.lemmas.List.{map_push, map_more, take_all}
 use Rattle.sx_term.specs.Tree.{Tree, node, forest, depth_of, greatest_depth}
 use Rattle.sx_term.specs.declared.term.Term.{Term, Node}
 use Rattle.sx_term.specs.Term.{tree}
@@ -13,7 +13,8 @@ use Rattle.sx_arena.specs.declared.shape.Shape.TheVariants.{Node as Branch}
 use Rattle.sx_arena.specs.Arena.{SmallVec, tree_at, shape_tree, AreBelow, KidsBelow, IsCellRead}
 use Rattle.sx_arena.specs.Binds.{IsBoundTerm}
 
-depth_in : (ts : List Tree) (is : List ℕ) (k i : ℕ) → k < length is → i ≡ get_or is k 0 → depth_of (tree_at ts i) ≤ greatest_depth (forest (map (tree_at ts) is))
+-- none is deeper than the deepest
+pub depth_in : (ts : List Tree) (is : List ℕ) (k i : ℕ) → k < length is → i ≡ get_or is k 0 → depth_of (tree_at ts i) ≤ greatest_depth (forest (map (tree_at ts) is))
 depth_in ts [] k i h e = absurd (omega arith)
 depth_in ts (x ∷ is) zero i h e = let f = ap (λ y. depth_of (tree_at ts y)) e in omega arith
 depth_in ts (x ∷ is) (suc k) i h e = let r = depth_in ts is k i (omega arith) e in omega arith
@@ -35,11 +36,28 @@ kid_within ts index label c kids is k i r e f h g = among is k (subst (λ xs. Ar
     among (x ∷ is) zero b h g = (let z = b.0 in omega arith)
     among (x ∷ is) (suc k) b h g = among is k b.1 (omega arith) g
 
-pub exported_node : (ts : List Tree) (index label : ℕ) (c : Cell) (kids : SmallVec ℕ) (is : List ℕ) (k : ℕ) (parts : Vec Term Global) → IsCellRead ts index c → c.shape ≡ Branch label kids → is ≡ kids.items → length is ≤ k →
-    map tree parts.items ≡ map (tree_at ts) (take k is) → tree (Node label parts) ≡ tree_at ts index
-exported_node ts index label c kids is k parts r e f h m =
+-- the kids of a node are less deep than it
+pub kids_less : (ts : List Tree) (index label : ℕ) (c : Cell) (kids : SmallVec ℕ) (is : List ℕ) → IsCellRead ts index c → c.shape ≡ Branch label kids → is ≡ kids.items →
+    greatest_depth (forest (map (tree_at ts) is)) + 1 ≡ depth_of (tree_at ts index)
+kids_less ts index label c kids is r e f =
+    sym (ap depth_of (r.tree ∙ ap (shape_tree ts) e ∙ ap (λ xs. node label (forest (map (tree_at ts) xs))) (sym f)))
+
+pub kids_within : (ts : List Tree) (index label : ℕ) (c : Cell) (kids : SmallVec ℕ) (is : List ℕ) → IsCellRead ts index c → c.shape ≡ Branch label kids → is ≡ kids.items → AreBelow (length ts) is
+kids_within ts index label c kids is r e f = subst (λ xs. AreBelow (length ts) xs) (sym f) (subst (KidsBelow (length ts)) e r.cell.kids)
+
+-- one term more
+pub exported_more : (ts : List Tree) (is : List ℕ) (i : ℕ) (terms more : List Term) (t : Term) → i < length is → map tree terms ≡ map (tree_at ts) (take i is) → tree t ≡ tree_at ts (get_or is i 0) →
+    more ≡ terms ++ t ∷ [] → map tree more ≡ map (tree_at ts) (take (i + 1) is)
+exported_more ts is i terms more t l m e f = ap (map tree) f ∙ map_push tree terms t ∙ (λ j. m j ++ e j ∷ []) ∙ sym (map_more (tree_at ts) is i 0 l)
+
+pub exported_all : (ts : List Tree) (is : List ℕ) (i : ℕ) (terms : List Term) → length is ≤ i → map tree terms ≡ map (tree_at ts) (take i is) → map tree terms ≡ map (tree_at ts) is
+exported_all ts is i terms l m = m ∙ ap (map (tree_at ts)) (take_all i is l)
+
+pub exported_node : (ts : List Tree) (index label : ℕ) (c : Cell) (kids : SmallVec ℕ) (is : List ℕ) (parts : Vec Term Global) → IsCellRead ts index c → c.shape ≡ Branch label kids → is ≡ kids.items →
+    map tree parts.items ≡ map (tree_at ts) is → tree (Node label parts) ≡ tree_at ts index
+exported_node ts index label c kids is parts r e f m =
     tree-at_node (Node label parts) label parts refl
-    ∙ ap (λ xs. node label (forest xs)) (m ∙ ap (map (tree_at ts)) (take_all k is h ∙ f))
+    ∙ ap (λ xs. node label (forest xs)) (m ∙ ap (map (tree_at ts)) f)
     ∙ sym (r.tree ∙ ap (shape_tree ts) e)
 
 -- one value more

@@ -1,6 +1,6 @@
 //! Terms of an arena, and proofs of a store, as values of their own.
 
-ghost use Rattle.std.specs.Prelude.{◌≡◌, ◌≤◌, ◌<◌, IfOk, length, map};
+ghost use Rattle.std.specs.Prelude.{◌≡◌, ◌≤◌, ◌<◌, [], IfOk, OnOk, length, map};
 ghost use Rattle.sx_term.specs.Term.{tree};
 ghost use Rattle.sx_term.specs.Tree.{lexeme as leaf};
 ghost use Rattle.sx_arena.specs.Matching.{filled};
@@ -26,6 +26,7 @@ fn lexeme(alloc: Global, kind: LexKind, text: &str) -> Result<Term, NoMemory>
 }
 
 /// The term with this number.
+#[cycle(exporting)]
 pub fn export(alloc: Global, arena: &Arena, index: usize) -> Result<Term, NoMemory>
     requires arena { IsArena arena.now }
     requires within { index < length (trees arena.now) }
@@ -33,10 +34,7 @@ pub fn export(alloc: Global, arena: &Arena, index: usize) -> Result<Term, NoMemo
 {
     match &arena.cell(index).shape {
         Shape::Node { label, kids } => {
-            let mut parts = Vec::with_capacity(alloc, kids.len())?;
-            for kid in kids.as_slice() {
-                parts.push(export(alloc, arena, *kid)?)?;
-            }
+            let parts = export_all(alloc, arena, kids.as_slice())?;
             Ok(Term::Node {
                 label: *label,
                 kids: parts,
@@ -47,17 +45,42 @@ pub fn export(alloc: Global, arena: &Arena, index: usize) -> Result<Term, NoMemo
     }
 }
 
+/// Fills a list that has no terms with those that have these numbers.
+#[cycle(exporting)]
+#[inline(always)]
+fn fill(
+    alloc: Global,
+    arena: &Arena,
+    indices: &[usize],
+    terms: &mut Vec<Term>,
+) -> Result<(), NoMemory>
+    requires arena { IsArena arena.now }
+    requires within { AreBelow (length (trees arena.now)) indices.now }
+    requires none { terms.old.items ≡ [] }
+    ensures { OnOk result (map tree terms.new.items
+        ≡ map (tree_at (trees arena.now)) indices.now) }
+{
+    for index in indices {
+        terms.push(export(alloc, arena, *index)?)?;
+    }
+    Ok(())
+}
+
 /// The terms with these numbers.
+#[cycle(exporting)]
 pub fn export_all(alloc: Global, arena: &Arena, indices: &[usize]) -> Result<Vec<Term>, NoMemory>
     requires arena { IsArena arena.now }
     requires within { AreBelow (length (trees arena.now)) indices.now }
     ensures { IfOk result (λ r. map tree r.items ≡ map (tree_at (trees arena.now)) indices.now) }
 {
     let mut terms = Vec::with_capacity(alloc, indices.len())?;
-    for index in indices {
-        terms.push(export(alloc, arena, *index)?)?;
+    match fill(alloc, arena, indices, &mut terms) {
+        Ok(()) => Ok(terms),
+        Err(e) => {
+            drop(terms);
+            Err(e)
+        }
     }
-    Ok(terms)
 }
 
 /// The term that a chain of bindings gives a variable; what is not bound has the node 0 without
