@@ -110,6 +110,18 @@ constructor_line d label sort place n l kids e is h =
     let line_same : l ≡ h.line = some_same l h.line (sym is ∙ ap (slice_get d.productions) (sym same) ∙ h.is) in
     (same, ap (λ (x : Line). x.sort) line_same ∙ h.sort_is, ap (λ (x : Line). parts_of_symbols x.symbols) line_same ∙ h.kids_are)
 
+-- a constructor by the parts of its production
+pub constructor_of : (d : Declared) (label sort : List ℕ) (n : ℕ) (l : Line) (kids more : List Kid) → IsConstructor d label n sort kids → slice_get d.productions n ≡ Some l → parts_of_symbols l.symbols ≡ more → IsConstructor d label n sort more
+constructor_of d label sort n l kids more h is e =
+    let w = constructor_line d label sort n n l kids (constructor_place d label sort n kids h) is h in
+    record { line = l; is = is; first = h.first; sort_is = w.1; kids_are = e }
+
+pub constructor_other : (d : Declared) (label sort : List ℕ) (n m : ℕ) (l : Line) (kids more : List Kid) → IsConstructor d label n sort kids → slice_get d.productions n ≡ Some l → (parts_of_symbols l.symbols ≡ more → ⊥)
+    → IsConstructor d label m sort more → ⊥
+constructor_other d label sort n m l kids more h is differ k =
+    let w = constructor_line d label sort n m l more (constructor_place d label sort n kids h) is k in
+    differ w.2
+
 -- a production of a list by its place
 pub line_at : (ps : List Production) (i : ℕ) (p : Production) → i < length ps → p ≡ get_or ps i p → slice_get (map line ps) i ≡ Some (line p)
 line_at ps i p lt is = slice_get-map line ps i ∙ ap (option_map line) (slice_get-get_or ps i p lt) ∙ ap (λ x. Some (line x)) (sym is)

@@ -1,6 +1,6 @@
 //! What the lines of a language file or of an extension file declare.
 
-ghost use Rattle.std.specs.Prelude.{◌≡◌, [], IfOk, OnOk};
+ghost use Rattle.std.specs.Prelude.{◌≡◌, [], ◌∷◌, ◌++◌, IfOk, OnOk};
 ghost use Rattle.sx_outline.specs.Declarations.{declare, declared_before, nothing};
 ghost use Rattle.sx_outline.specs.Tables.{declared_in};
 
@@ -19,6 +19,13 @@ pub(crate) struct DeclaredRows {
     pub forms: Vec<FormLine>,
     pub mains: Vec<MainLine>,
     pub uses: Vec<Text>,
+}
+
+/// Puts an item at the end of a list.
+fn add<T: Drop>(list: &mut Vec<T>, item: T) -> Result<(), NoMemory>
+    ensures { OnOk result (list.new.items ≡ list.old.items ++ item ∷ []) }
+{
+    Ok(list.push(item)?)
 }
 
 /// Fills a list that has no sorts with equal ones.
@@ -91,20 +98,15 @@ impl DeclaredRows {
         ensures { OnOk result (declared_in self.new ≡ declare (declared_in self.old) row) }
     {
         match row {
-            Row::Sort(sort) => self.sorts.push(sort)?,
-            Row::Prod(production) => self.productions.push(production)?,
-            Row::Var(var) => self.vars.push(var)?,
-            Row::Form(form) => self.forms.push(form)?,
-            Row::Main(main) => self.mains.push(main)?,
-            Row::Language(_name) => {}
-            Row::Rule(_name) => {}
-            Row::Bar => {}
-            Row::End => {}
-            Row::Extension(_name) => {}
-            Row::Use(_name) => {}
-            Row::Plain(_plain) => {}
-            Row::To(_body) => {}
+            Row::Sort(sort) => add(&mut self.sorts, sort),
+            Row::Prod(production) => add(&mut self.productions, production),
+            Row::Var(var) => add(&mut self.vars, var),
+            Row::Form(form) => add(&mut self.forms, form),
+            Row::Main(main) => add(&mut self.mains, main),
+            other => {
+                drop(other);
+                Ok(())
+            }
         }
-        Ok(())
     }
 }
