@@ -9,6 +9,8 @@ use Rattle.sx_grammar.specs.declared.head.Head.{Head}
 use Rattle.sx_grammar.specs.Grammar.{Symbol, Grammar, Token, Production, production_of}
 use Rattle.sx_grammar.specs.Tally.{Tally, no_way}
 use Rattle.sx_earley.specs.Chart.{next_symbol, symbol_after}
+use Rattle.sx_earley.specs.Shown.{tokens_of}
+use Rattle.sx_forest.specs.declared.basis.Basis.{Basis}
 use Rattle.sx_forest.specs.declared.row.Row.{Row}
 use Rattle.sx_forest.specs.declared.kept.Kept.{Kept}
 use Rattle.sx_forest.specs.declared.stretch.Stretch.{Stretch}
@@ -24,6 +26,10 @@ use Rattle.sx_forest.proofs.Pushing.{got_before, got_last, got_cases, longer_pus
 use Rattle.sx_forest.proofs.RowWays.{none_after, way_there, empty_none}
 use Rattle.sx_forest.proofs.Filling.{stretches_on}
 use Rattle.sx_forest.proofs.Keeping as keeping
+
+-- what is shown, as it is read
+abbrev pub basis_tokens : Basis → List Token
+basis_tokens basis = tokens_of basis.grammar.now basis.shown.now
 
 filled : (m k : ℕ) → ways_at (replicate m Nothing) k ≡ no_way
 filled zero k = refl

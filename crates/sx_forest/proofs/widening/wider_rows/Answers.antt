@@ -1,15 +1,15 @@
 use Rattle.std.proofs.Common.{◌≡◌, ◌-◌, [], subst, sym, ap, ◌∙◌, length, arith}
 use Rattle.sx_earley.specs.Chart.{next_symbol}
-use Rattle.sx_earley.specs.Shown.{plain, tokens_of}
+use Rattle.sx_earley.specs.Shown.{plain}
 use Rattle.sx_forest.specs.declared.kept.Kept.{Kept}
 use Rattle.sx_forest.specs.Rows.{tally_at, stretch_at}
 use Rattle.sx_forest.specs.KeptRows.{symbols_by, front_of, IsLonger}
-use Rattle.sx_forest.proofs.Wider.{AreWideTo, none_of_length, wide_none, wide_on, wide_all}
+use Rattle.sx_forest.proofs.Wider.{basis_tokens, AreWideTo, none_of_length, wide_none, wide_on, wide_all}
 use Rattle.sx_forest.proofs.widening.wider_rows.Goals as goal
 
 pub loop-row-init : goal.loop-row-init
 loop-row-init c =
-    let g = plain c.args.basis.grammar.now in let ts = tokens_of c.args.basis.grammar.now c.args.basis.shown.now in let lists = c.args.basis.table.now.lists.items in
+    let g = plain c.args.basis.grammar.now in let ts = basis_tokens c.args.basis in let lists = c.args.basis.table.now.lists.items in
     let kept = c.args.kept.now in let count = symbols_by g kept.head in let rows = c.args.rows.items in
     subst (λ w. AreWideTo g ts lists kept.head count kept.to kept.stretches.items c.args.stretches.now rows w c.into_iter-row-iterator.result.rest.items) (sym c.new-wide.ensures.items)
     (subst (λ r. AreWideTo g ts lists kept.head count kept.to kept.stretches.items c.args.stretches.now rows [] r) (sym c.into_iter-row-iterator.ensures.into_iter_gives.0)
@@ -17,7 +17,7 @@ loop-row-init c =
 
 pub loop-row-preserved : goal.loop-row-preserved
 loop-row-preserved c =
-    let g = plain c.args.basis.grammar.now in let ts = tokens_of c.args.basis.grammar.now c.args.basis.shown.now in let lists = c.args.basis.table.now.lists.items in
+    let g = plain c.args.basis.grammar.now in let ts = basis_tokens c.args.basis in let lists = c.args.basis.table.now.lists.items in
     let head = c.args.kept.now.head in let count = symbols_by g head in let olds = c.args.kept.now.stretches.items in let news = c.args.stretches.now in
     let kept : Kept = record { head = head; to = c.args.kept.now.to; stretches = c.args.kept.now.stretches; rows = c.args.rows } in
     let x = c.in-Some.row in let r = c.in_ok-own.own in let wide = c.loop-row.wide.items in
@@ -28,7 +28,7 @@ loop-row-preserved c =
 
 pub returns : goal.returns
 returns c =
-    let g = plain c.args.basis.grammar.now in let ts = tokens_of c.args.basis.grammar.now c.args.basis.shown.now in let lists = c.args.basis.table.now.lists.items in
+    let g = plain c.args.basis.grammar.now in let ts = basis_tokens c.args.basis in let lists = c.args.basis.table.now.lists.items in
     let head = c.args.kept.now.head in let count = symbols_by g head in
     let kept : Kept = record { head = head; to = c.args.kept.now.to; stretches = c.args.kept.now.stretches; rows = c.args.rows } in
     let none = c.in-None.ensures.steps.0 in let filled = c.loop-row.row-iterator.rest.ok in
