@@ -1,7 +1,8 @@
 //! The places of a judgement: matching and making its inputs or its outputs, and the limits of
 //! terms.
 
-ghost use Rattle.std.specs.Prelude.{◌≡◌, ◌↔◌, ◌≤◌, ◌<◌, false, IsTrue, IfOk, OnOk, length, map, get_or};
+ghost use Rattle.std.specs.Prelude.{◌≡◌, ◌↔◌, ◌≤◌, ◌<◌, false, IsTrue, IfOk, OnOk, length};
+ghost use Rattle.std.specs.Prelude.{map, get_or};
 ghost use Rattle.sx_term.specs.Term.{tree};
 ghost use Rattle.sx_rules.specs.Instances.{instance};
 ghost use Rattle.sx_arena.specs.Matching.{match_all, filled};
