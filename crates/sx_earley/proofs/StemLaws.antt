@@ -1,31 +1,13 @@
--- Stems and the digits after them, and what tokens show.
-use Rattle.std.proofs.Common.{◌≡◌, ◌∙◌, sym, ap, subst, refl, ℕ, zero, suc, ◌+◌, ◌<◌, Bool, true, false, if◌then◌else◌, cond, List, [], ◌∷◌, ◌++◌, length, take, drop, get_or, Option, Some, add-one, arith}
-use Rattle.std.specs.Char.{is_ascii_digit}
+-- Stems, and what tokens show.
+use Rattle.std.proofs.Common.{◌≡◌, ◌∙◌, sym, ap, subst, ℕ, zero, suc, ◌+◌, ◌<◌, cond, List, [], ◌∷◌, ◌++◌, length, take, drop, get_or, Option, Some, add-one, arith}
 use Rattle.std.specs.Str.{bytes_eq}
 use Rattle.std.proofs.lemmas.List.{drop_more}
 use Rattle.sx_term.specs.declared.sort.Sort.{Sort}
 use Rattle.sx_token.specs.declared.token.Token.{Token}
 use Rattle.sx_grammar.specs.Grammar.{Text}
 use Rattle.sx_earley.specs.declared.shown.Shown.{Shown}
-use Rattle.sx_earley.specs.Tokens.{kept_unless_digit, without_digits, Stems, stem_sort}
+use Rattle.sx_earley.specs.Tokens.{Stems, stem_sort}
 use Rattle.sx_earley.specs.Showing.{TokenShows, AllShow}
-
-kept_more : (x c : ℕ) (xs : Text) → kept_unless_digit x (xs ++ c ∷ []) ≡ x ∷ xs ++ c ∷ []
-kept_more x c [] = refl
-kept_more x c (y ∷ ys) = refl
-
-digits_last : (xs : Text) (c : ℕ) (b : Bool) → is_ascii_digit c ≡ b → without_digits (xs ++ c ∷ []) ≡ (if b then without_digits xs else (xs ++ c ∷ []))
-digits_last [] c b e = ap (λ d. if d then [] else c ∷ []) e
-digits_last (x ∷ xs) c true e = ap (kept_unless_digit x) (digits_last xs c true e)
-digits_last (x ∷ xs) c false e = ap (kept_unless_digit x) (digits_last xs c false e) ∙ kept_more x c xs
-
--- a digit at the end is left out
-pub digit_out : (text rest : Text) (c : ℕ) → text ≡ rest ++ c ∷ [] → is_ascii_digit c ≡ true → without_digits text ≡ without_digits rest
-digit_out text rest c e d = ap without_digits e ∙ digits_last rest c true d
-
--- what does not end with a digit stays
-pub no_digit : (text rest : Text) (c : ℕ) → text ≡ rest ++ c ∷ [] → is_ascii_digit c ≡ false → without_digits text ≡ text
-no_digit text rest c e d = ap without_digits e ∙ digits_last rest c false d ∙ sym e
 
 -- a stem before all others counts
 pub stem_first : (xs : Stems) (i : ℕ) (s : Text × Sort) (get get' : Text → Option Sort) → i < length xs → s ≡ get_or xs i s → ((t : Text) → get t ≡ stem_sort (drop (i + 1) xs) t) →

@@ -1,6 +1,5 @@
 -- The tokens of a text with metavariables, as a grammar reads them.
-use Rattle.std.specs.Prelude.{ℕ, if◌then◌else◌, List, [], ◌∷◌, Option, Some, None, map}
-use Rattle.std.specs.Char.{is_ascii_digit}
+use Rattle.std.specs.Prelude.{if◌then◌else◌, List, [], ◌∷◌, Option, Some, None, map}
 use Rattle.std.specs.Str.{bytes_eq}
 use Rattle.sx_term.specs.declared.lex_kind.LexKind.TheVariants.{Id}
 use Rattle.sx_term.specs.declared.sort.Sort.{Sort}
@@ -12,16 +11,7 @@ use Rattle.sx_token.specs.declared.token.Token.{Token}
 use Rattle.sx_grammar.specs.Grammar as plain
 use Rattle.sx_grammar.specs.Grammar.{Text, Stem, of_kind, of_sort, is_literal, is_lexeme}
 use Rattle.sx_grammar.specs.Grammar.{is_variable}
-
--- the first byte stays, unless it is a digit and nothing comes after it
-abbrev pub kept_unless_digit : ℕ → Text → Text
-kept_unless_digit c [] = if is_ascii_digit c then [] else c ∷ []
-kept_unless_digit c (d ∷ ds) = c ∷ d ∷ ds
-
--- without the ASCII digits at its end
-abbrev pub without_digits : Text → Text
-without_digits [] = []
-without_digits (c ∷ cs) = kept_unless_digit c (without_digits cs)
+use Rattle.sx_grammar.specs.Stems.{without_digits}
 
 -- the stem of a metavariable: its name, which comes after `~`, without the digits at its end
 abbrev pub meta_stem : Text → Text

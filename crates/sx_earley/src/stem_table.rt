@@ -2,7 +2,8 @@
 
 ghost use Rattle.std.specs.Prelude.{◌≡◌, ℕ, List, IfOk, IsTrue, false};
 ghost use Rattle.sx_term.specs.declared.sort.Sort.{Sort};
-ghost use Rattle.sx_earley.specs.Tokens.{without_digits, meta_stem, stem_sort};
+ghost use Rattle.sx_grammar.specs.Stems.{without_digits};
+ghost use Rattle.sx_earley.specs.Tokens.{meta_stem, stem_sort};
 ghost use Rattle.sx_earley.specs.Shown.{literal_texts};
 ghost use Rattle.sx_earley.specs.Showing.{IsStems, TokenShows, shown_stem};
 ghost use Rattle.sx_earley.specs.Unknown.{HasKnownStem, IsUnknownStem};
@@ -11,7 +12,7 @@ use crate::metas::Metas;
 use crate::shown::{Shown, literal_shown};
 use std::alloc::{AllocError, Global};
 use std::collections::HashMap;
-use sx_grammar::Grammar;
+use sx_grammar::{Grammar, without_digits};
 use sx_term::{LexKind, Mark, Sort};
 use sx_token::Token;
 
@@ -35,21 +36,6 @@ pub(crate) fn stem_table<'a>(alloc: Global, metas: &'a Metas) -> Result<StemTabl
         sorts.insert(stem.0.bytes(), stem.1)?;
     }
     Ok(StemTable { metas, sorts })
-}
-
-/// The bytes without the ASCII digits at their end.
-fn without_digits(bytes: &[u8]) -> &[u8]
-    ensures { result.now ≡ without_digits bytes.now }
-{
-    let mut rest = bytes;
-    while let Some((last, front)) = rest.split_last() {
-        if last.is_ascii_digit() {
-            rest = front;
-        } else {
-            return rest;
-        }
-    }
-    rest
 }
 
 /// The stem of the metavariable.

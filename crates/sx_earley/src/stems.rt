@@ -2,7 +2,8 @@
 
 ghost use Rattle.std.specs.Prelude.{◌≡◌, ℕ, List, IfOk};
 ghost use Rattle.sx_term.specs.declared.sort.Sort.{Sort};
-ghost use Rattle.sx_earley.specs.Tokens.{without_digits, stem_sort};
+ghost use Rattle.sx_grammar.specs.Stems.{without_digits};
+ghost use Rattle.sx_earley.specs.Tokens.{stem_sort};
 ghost use Rattle.sx_earley.specs.Shown.{literal_texts};
 ghost use Rattle.sx_earley.specs.Showing.{IsStems, AllShow};
 ghost use Rattle.sx_earley.specs.Unknown.{IsFirstUnknown};
