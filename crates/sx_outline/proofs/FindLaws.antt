@@ -10,6 +10,7 @@ use Rattle.sx_term.specs.declared.lex_kind.LexKind.{LexKind}
 use Rattle.sx_term.specs.declared.role.Role.{Role}
 use Rattle.sx_term.specs.declared.role.Role.TheVariants.{In, Sub, Out}
 use Rattle.sx_grammar.specs.Parts.{Line, line, labels, number_of}
+use Rattle.sx_grammar.specs.Stems.{without_digits}
 use Rattle.sx_grammar.specs.declared.production.Production.{Production}
 use Rattle.sx_grammar.specs.declared.sort_line.SortLine.{SortLine}
 use Rattle.sx_directives.specs.Spelling.{lex_text}
@@ -31,7 +32,6 @@ use Rattle.sx_outline.specs.Fitting.{IsConstructor, IsKnownSort, IsMainOf, IsPla
 use Rattle.sx_outline.specs.Fitting.{Kid, NamesFit, SymbolFits, declared_form_names, parts_of_symbols}
 use Rattle.sx_outline.specs.Fitting.{production_named, sort_named, declared_sort_names, sorts_at, stems}
 use Rattle.sx_outline.specs.Fitting.{var_named}
-use Rattle.sx_outline.specs.Variables.{stem_of}
 use Rattle.sx_outline.specs.MainSorts.{AreConstructors, AreMainSorts, IsOneName}
 use Rattle.sx_outline.proofs.PlaceLaws.{at, first_at, found_in, none_in, number_found, find_place, find_nothing, position_is}
 
@@ -234,13 +234,13 @@ some_var a b e = cc
 none_var : (a : VarLine) → None ≡ Some a → ⊥
 none_var a e = cc
 
-pub variable_is : (d : Declared) (name sort : List ℕ) (v : VarLine) (b : Bool) → var_named d (stem_of name) ≡ Some v → IsTrue b ↔ (v.sort ≡ sort) → IsTrue b ↔ IsVariableOf d name sort
+pub variable_is : (d : Declared) (name sort : List ℕ) (v : VarLine) (b : Bool) → var_named d (without_digits name) ≡ Some v → IsTrue b ↔ (v.sort ≡ sort) → IsTrue b ↔ IsVariableOf d name sort
 variable_is d name sort v b found h =
     ((λ t. (v, found, h.0 t)), λ k. h.1 (ap (λ (x : VarLine). x.sort) (some_var v k.0 (sym found ∙ k.1)) ∙ k.2))
 
-pub variable_none : (d : Declared) (name sort : List ℕ) (b : Bool) → first_at (stem_of name) (stems d) ≡ None → b ≡ false → IsTrue b ↔ IsVariableOf d name sort
+pub variable_none : (d : Declared) (name sort : List ℕ) (b : Bool) → first_at (without_digits name) (stems d) ≡ None → b ≡ false → IsTrue b ↔ IsVariableOf d name sort
 variable_none d name sort b e f =
-    ((λ t. absurd (false≢true (sym f ∙ t))), λ k. absurd (none_var k.0 (sym (find_nothing (λ (x : VarLine). x.stem) d.vars (stem_of name) e) ∙ k.1)))
+    ((λ t. absurd (false≢true (sym f ∙ t))), λ k. absurd (none_var k.0 (sym (find_nothing (λ (x : VarLine). x.stem) d.vars (without_digits name) e) ∙ k.1)))
 
 -- ---- the names of parts
 

@@ -7,6 +7,7 @@ use Rattle.std.proofs.lemmas.Bool.{false≢true}
 use Rattle.std.proofs.lemmas.List.Folds.{find-append}
 use Rattle.sx_lines.specs.Lines.{Lines, over, line}
 use Rattle.sx_grammar.specs.Parts.{Line, line as prod_line}
+use Rattle.sx_grammar.specs.Stems.{without_digits}
 use Rattle.sx_grammar.specs.declared.sort_line.SortLine.{SortLine}
 use Rattle.sx_directives.specs.declared.file_kind.FileKind.TheVariants as files
 use Rattle.sx_directives.specs.Rows.{IsRow}
@@ -19,7 +20,6 @@ use Rattle.sx_outline.specs.Declarations.{Declared, declare}
 use Rattle.sx_outline.specs.Known.{Declares, RowGoesOn}
 use Rattle.sx_outline.specs.Fitting.{Kid, kid_sort, parts_of_symbols, IsKnownSort, IsPlain, IsVariableOf}
 use Rattle.sx_outline.specs.Fitting.{NamesFit, ArePartNames, RowFits}
-use Rattle.sx_outline.specs.Variables.{stem_of}
 use Rattle.sx_outline.specs.Stages.{Numbered, PlainData, RuleData, Stage, at_start, at_declarations}
 use Rattle.sx_outline.specs.Stages.{at_body, at_plains, at_rules, at_premises, at_conclusion}
 use Rattle.sx_outline.specs.Stages.{at_end, State, StepsAt, MayStandAt, state_after_row}
@@ -161,7 +161,7 @@ found_more p xs ys x h = find-append p xs ys ∙ rw h refl
 
 variable_more : (d e : Declared) (name sort : List ℕ) → Grows d e → IsVariableOf d name sort → IsVariableOf e name sort
 variable_more d e name sort g h =
-    (h.0, ap (λ (x : List VarLine). find (λ v. bytes_eq v.stem (stem_of name)) x) g.vars_are ∙ found_more (λ v. bytes_eq v.stem (stem_of name)) d.vars g.vars h.0 h.1, h.2)
+    (h.0, ap (λ (x : List VarLine). find (λ v. bytes_eq v.stem (without_digits name)) x) g.vars_are ∙ found_more (λ v. bytes_eq v.stem (without_digits name)) d.vars g.vars h.0 h.1, h.2)
 
 names_more : (d e : Declared) (names : List (List ℕ)) (kids : List Kid) → Grows d e → NamesFit d names kids → NamesFit e names kids
 names_more d e [] [] g h = tt

@@ -9,6 +9,7 @@ use Rattle.sx_term.specs.declared.role.Role.{Role}
 use Rattle.sx_term.specs.declared.role.Role.TheVariants.{In, Sub, Out}
 use Rattle.sx_term.specs.Roles.{is_sub}
 use Rattle.sx_grammar.specs.Parts.{Line, number_of, labels}
+use Rattle.sx_grammar.specs.Stems.{without_digits}
 use Rattle.sx_grammar.specs.declared.symbol.Symbol.{Symbol}
 use Rattle.sx_grammar.specs.declared.symbol.Symbol.TheVariants.{Lit, Lex, Part}
 use Rattle.sx_grammar.specs.declared.sort_line.SortLine.{SortLine}
@@ -23,7 +24,6 @@ use Rattle.sx_directives.specs.declared.rows.VarLine.{VarLine}
 use Rattle.sx_directives.specs.declared.row.Row.TheVariants.{Var, Form, Use, Plain}
 use Rattle.sx_outline.specs.declared.main_form.MainForm.{MainForm}
 use Rattle.sx_outline.specs.Declarations.{Declared, DeclaredForm, declared_parts}
-use Rattle.sx_outline.specs.Variables.{stem_of}
 use Rattle.sx_lines.specs.Distinct.{AreTextsDistinct}
 
 -- the names of the sorts
@@ -104,7 +104,7 @@ var_named d stem = find (λ v. bytes_eq v.stem stem) d.vars
 
 -- the name, without the digits at its end, is a stem of this sort
 abbrev pub IsVariableOf : Declared → List ℕ → List ℕ → Type 0
-IsVariableOf d name sort = (v : VarLine) × (var_named d (stem_of name) ≡ Some v) × (v.sort ≡ sort)
+IsVariableOf d name sort = (v : VarLine) × (var_named d (without_digits name) ≡ Some v) × (v.sort ≡ sort)
 
 -- there are as many names as parts, and each is that of a variable of its part's sort
 abbrev pub NamesFit : Declared → List (List ℕ) → List Kid → Type 0

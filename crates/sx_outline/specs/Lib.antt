@@ -1,6 +1,5 @@
 pub mod Declarations
 pub mod Known
-pub mod Variables
 pub mod Fitting
 pub mod MainSorts
 pub mod Tables
