@@ -11,7 +11,8 @@ use Rattle.sx_grammar.specs.Grammar.{Text}
 use Rattle.sx_grammar.specs.Made.{IsGrammar}
 use Rattle.sx_grammar.specs.Parts.{Parts}
 use Rattle.sx_grammar.specs.Told.{shapes_of}
-use Rattle.sx_earley.specs.Tokens.{Stems, stem_sort, without_digits}
+use Rattle.sx_grammar.specs.Stems.{without_digits}
+use Rattle.sx_earley.specs.Tokens.{Stems, stem_sort}
 use Rattle.sx_rules.specs.Deep.{AreShallow, RulesAreShallow}
 use Rattle.sx_rules.specs.Good.{IsAmong, AllGood}
 use Rattle.sx_rules.specs.Sets.{shapes_in, forms_in, rules_in}

@@ -21,12 +21,12 @@ use Rattle.sx_grammar.specs.Parts.{numbered_line, symbol_sorts, sorts_named}
 use Rattle.sx_grammar.specs.Made.{IsGrammar}
 use Rattle.sx_grammar.specs.Told.{is_typed, sort_with, kid_sorts, shape_of, shapes_of}
 use Rattle.sx_grammar.proofs.Finding.{at_contains, is_head, past_head, in_flat_map}
-use Rattle.sx_earley.specs.Tokens.{Stems, stem_sort, kept_unless_digit, without_digits}
+use Rattle.sx_grammar.specs.Stems.{without_digits}
+use Rattle.sx_earley.specs.Tokens.{Stems, stem_sort}
 use Rattle.sx_directives.specs.Spelling.{lex_text}
 use Rattle.sx_directives.specs.declared.rows.FormLine.{FormLine}
 use Rattle.sx_directives.specs.declared.rows.VarLine.{VarLine}
 use Rattle.sx_outline.specs.Declarations.{Declared}
-use Rattle.sx_outline.specs.Variables.{kept_byte, stem_of}
 use Rattle.sx_outline.specs.Fitting.{parts_of_symbols, IsVariableOf, NamesFit, IsPlain, ArePartNames}
 use Rattle.sx_outline.specs.Stages.{PlainData}
 use Rattle.sx_notation.specs.ReadText.{ReaderData, IsReadLine}
@@ -45,14 +45,6 @@ use Rattle.sx_extension.proofs.OwnShapes.{IsBelow, sort_below, number_below, sor
 use Rattle.sx_extension.proofs.Grounding.{sort_read}
 
 -- ---- stems
-
-same_kept : (c : ℕ) (cs : Text) → kept_unless_digit c cs ≡ kept_byte c cs
-same_kept c [] = refl
-same_kept c (d ∷ ds) = refl
-
-same_stem : (text : Text) → without_digits text ≡ stem_of text
-same_stem [] = refl
-same_stem (c ∷ cs) = ap (kept_unless_digit c) (same_stem cs) ∙ same_kept c (stem_of cs)
 
 -- the sort of the first stem that is this one
 found_sort : (p : Parts) (vs : List VarLine) (ss : Stems) (stem : Text) (v : VarLine) → AreStems p vs ss → find (λ w. bytes_eq w.stem stem) vs ≡ Some v → (s : Sort) × (stem_sort ss stem ≡ Some s) × IsSortNamed p v.sort s
@@ -93,8 +85,8 @@ module _ (p : Parts) (is : IsGrammar p) (d : Declared) (stems : Stems) (are : Ar
 
   var_sort : (name sort : Text) → IsVariableOf d name sort → (s : Sort) × (f name ≡ Some s) × IsSortNamed p sort s
   var_sort name sort h =
-      let x = found_sort p d.vars stems (stem_of name) h.0 are h.1 in
-      (x.0, ap (stem_sort stems) (same_stem name) ∙ x.1, subst (λ (n : Text). IsSortNamed p n x.0) h.2 x.2)
+      let x = found_sort p d.vars stems (without_digits name) h.0 are h.1 in
+      (x.0, x.1, subst (λ (n : Text). IsSortNamed p n x.0) h.2 x.2)
 
   kind_sort : (name : Text) (kind : LexKind) → IsVariableOf d name (lex_text kind) → f name ≡ Some (TheSort.Lex kind)
   kind_sort name kind h = let x = var_sort name (lex_text kind) h in x.1 ∙ by x.0 x.2

@@ -4,7 +4,8 @@ use Rattle.std.specs.Prelude.{is_some, true}
 use Rattle.std.proofs.lemmas.List.{map-append}
 use Rattle.sx_term.specs.declared.sort.Sort.{Sort}
 use Rattle.sx_grammar.specs.Grammar.{Text}
-use Rattle.sx_earley.specs.Tokens.{Stems, stem_sort, without_digits}
+use Rattle.sx_grammar.specs.Stems.{without_digits}
+use Rattle.sx_earley.specs.Tokens.{Stems, stem_sort}
 use Rattle.sx_language.specs.RuleTexts.{NamesHaveStems, HaveStemSorts}
 use Rattle.sx_notation.proofs.Copied.{take_end}
 

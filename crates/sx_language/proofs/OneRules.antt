@@ -4,7 +4,8 @@ use Rattle.sx_term.specs.declared.sort.Sort.{Sort}
 use Rattle.sx_term.specs.Tree.{Tree}
 use Rattle.sx_grammar.specs.Grammar.{Text}
 use Rattle.sx_grammar.proofs.Finding.{is_head, past_head}
-use Rattle.sx_earley.specs.Tokens.{stem_sort, without_digits}
+use Rattle.sx_grammar.specs.Stems.{without_digits}
+use Rattle.sx_earley.specs.Tokens.{stem_sort}
 use Rattle.sx_rules.specs.Rules.{Premise, Judgement, holds, apart}
 use Rattle.sx_rules.specs.Views.{NamedRule}
 use Rattle.sx_outline.specs.Stages.{Numbered, RuleData}

@@ -24,8 +24,9 @@ use Rattle.sx_grammar.specs.Reading.{by_brackets, by_variable, all_read, by_lite
 use Rattle.sx_grammar.specs.Reading.{by_lexical_variable, by_part}
 use Rattle.sx_grammar.specs.Print.{leaf_term, variable_term, term_of, terms_of}
 use Rattle.sx_grammar.proofs.Finding.{at_contains, named_at}
+use Rattle.sx_grammar.specs.Stems.{without_digits}
 use Rattle.sx_earley.specs.Completed.{IsSort, sort_number}
-use Rattle.sx_earley.specs.Tokens.{Stems, stem_sort, without_digits, meta_stem, as_stem, found_stem}
+use Rattle.sx_earley.specs.Tokens.{Stems, stem_sort, meta_stem, as_stem, found_stem}
 use Rattle.sx_earley.specs.Tokens.{read_token, plain_tokens}
 use Rattle.sx_forest.specs.Text.{token_texts}
 use Rattle.sx_forest.specs.Names.{reading_names, names_of_kids, AddsEach}

@@ -9,7 +9,8 @@ use Rattle.sx_token.specs.declared.token.Token.{Token}
 use Rattle.sx_grammar.specs.Grammar.{Text}
 use Rattle.sx_grammar.specs.Parts.{Parts}
 use Rattle.sx_grammar.specs.Reading.{Reading, Readings, branch, bracket, leaf, variable, done, ◌▸◌}
-use Rattle.sx_earley.specs.Tokens.{Stems, stem_sort, without_digits}
+use Rattle.sx_grammar.specs.Stems.{without_digits}
+use Rattle.sx_earley.specs.Tokens.{Stems, stem_sort}
 use Rattle.sx_earley.specs.Unknown.{HasKnownStem}
 use Rattle.sx_forest.specs.Text.{token_texts}
 use Rattle.sx_forest.specs.Names.{IsMetavariable, IsMarked, AreMarked, reading_names, names_of_kids, AddsEach}

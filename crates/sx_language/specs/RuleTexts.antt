@@ -5,7 +5,8 @@ use Rattle.std.specs.List.{AllByRecursion}
 use Rattle.sx_term.specs.declared.sort.Sort.{Sort}
 use Rattle.sx_term.specs.Tree.{Tree}
 use Rattle.sx_grammar.specs.Grammar.{Text}
-use Rattle.sx_earley.specs.Tokens.{Stems, stem_sort, without_digits}
+use Rattle.sx_grammar.specs.Stems.{without_digits}
+use Rattle.sx_earley.specs.Tokens.{Stems, stem_sort}
 use Rattle.sx_rules.specs.Rules.{Judgement, Premise, holds, apart}
 use Rattle.sx_rules.specs.Views.{NamedRule}
 use Rattle.sx_lines.specs.declared.kind.Kind.TheVariants.{Shape}

@@ -1,5 +1,6 @@
 use Rattle.std.proofs.Common.{◌∙◌, sym, ap}
-use Rattle.sx_earley.specs.Tokens.{stem_sort, without_digits}
+use Rattle.sx_grammar.specs.Stems.{without_digits}
+use Rattle.sx_earley.specs.Tokens.{stem_sort}
 use Rattle.sx_language.proofs.NamedSorts.{one_named, all_named}
 use Rattle.sx_language.proofs.stem_sorts.sorts_of.Goals as goal
 
