@@ -57,21 +57,25 @@ here_is fs known n d f ps ins terms os here same found at is inputs holds =
     let lt : n < length fs = let h = slice_get_within known n d found in let e = as_many_forms fs known same in omega (arith, h, e) in
     holds ∙ (λ i. contents (modes_here fs known n f ps same lt at (is ∙ ap (λ x. x.places.items) (sym at)) i) (inputs i) os)
 
+-- what stands at the places of the goal's form
+abbrev pub contents_of : List FormData → Goal → Option (List Tree) → List (Option Tree)
+contents_of known goal got = contents (modes_of known goal.form) goal.terms (unwrap_or got [])
+
 module _ (p : Parts) (known : List FormData) (goal : Goal) (m : ℕ) (q : NumberedProduction) (ss : List NumberedSymbol) (many : m ≡ length known)
     (same : slice_get (numbered p).productions (form_label (length p.productions) m goal.form) ≡ Some (production (literals_of p) q)) (symbols : ss ≡ q.symbols.items) where
   found : slice_get (numbered p).productions (form_label (length p.productions) (length known) goal.form) ≡ Some (production (literals_of p) q)
   found = ap (λ n. slice_get (numbered p).productions (form_label (length p.productions) n goal.form)) (sym many) ∙ same
 
   -- the tokens of the symbols and contents are those of the goal
-  pub row_is : (names : List Text) (got : Option (List Tree)) (here : List (Option Tree)) → here ≡ contents (modes_of known goal.form) goal.terms (unwrap_or got [])
+  pub row_is : (names : List Text) (got : Option (List Tree)) (here : List (Option Tree)) → here ≡ contents_of known goal got
       → print_symbols (map (symbol (literals_of p)) ss) (map (printer (numbered p) names) here) ≡ goal_tokens p names known goal got
   row_is names got here is =
       (λ i. print_symbols (map (symbol (literals_of p)) (symbols i)) (map (printer (numbered p) names) (is i)))
-      ∙ ap (λ r. print_symbols (production_symbols r) (map (printer (numbered p) names) (contents (modes_of known goal.form) goal.terms (unwrap_or got [])))) (sym found)
+      ∙ ap (λ r. print_symbols (production_symbols r) (map (printer (numbered p) names) (contents_of known goal got))) (sym found)
 
   -- as many parts as contents
   pub as_many : (variables : ℕ) (got : Option (List Tree)) (here : List (Option (Bor Term))) → HasForms p known → GoalFits (numbered p) variables known goal got
-      → map shown_term here ≡ contents (modes_of known goal.form) goal.terms (unwrap_or got []) → parts_in (map (symbol (literals_of p)) ss) ≡ length here
+      → map shown_term here ≡ contents_of known goal got → parts_in (map (symbol (literals_of p)) ss) ≡ length here
   as_many variables got here has fits is =
       let at = has.each goal.form fits.form fits.is in
       let one : Some at.0 ≡ Some (production (literals_of p) q) = sym at.1 ∙ found in
@@ -113,7 +117,7 @@ contents_puttable g variables (true ∷ outs) ins os h k = (first_built g variab
 
 -- what stands at the places of a goal that fits can be put
 pub puttable : (g : Grammar) (variables : ℕ) (known : List FormData) (goal : Goal) (got : Option (List Tree)) (here : List (Option (Bor Term))) → GoalFits g variables known goal got → AreShallow goal.terms → AreShallow (unwrap_or got [])
-    → map shown_term here ≡ contents (modes_of known goal.form) goal.terms (unwrap_or got []) → ArePuttable g variables (map shown_term here)
+    → map shown_term here ≡ contents_of known goal got → ArePuttable g variables (map shown_term here)
 puttable g variables known goal got here fits shallow outputs is =
     subst (ArePuttable g variables) (sym is) (contents_puttable g variables (modes_of known goal.form) goal.terms (unwrap_or got [])
     (fits_built g variables fits.stems fits.named _ goal.terms fits.inputs_fit shallow)
