@@ -23,13 +23,13 @@ use Rattle.sx_derive.proofs.Stored.{more_envs}
 
 module _ (modes : Modes) (rules : List Rule) (old mid new : Store) (m : Mark) (h : IsStore modes rules old) (k : IsMark old m) (g : StoreGrows modes rules old mid) where
   -- with the same chains, and the same terms or more
-  same_chains : IsArena new.arena → Extends (store_trees old) (store_trees new) → new.binds.cells.items ≡ old.binds.cells.items → new.kids.items ≡ old.kids.items → new.frames.items ≡ old.frames.items → StoreGrows modes rules old new
-  same_chains a x b c f =
+  same_chains : IsArena new.arena → Extends (store_trees old) (store_trees new) → new.binds.cells.items ≡ old.binds.cells.items → new.kids.items ≡ old.kids.items → new.frames.items ≡ old.frames.items → new.until ≡ old.until → StoreGrows modes rules old new
+  same_chains a x b c f u =
       let ts = store_trees new in
       let st = envs_stay (store_trees old) ts x old.binds h.binds in
       let e : store_envs new ≡ store_envs old = ap (λ (cs : List Bind). grown_from (bind_step ts) [] cs) b ∙ st.0 in
       more_envs modes rules old new h a (subst (λ (cs : List Bind). CellsFit (bind_step ts) (BindFits ts) [] cs) (sym b) st.1) x
-      (extends-is (store_envs old) (store_envs new) e) (extends-is old.binds.cells.items new.binds.cells.items b) c f
+      (extends-is (store_envs old) (store_envs new) e) (extends-is old.binds.cells.items new.binds.cells.items b) c f u
 
   -- the chains are cut back, and the terms stay
   pub chains_cut_grows : IsChainsCut m mid new → StoreGrows modes rules old new
@@ -39,6 +39,7 @@ module _ (modes : Modes) (rules : List Rule) (old mid new : Store) (m : Mark) (h
       (c.binds ∙ take_extended old.binds.cells.items mid.binds.cells.items m.binds k.binds g.bind_cells)
       (c.kids ∙ take_extended old.kids.items mid.kids.items m.kids k.kids g.kid_cells)
       (c.frames ∙ take_extended old.frames.items mid.frames.items m.frames k.frames g.frame_cells)
+      (c.until ∙ g.until)
 
   -- terms and chains are cut back
   pub cut_grows : IsStoreCut m mid new → StoreGrows modes rules old new
@@ -48,6 +49,7 @@ module _ (modes : Modes) (rules : List Rule) (old mid new : Store) (m : Mark) (h
       (c.binds ∙ take_extended old.binds.cells.items mid.binds.cells.items m.binds k.binds g.bind_cells)
       (c.kids ∙ take_extended old.kids.items mid.kids.items m.kids k.kids g.kid_cells)
       (c.frames ∙ take_extended old.frames.items mid.frames.items m.frames k.frames g.frame_cells)
+      (c.until ∙ g.until)
 
 -- a try that gives nothing needs nothing that it made
 pub next_cut : (modes : Modes) (rules : List Rule) (pairs : List Pair) (js : List Judgement) (old mid new : Store) (t : TaskOf) (step : Step) → step ≡ Nothing →

@@ -1,5 +1,5 @@
 -- The first candidate of a goal, and where it leads.
-use Rattle.std.proofs.Common.{◌≡◌, ◌≢◌, ℕ, zero, suc, ◌+◌, ◌<◌, ◌≤◌, Bool, List, [], ◌∷◌, ◌++◌, ◌⊎◌, inl, inr, map, drop, length, Option, Some, None, Vec, refl, sym, ap, ◌∙◌, arith, subst}
+use Rattle.std.proofs.Common.{◌≡◌, ◌≢◌, ℕ, zero, suc, ◌+◌, ◌<◌, ◌≤◌, List, [], ◌∷◌, ◌++◌, ◌⊎◌, inl, inr, map, drop, length, Option, Some, None, Vec, refl, sym, ap, ◌∙◌, arith, subst}
 use Rattle.std.specs.Prelude.{slice_get, nat_eq, Result, Ok, Err, IfOk, OnOk}
 use Rattle.std.specs.declared.alloc.Global.{Global}
 use Rattle.std.proofs.lemmas.Bool.{cases_lt}
@@ -15,12 +15,14 @@ use Rattle.sx_arena.proofs.Arenas.{distinct, below_more, maps_same}
 use Rattle.sx_arena.proofs.Growing.{extends-length}
 use Rattle.sx_derive.specs.Candidates.{goal_in}
 use Rattle.sx_derive.specs.Descents.{AreHyps, spot_goal, PremisesLead, RulesLead, IsDescent}
-use Rattle.sx_derive.specs.Descents.{IsFirstRule, HasInputs, IsFirstFact}
-use Rattle.sx_derive.specs.Quiet.{IsSilent}
+use Rattle.sx_derive.specs.Descents.{PremisesFailAlong, RulesFailAlong, IsFirstRule, HasInputs}
+use Rattle.sx_derive.specs.Descents.{IsFirstFact}
+use Rattle.sx_derive.specs.Failing.{FailsAlong, PremisesFail, RulesFail}
+use Rattle.sx_derive.specs.Quiet.{IsQuiet}
 use Rattle.sx_derive.specs.Store.{IsStore, StoreGrows, store_trees, store_envs}
 use Rattle.sx_derive.specs.Stuck.{no_rule, mismatch, Blame, rule_match, PremisesStuck, RulesStuck}
 use Rattle.sx_derive.specs.Stuck.{GivensStuck, IsStuck}
-use Rattle.sx_derive.specs.Walk.{Event, Answer, premise_events, after_match, rule_events}
+use Rattle.sx_derive.specs.Walk.{Event, Answer, premise_events, conclude, after_match, rule_events}
 use Rattle.sx_derive.specs.Walk.{rules_events, given_events, goal_events}
 use Rattle.sx_derive.specs.declared.descent.Descent.{Descent}
 use Rattle.sx_derive.specs.declared.descent.Descent.TheVariants.{Stuck, Below}
@@ -28,7 +30,7 @@ use Rattle.sx_derive.specs.declared.descent.Reason.TheVariants.{NoRule, Mismatch
 use Rattle.sx_derive.specs.declared.descent.Spot.{Spot}
 use Rattle.sx_derive.specs.declared.store.Store.{Store}
 use Rattle.sx_derive.proofs.Descended.{spot_stays, hyps_stay}
-use Rattle.sx_derive.proofs.Silent.{silent_left, silent_right, silent_try, silent_conclude, silent_rule}
+use Rattle.sx_derive.proofs.Quiet.{quiet_left, quiet_right, quiet_each, quiet_try, quiet_rule}
 use Rattle.sx_derive.proofs.Stored.{grows_same, grows_then, grows_binds}
 use Rattle.sx_derive.proofs.Tried.{terms_same}
 
@@ -108,7 +110,7 @@ module _ (modes : Modes) (rules : List Rule) (form : ℕ) (terms : List ℕ) (ol
     pub rules_end : length rules ≤ number → IsFirstRule modes mid sought 0 rules None
     rules_end l = h.leads mid None (subst (λ (rs : List Rule). IsFirstRule modes mid sought number rs None) (sym (drop_past rules number l)) refl)
 
-module _ (modes subjects : Modes) (rules : List Rule) (hyps : Hypotheses) (known : Bool) (budget levels : ℕ) (s : Store) (goal : Goal) (path : List ℕ) where
+module _ (modes subjects : Modes) (rules : List Rule) (hyps : Hypotheses) (budget levels : ℕ) (s : Store) (goal : Goal) (path : List ℕ) where
   abbrev Under : Goal → List ℕ → Blame → Type 0
   Under g p blame = IsStuck modes subjects rules hyps levels g p blame
 
@@ -133,7 +135,9 @@ module _ (modes subjects : Modes) (rules : List Rule) (hyps : Hypotheses) (known
     pub number_is : number ≡ r + place
     pub found : slice_get rs place ≡ Some rule
     pub within : env ≤ length s.binds.cells.items
-    pub quiet : IsSilent known budget (rules_events modes hyps below_events r rs goal) → IsSilent known budget (premise_events modes hyps below_events rule.premises (env_at (store_envs s) env))
+    pub quiet : IsQuiet budget (rules_events modes hyps below_events r rs goal) → IsQuiet budget (premise_events modes hyps below_events rule.premises (env_at (store_envs s) env))
+    pub fails : (k : ℕ) (ks : List ℕ) → RulesFail modes rules hyps (FailsAlong modes rules hyps levels) (goal_events modes rules hyps levels) k ks rs goal →
+        PremisesFail modes rules hyps (FailsAlong modes rules hyps levels) (goal_events modes rules hyps levels) 0 k ks rule.premises (env_at (store_envs s) env)
     pub leads : (blame : Blame) → PremisesStuck modes subjects rules hyps Under number rule goal path 0 rule.premises (env_at (store_envs s) env) blame → RulesStuck modes subjects rules hyps Under r rs goal path blame
 
   pub rule_leads : (r : ℕ) (rs : List Rule) (number env : ℕ) → IsFirstRule modes s goal r rs (Some (number, env)) → RuleLeads r rs number env
@@ -152,10 +156,11 @@ module _ (modes subjects : Modes) (rules : List Rule) (hyps : Hypotheses) (known
             number_is = (omega arith);
             found = refl;
             within = (let l = x.2 in omega arith);
-            quiet = λ h. silent_conclude known budget modes r rule (premise_events modes hyps below_events rule.premises (env_at (store_envs s) env))
-                (silent_rule known budget (nat_eq rule.conclusion.form goal.form) (match_all (inputs_of modes rule.conclusion) goal.terms nothing_bound) (after_match modes hyps below_events r rule) (env_at (store_envs s) env) m
-                (silent_left known budget (rule_events modes hyps below_events r rule goal) (rules_events modes hyps below_events (suc r) rs goal)
-                (silent_try known budget (rule_events modes hyps below_events r rule goal ++ rules_events modes hyps below_events (suc r) rs goal) h)));
+            quiet = λ h. quiet_each budget (conclude modes r rule) (premise_events modes hyps below_events rule.premises (env_at (store_envs s) env))
+                (quiet_rule budget (nat_eq rule.conclusion.form goal.form) (match_all (inputs_of modes rule.conclusion) goal.terms nothing_bound) (after_match modes hyps below_events r rule) (env_at (store_envs s) env) m
+                (quiet_left budget (rule_events modes hyps below_events r rule goal) (rules_events modes hyps below_events (suc r) rs goal)
+                (quiet_try budget (rule_events modes hyps below_events r rule goal ++ rules_events modes hyps below_events (suc r) rs goal) h)));
+            fails = λ k ks h. h.0 (env_at (store_envs s) env) m;
             leads = λ blame h. inl (env_at (store_envs s) env, m, subst (λ (n : ℕ). PremisesStuck modes subjects rules hyps Under n rule goal path 0 rule.premises (env_at (store_envs s) env) blame) same_number h);
           }
       go (inr x) rec =
@@ -166,8 +171,9 @@ module _ (modes subjects : Modes) (rules : List Rule) (hyps : Hypotheses) (known
             number_is = (let e = w.number_is in omega arith);
             found = w.found;
             within = w.within;
-            quiet = λ h. w.quiet (silent_right known budget (rule_events modes hyps below_events r rule goal) (rules_events modes hyps below_events (suc r) rs goal)
-                (silent_try known budget (rule_events modes hyps below_events r rule goal ++ rules_events modes hyps below_events (suc r) rs goal) h));
+            quiet = λ h. w.quiet (quiet_right budget (rule_events modes hyps below_events r rule goal) (rules_events modes hyps below_events (suc r) rs goal)
+                (quiet_try budget (rule_events modes hyps below_events r rule goal ++ rules_events modes hyps below_events (suc r) rs goal) h));
+            fails = λ k ks h. w.fails k ks (h.1 x.0);
             leads = λ blame h. inr (x.0, w.leads blame h);
           }
 
@@ -216,22 +222,22 @@ module _ (modes subjects : Modes) (rules : List Rule) (hyps : Hypotheses) (s : S
       go (inr y) rec = inr (fact_differs j g a.0 y.0, rec y.1)
 
 -- a descent that leads to fewer leads to more
-pub descent_weaker : (modes subjects : Modes) (rules : List Rule) (hyps : Hypotheses) (budget levels : ℕ) (s : Store) (P Q : Blame → Type 0) → ((blame : Blame) → P blame → Q blame) → (d : Descent) →
-    IsDescent modes subjects rules hyps budget levels s P d → IsDescent modes subjects rules hyps budget levels s Q d
-descent_weaker modes subjects rules hyps budget levels s P Q w (Stuck spot reason) x = (x.0, x.1, w _ x.2)
-descent_weaker modes subjects rules hyps budget levels s P Q w (Below spot) x = (x.0, x.1, x.2, λ blame h. w blame (x.3 blame h))
+pub descent_weaker : (modes subjects : Modes) (rules : List Rule) (hyps : Hypotheses) (budget levels : ℕ) (s : Store) (notes : List ℕ) (P Q : Blame → Type 0) → ((blame : Blame) → P blame → Q blame) → (d : Descent) →
+    IsDescent modes subjects rules hyps budget levels s notes P d → IsDescent modes subjects rules hyps budget levels s notes Q d
+descent_weaker modes subjects rules hyps budget levels s notes P Q w (Stuck spot reason) x = (x.0, x.1, w _ x.2)
+descent_weaker modes subjects rules hyps budget levels s notes P Q w (Below spot) x = (x.0, x.1, x.2, x.3, λ blame h. w blame (x.4 blame h))
 
 -- the events of the rules of a goal are quiet
-pub quiet_rules : (modes : Modes) (rules : List Rule) (hyps : Hypotheses) (known : Bool) (budget levels : ℕ) (goal : Goal) → IsSilent known budget (goal_events modes rules hyps (suc levels) goal) → IsSilent known budget (rules_events modes hyps (goal_events modes rules hyps levels) 0 rules goal)
+pub quiet_rules : (modes : Modes) (rules : List Rule) (hyps : Hypotheses) (budget levels : ℕ) (goal : Goal) → IsQuiet budget (goal_events modes rules hyps (suc levels) goal) → IsQuiet budget (rules_events modes hyps (goal_events modes rules hyps levels) 0 rules goal)
 unfolding goal_events
-quiet_rules modes rules hyps known budget levels goal q = silent_right known budget (given_events modes 0 hyps.judgements goal) (rules_events modes hyps (goal_events modes rules hyps levels) 0 rules goal) q
+quiet_rules modes rules hyps budget levels goal q = quiet_right budget (given_events modes 0 hyps.judgements goal) (rules_events modes hyps (goal_events modes rules hyps levels) 0 rules goal) q
 
 -- a goal is stuck at a hypothesis, or where the rules lead
 module _ (modes subjects : Modes) (rules : List Rule) (hyps : Hypotheses) (levels : ℕ) (s : Store) (facts : List Fact) (pairs : List Pair) (spot : Spot) (h : IsStore modes rules s) (are : AreHyps modes s facts pairs hyps) (below : AreBelow (length (store_trees s)) spot.terms.items) where
-  pub stuck_at_fact : (budget : ℕ) (f : Fact) (got : Vec ℕ Global) → IsFirstFact spot.form spot.terms.items facts (Some f) → got.items ≡ f.outputs.items →
-      IsDescent modes subjects rules hyps budget levels s (IsStuck modes subjects rules hyps (suc levels) (spot_goal s spot) spot.path.items) (Stuck spot (Mismatch None got))
+  pub stuck_at_fact : (budget : ℕ) (notes : List ℕ) (f : Fact) (got : Vec ℕ Global) → IsFirstFact spot.form spot.terms.items facts (Some f) → got.items ≡ f.outputs.items →
+      IsDescent modes subjects rules hyps budget levels s notes (IsStuck modes subjects rules hyps (suc levels) (spot_goal s spot) spot.path.items) (Stuck spot (Mismatch None got))
   unfolding IsStuck
-  stuck_at_fact budget f got x e =
+  stuck_at_fact budget notes f got x e =
       let w = λ (AmongRules : Type 0). fact_leads modes subjects rules hyps s spot.form spot.terms.items spot.path.items h below AmongRules hyps.judgements facts f are.facts_are x in
       let b : Blame = record { goal = spot_goal s spot; path = spot.path.items; reason = mismatch None (map (tree_at (store_trees s)) got.items) } in
       let c : Blame = record { goal = spot_goal s spot; path = spot.path.items; reason = mismatch None (map (tree_at (store_trees s)) f.outputs.items) } in
@@ -249,26 +255,26 @@ module _ (modes subjects : Modes) (rules : List Rule) (hyps : Hypotheses) (level
       no_fact_leads modes subjects rules hyps s spot.form spot.terms.items spot.path.items h below (RulesStuck modes subjects rules hyps (IsStuck modes subjects rules hyps levels) 0 rules (spot_goal s spot) spot.path.items blame) hyps.judgements facts blame are.facts_are x r
 
 -- more bindings
-pub fit_grows : {A E : Type 0} (modes : Modes) (rules : List Rule) (s t : Store) → IsStore modes rules s → t.arena ≡ s.arena → t.kids.items ≡ s.kids.items → t.frames.items ≡ s.frames.items →
+pub fit_grows : {A E : Type 0} (modes : Modes) (rules : List Rule) (s t : Store) → IsStore modes rules s → t.arena ≡ s.arena → t.kids.items ≡ s.kids.items → t.frames.items ≡ s.frames.items → t.until ≡ s.until →
     (r : Result A E) → OnOk r (BindsGrow (trees s.arena) s.binds t.binds) → IfOk r (λ x. StoreGrows modes rules s t)
-fit_grows modes rules s t h a k f (Ok x) g = grows_binds modes rules s t h g a k f
-fit_grows modes rules s t h a k f (Err e) g = tt
+fit_grows modes rules s t h a k f u (Ok x) g = grows_binds modes rules s t h g a k f u
+fit_grows modes rules s t h a k f u (Err e) g = tt
 
 -- what is known after the first rule was sought
-module _ (modes subjects : Modes) (rules : List Rule) (hyps : Hypotheses) (known : Bool) (budget levels : ℕ) (old new : Store) (facts : List Fact) (pairs : List Pair) (spot : Spot) (are : AreHyps modes old facts pairs hyps) (below : AreBelow (length (store_trees old)) spot.terms.items) (g : StoreGrows modes rules old new) where
-  pub sought_none : IsFirstRule modes new (spot_goal old spot) 0 rules None → IsDescent modes subjects rules hyps budget levels new (RulesLead modes subjects rules hyps budget levels (spot_goal old spot) spot.path.items) (Stuck spot NoRule)
-  sought_none f =
+module _ (modes subjects : Modes) (rules : List Rule) (hyps : Hypotheses) (budget levels : ℕ) (old new : Store) (facts : List Fact) (pairs : List Pair) (spot : Spot) (are : AreHyps modes old facts pairs hyps) (below : AreBelow (length (store_trees old)) spot.terms.items) (g : StoreGrows modes rules old new) where
+  pub sought_none : (notes : List ℕ) → IsFirstRule modes new (spot_goal old spot) 0 rules None → IsDescent modes subjects rules hyps budget levels new notes (RulesLead modes subjects rules hyps budget levels (spot_goal old spot) spot.path.items) (Stuck spot NoRule)
+  sought_none notes f =
       let s = spot_stays modes rules old new spot g below in (
         s.0,
         tt,
         subst (λ (q : Goal). RulesLead modes subjects rules hyps budget levels (spot_goal old spot) spot.path.items (record { goal = q; path = spot.path.items; reason = no_rule })) (sym s.1)
-            (none_leads modes subjects rules hyps known budget levels new (spot_goal old spot) spot.path.items 0 rules f),
+            (none_leads modes subjects rules hyps budget levels new (spot_goal old spot) spot.path.items 0 rules f),
       )
 
   -- the rule that was found
   module _ (number env : ℕ) (f : IsFirstRule modes new (spot_goal old spot) 0 rules (Some (number, env))) where
-    led : RuleLeads modes subjects rules hyps known budget levels new (spot_goal old spot) spot.path.items 0 rules number env
-    led = rule_leads modes subjects rules hyps known budget levels new (spot_goal old spot) spot.path.items 0 rules number env f
+    led : RuleLeads modes subjects rules hyps budget levels new (spot_goal old spot) spot.path.items 0 rules number env
+    led = rule_leads modes subjects rules hyps budget levels new (spot_goal old spot) spot.path.items 0 rules number env f
 
     pub sought_env : env ≤ length new.binds.cells.items
     sought_env = led.within
@@ -284,19 +290,21 @@ module _ (modes subjects : Modes) (rules : List Rule) (hyps : Hypotheses) (known
           let q : Some led.rule ≡ Some rule = sym led.found ∙ ap (slice_get rules) p ∙ e in
           cc
 
-      pub sought_quiet : IsSilent known budget (rules_events modes hyps (goal_events modes rules hyps levels) 0 rules (spot_goal old spot)) →
-          (x : Hypotheses) × AreHyps modes new facts pairs x × IsSilent known budget (premise_events modes x (goal_events modes rules x levels) rule.premises (env_at (store_envs new) env))
-      sought_quiet q = (
+      pub sought_quiet : (notes : List ℕ) → IsQuiet budget (rules_events modes hyps (goal_events modes rules hyps levels) 0 rules (spot_goal old spot)) → RulesFailAlong modes rules hyps levels notes (spot_goal old spot) →
+          (x : Hypotheses) × AreHyps modes new facts pairs x × IsQuiet budget (premise_events modes x (goal_events modes rules x levels) rule.premises (env_at (store_envs new) env))
+          × PremisesFailAlong modes rules x levels notes rule.premises (env_at (store_envs new) env)
+      sought_quiet notes q f = (
         hyps,
         hyps_stay modes rules old new facts pairs hyps g are,
-        subst (λ (r : Rule). IsSilent known budget (premise_events modes hyps (goal_events modes rules hyps levels) r.premises (env_at (store_envs new) env))) same_rule (led.quiet q),
+        subst (λ (r : Rule). IsQuiet budget (premise_events modes hyps (goal_events modes rules hyps levels) r.premises (env_at (store_envs new) env))) same_rule (led.quiet q),
+        λ k ks e. subst (λ (r : Rule). PremisesFail modes rules hyps (FailsAlong modes rules hyps levels) (goal_events modes rules hyps levels) 0 k ks r.premises (env_at (store_envs new) env)) same_rule (led.fails k ks (f k ks e)),
       )
 
-      pub sought_leads : (last : Store) (d : Descent) → IsDescent modes subjects rules hyps budget levels last (PremisesLead modes subjects rules hyps budget levels number rule (spot_goal new spot) spot.path.items 0 rule.premises (env_at (store_envs new) env)) d →
-          IsDescent modes subjects rules hyps budget levels last (RulesLead modes subjects rules hyps budget levels (spot_goal old spot) spot.path.items) d
-      sought_leads last d x =
+      pub sought_leads : (last : Store) (notes : List ℕ) (d : Descent) → IsDescent modes subjects rules hyps budget levels last notes (PremisesLead modes subjects rules hyps budget levels number rule (spot_goal new spot) spot.path.items 0 rule.premises (env_at (store_envs new) env)) d →
+          IsDescent modes subjects rules hyps budget levels last notes (RulesLead modes subjects rules hyps budget levels (spot_goal old spot) spot.path.items) d
+      sought_leads last notes d x =
           let s = spot_stays modes rules old new spot g below in
-          descent_weaker modes subjects rules hyps budget levels last
+          descent_weaker modes subjects rules hyps budget levels last notes
           (PremisesLead modes subjects rules hyps budget levels number rule (spot_goal new spot) spot.path.items 0 rule.premises (env_at (store_envs new) env))
           (RulesLead modes subjects rules hyps budget levels (spot_goal old spot) spot.path.items)
           (λ blame h. led.leads blame (subst (λ (r : Rule). PremisesLead modes subjects rules hyps budget levels number r (spot_goal old spot) spot.path.items 0 r.premises (env_at (store_envs new) env) blame) (sym same_rule)

@@ -57,10 +57,10 @@ pub stays : (modes : Modes) (rules : List Rule) (s t : Store) (env kids frames :
 stays modes rules s t env kids frames g le lk lf =
     let me = grown-length (bind_step (store_trees s)) s.binds.cells.items in
     let mk = grown-length (kid_step (store_envs s)) s.kids.items in
-    let mf = grown-length (waiting_step modes rules (store_envs s) (store_kids s)) s.frames.items in
+    let mf = grown-length (waiting_step modes rules s.until (store_envs s) (store_kids s)) s.frames.items in
     let ne = grown-length (bind_step (store_trees t)) t.binds.cells.items in
     let nk = grown-length (kid_step (store_envs t)) t.kids.items in
-    let nf = grown-length (waiting_step modes rules (store_envs t) (store_kids t)) t.frames.items in
+    let nf = grown-length (waiting_step modes rules t.until (store_envs t) (store_kids t)) t.frames.items in
     let xe = extends-length (store_envs s) (store_envs t) g.envs in
     let xk = extends-length (store_kids s) (store_kids t) g.kids in
     let xf = extends-length (store_frames modes rules s) (store_frames modes rules t) g.frames in
@@ -110,17 +110,17 @@ module _ (modes : Modes) (rules : List Rule) (pairs : List Pair) (old mid new : 
 
   pub apart_fails : (b : Bool) (t u : Tree) (rest : List Premise) → ArePassed modes rules pairs old mid number rule levels env kids frames ps (apart t u ∷ rest) →
       IsTruthTold mid.arena new.arena b (are_apart (record { judgements = []; pairs = pairs_of (store_trees mid) pairs }) (instance (filled (env_at (store_envs mid) env)) t) (instance (filled (env_at (store_envs mid) env)) u)) →
-      b ≡ false → new.binds ≡ mid.binds → new.kids.items ≡ mid.kids.items → new.frames.items ≡ mid.frames.items → IsPremises modes rules pairs old new number rule levels env kids frames ps Nothing
-  apart_fails b t u rest a c f x y z = record {
-    grows = grows_then modes rules old mid new a.grows (grows_terms modes rules mid new a.grows.store c.arena c.extends x y z);
+      b ≡ false → new.binds ≡ mid.binds → new.kids.items ≡ mid.kids.items → new.frames.items ≡ mid.frames.items → new.until ≡ mid.until → IsPremises modes rules pairs old new number rule levels env kids frames ps Nothing
+  apart_fails b t u rest a c f x y z o = record {
+    grows = grows_then modes rules old mid new a.grows (grows_terms modes rules mid new a.grows.store c.arena c.extends x y z o);
     is = λ js next. apart_told b t u rest a c js next ∙ ap (λ v. result_when v (result_of modes rules pairs old number rule levels env kids frames js next rest)) f;
   }
 
   pub apart_holds : (b : Bool) (t u : Tree) (rest : List Premise) → ArePassed modes rules pairs old mid number rule levels env kids frames ps (apart t u ∷ rest) →
       IsTruthTold mid.arena new.arena b (are_apart (record { judgements = []; pairs = pairs_of (store_trees mid) pairs }) (instance (filled (env_at (store_envs mid) env)) t) (instance (filled (env_at (store_envs mid) env)) u)) →
-      b ≡ true → new.binds ≡ mid.binds → new.kids.items ≡ mid.kids.items → new.frames.items ≡ mid.frames.items → ArePassed modes rules pairs old new number rule levels env kids frames ps rest
-  apart_holds b t u rest a c f x y z = record {
-    grows = grows_then modes rules old mid new a.grows (grows_terms modes rules mid new a.grows.store c.arena c.extends x y z);
+      b ≡ true → new.binds ≡ mid.binds → new.kids.items ≡ mid.kids.items → new.frames.items ≡ mid.frames.items → new.until ≡ mid.until → ArePassed modes rules pairs old new number rule levels env kids frames ps rest
+  apart_holds b t u rest a c f x y z o = record {
+    grows = grows_then modes rules old mid new a.grows (grows_terms modes rules mid new a.grows.store c.arena c.extends x y z o);
     same = λ js next. apart_told b t u rest a c js next ∙ ap (λ v. result_when v (result_of modes rules pairs old number rule levels env kids frames js next rest)) f;
   }
 

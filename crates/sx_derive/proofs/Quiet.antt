@@ -4,9 +4,9 @@ use Rattle.sx_term.specs.Tree.{Tree}
 use Rattle.sx_rules.specs.Instances.{instance}
 use Rattle.sx_rules.specs.Rules.{Judgement, Premise, holds, apart, Hypotheses, judgement_instance}
 use Rattle.sx_rules.specs.Modes.{Modes, inputs_of, outputs_of, Goal, goal_of}
-use Rattle.sx_arena.specs.Matching.{Assignment, match_all, filled}
+use Rattle.sx_arena.specs.Matching.{Assignment, match_all, match_when, filled}
 use Rattle.sx_derive.specs.Walk.{Cause, Event, try, give, stop, Answer, then_each, when, when_matched, limit_passed, unless_passed, are_apart, put_first, after_kid, premise_events}
-use Rattle.sx_derive.specs.Search.{HasStop, Ending, found, exhausted, are_wanted, found_when, walk}
+use Rattle.sx_derive.specs.Search.{exhausted, are_wanted, found_when, walk}
 use Rattle.sx_derive.proofs.Blamed.{stop_left, stop_right, stop-then_each, stop-first}
 use Rattle.sx_derive.specs.Quiet.{count, IsQuiet, first_given}
 
@@ -44,19 +44,6 @@ exhausted_count wanted budget (give a ∷ es) e = go (are_wanted wanted a.1) e (
     go true f rec = cc
     go false f rec = rec f
 
--- the end of a walk for any outputs, by what is given first
-abbrev pub first_ending : Option Answer → Ending
-first_ending None = exhausted
-first_ending (Some a) = found a
-
--- with tries enough and no stop a walk for any outputs ends with what is given first
-pub quiet_walk : (budget : ℕ) (es : List (Event Answer)) → (HasStop es → ⊥) → count es ≤ budget → walk None budget es ≡ first_ending (first_given es)
-quiet_walk budget [] n l = refl
-quiet_walk zero (try ∷ es) n l = absurd (omega arith)
-quiet_walk (suc budget) (try ∷ es) n l = quiet_walk budget es n (omega arith)
-quiet_walk budget (stop c ∷ es) n l = absurd (n tt)
-quiet_walk budget (give a ∷ es) n l = refl
-
 pub quiet_left : {A : Type 0} (n : ℕ) (es fs : List (Event A)) → IsQuiet n (es ++ fs) → IsQuiet n es
 quiet_left n es fs q = record {
   no_stop = λ s. q.no_stop (stop_left es fs s);
@@ -89,7 +76,15 @@ pub quiet_matched : {A : Type 0} (n : ℕ) (m : Option Assignment) (f : Assignme
 quiet_matched n None f env e q = cc
 quiet_matched {A} n (Some more) f env e q = let same_env : more ≡ env = cc in subst (λ (x : Assignment). IsQuiet n (f x)) same_env q
 
-quiet_unless : {A : Type 0} (n : ℕ) (c : Option Cause) (es : List (Event A)) → IsQuiet n (unless_passed c es) → (c ≡ None) × IsQuiet n es
+pub quiet_try : {A : Type 0} (n : ℕ) (es : List (Event A)) → IsQuiet n (try ∷ es) → IsQuiet n es
+quiet_try n es q = record { no_stop = λ s. q.no_stop s; few = (let l = q.few in omega arith) }
+
+-- a rule whose inputs match
+pub quiet_rule : {A : Type 0} (n : ℕ) (b : Bool) (m : Option Assignment) (f : Assignment → List (Event A)) (env : Assignment) → match_when b m ≡ Some env → IsQuiet n (when b (when_matched m f)) → IsQuiet n (f env)
+quiet_rule n false m f env e q = cc
+quiet_rule n true m f env e q = quiet_matched n m f env e q
+
+pub quiet_unless : {A : Type 0} (n : ℕ) (c : Option Cause) (es : List (Event A)) → IsQuiet n (unless_passed c es) → (c ≡ None) × IsQuiet n es
 quiet_unless n None es q = (refl, q)
 quiet_unless n (Some c) es q = absurd (q.no_stop tt)
 

@@ -49,7 +49,7 @@ pub sizes : (modes : Modes) (rules : List Rule) (s : Store) → Sizes modes rule
 sizes modes rules s = record {
   envs = grown-length (bind_step (store_trees s)) s.binds.cells.items;
   kids = grown-length (kid_step (store_envs s)) s.kids.items;
-  frames = grown-length (waiting_step modes rules (store_envs s) (store_kids s)) s.frames.items;
+  frames = grown-length (waiting_step modes rules s.until (store_envs s) (store_kids s)) s.frames.items;
 }
 
 -- the premise of the rule at the frame
@@ -63,21 +63,21 @@ waits_at modes rules s c w rule e =
 
 -- the store with the kid of an answer
 pub kid_store : (modes : Modes) (rules : List Rule) (s t u : Store) (c : Waiting) (head : Head) → IsStore modes rules s → IsWaitingCell modes rules s c → HeadFits (length (store_envs s)) (length (store_kids s)) head →
-    BindsGrow (trees s.arena) s.binds t.binds → t.arena ≡ s.arena → t.kids.items ≡ s.kids.items → t.frames.items ≡ s.frames.items →
-    u.arena ≡ t.arena → u.binds ≡ t.binds → u.kids.items ≡ t.kids.items ++ record { before = c.kids; head = head } ∷ [] → u.frames.items ≡ t.frames.items → IsStore modes rules u
-kid_store modes rules s t u c head h w hf g ta tk tf ua ub uk uf =
-    let st = grows_binds modes rules s t h g ta tk tf in
+    BindsGrow (trees s.arena) s.binds t.binds → t.arena ≡ s.arena → t.kids.items ≡ s.kids.items → t.frames.items ≡ s.frames.items → t.until ≡ s.until →
+    u.arena ≡ t.arena → u.binds ≡ t.binds → u.kids.items ≡ t.kids.items ++ record { before = c.kids; head = head } ∷ [] → u.frames.items ≡ t.frames.items → u.until ≡ t.until → IsStore modes rules u
+kid_store modes rules s t u c head h w hf g ta tk tf tu ua ub uk uf uu =
+    let st = grows_binds modes rules s t h g ta tk tf tu in
     let zs = (sizes modes rules s).kids in
     let zt = (sizes modes rules t).kids in
     let xe = extends-length (store_envs s) (store_envs t) st.envs in
     let xk = extends-length (store_kids s) (store_kids t) st.kids in
     let wk = w.kids in
     let hf' : HeadFits (length (store_envs t)) (length t.kids.items) head = head_fits_more (length (store_envs s)) (length (store_envs t)) (length (store_kids s)) (length t.kids.items) xe (omega arith) head hf in
-    (grows_kid modes rules t u (record { before = c.kids; head = head }) st.store hf' (omega arith) ua ub uk uf).0.store
+    (grows_kid modes rules t u (record { before = c.kids; head = head }) st.store hf' (omega arith) ua ub uk uf uu).0.store
 
 module _ (modes : Modes) (rules : List Rule) (pairs : List Pair) (s t : Store) (c : Waiting) (rule : Rule) (j : Judgement) (head : Head) (outs : List ℕ) (h : IsStore modes rules s)
     (hp : ArePairs (length (store_trees s)) pairs) (w : IsWaitingCell modes rules s c) (found : slice_get rules c.rule ≡ Some rule) (prem : slice_get rule.premises c.premise ≡ Some (holds j))
-    (hf : HeadFits (length (store_envs s)) (length (store_kids s)) head) (g : BindsGrow (trees s.arena) s.binds t.binds) (ta : t.arena ≡ s.arena) (tk : t.kids.items ≡ s.kids.items) (tf : t.frames.items ≡ s.frames.items) where
+    (hf : HeadFits (length (store_envs s)) (length (store_kids s)) head) (g : BindsGrow (trees s.arena) s.binds t.binds) (ta : t.arena ≡ s.arena) (tk : t.kids.items ≡ s.kids.items) (tf : t.frames.items ≡ s.frames.items) (tu : t.until ≡ s.until) where
   -- what is made of the answer, by the frame's fields
   abbrev made_of : List Judgement → Option Assignment → Result
   made_of js m = result_matched m (λ env. premises_result modes (hyps_in pairs s js) c.rule rule c.levels (frames_in modes rules s c.before) (hand_on modes (hyps_in pairs s js) (frames_in modes rules s c.before))
@@ -91,15 +91,15 @@ module _ (modes : Modes) (rules : List Rule) (pairs : List Pair) (s t : Store) (
 
   pub resumed_none : match_all (outputs_of modes j) (map (tree_at (store_trees s)) outs) (env_at (store_envs s) c.env) ≡ None → IsResumed modes rules pairs s t c head outs Nothing
   resumed_none m = record {
-    grows = grows_binds modes rules s t h g ta tk tf;
+    grows = grows_binds modes rules s t h g ta tk tf tu;
     is = λ js. handed_is js ∙ ap (made_of js) m;
   }
 
   pub resumed_more : (u v : Store) (e kids : ℕ) (step : Step) → e ≤ length t.binds.cells.items → match_all (outputs_of modes j) (map (tree_at (store_trees s)) outs) (env_at (store_envs s) c.env) ≡ Some (env_at (store_envs t) e) →
-      u.arena ≡ t.arena → u.binds ≡ t.binds → u.kids.items ≡ t.kids.items ++ record { before = c.kids; head = head } ∷ [] → u.frames.items ≡ t.frames.items → kids ≡ length t.kids.items + 1 →
+      u.arena ≡ t.arena → u.binds ≡ t.binds → u.kids.items ≡ t.kids.items ++ record { before = c.kids; head = head } ∷ [] → u.frames.items ≡ t.frames.items → u.until ≡ t.until → kids ≡ length t.kids.items + 1 →
       IsPremises modes rules pairs u v c.rule rule c.levels e kids c.before (drop (c.premise + 1) rule.premises) step → IsResumed modes rules pairs s v c head outs step
-  resumed_more u v e kids step le m ua ub uk uf ke p =
-      let st = grows_binds modes rules s t h g ta tk tf in
+  resumed_more u v e kids step le m ua ub uk uf uu ke p =
+      let st = grows_binds modes rules s t h g ta tk tf tu in
       let zs = sizes modes rules s in
       let zt = sizes modes rules t in
       let xe = extends-length (store_envs s) (store_envs t) st.envs in
@@ -114,7 +114,7 @@ module _ (modes : Modes) (rules : List Rule) (pairs : List Pair) (s t : Store) (
       let te = zt.envs in
       let tk' = zt.kids in
       let hf' : HeadFits (length (store_envs t)) (length t.kids.items) head = head_fits_more (length (store_envs s)) (length (store_envs t)) (length (store_kids s)) (length t.kids.items) xe (omega arith) head hf in
-      let o = grows_kid modes rules t u (record { before = c.kids; head = head }) st.store hf' (omega arith) ua ub uk uf in
+      let o = grows_kid modes rules t u (record { before = c.kids; head = head }) st.store hf' (omega arith) ua ub uk uf uu in
       let su = grows_then modes rules s t u st o.0 in
       let ep : pairs_of (store_trees u) pairs ≡ pairs_of (store_trees s) pairs = pairs_stay (store_trees s) (store_trees u) su.trees pairs hp in
       let ef : frames_in modes rules u c.before ≡ frames_in modes rules s c.before = frames_stay_at (store_frames modes rules s) (store_frames modes rules u) su.frames c.before w.before in

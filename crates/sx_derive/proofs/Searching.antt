@@ -25,15 +25,15 @@ use Rattle.sx_arena.proofs.Facts.{facts_stay}
 
 pub problem_is : (modes : Modes) (rules : List Rule) (hyps : Hypotheses) (terms : List Tree) (wanted : Option (List Tree)) (s : Store) (a b c : Arena) (p : Problem) → IsStore modes rules s →
     AreFactsIn modes s.arena a hyps.judgements p.facts.items → ArePairsIn a b hyps.pairs p.pairs.items → AreHeld b c p.terms.items terms → IsWantedIn c p.store.arena wanted p.wanted →
-    p.store.binds ≡ s.binds → p.store.kids.items ≡ s.kids.items → p.store.frames.items ≡ s.frames.items → IsProblem modes rules hyps terms wanted p
-problem_is modes rules hyps terms wanted s a b c p h f q t w eb ek ef =
+    p.store.binds ≡ s.binds → p.store.kids.items ≡ s.kids.items → p.store.frames.items ≡ s.frames.items → p.store.until ≡ s.until → IsProblem modes rules hyps terms wanted p
+problem_is modes rules hyps terms wanted s a b c p h f q t w eb ek ef eu =
     let d = p.store.arena in
     let xc = w.extends in
     let xb = extends-then (trees b) (trees c) (trees d) t.extends xc in
     let xa = extends-then (trees a) (trees b) (trees d) q.extends xb in
     let xs = extends-then (trees s.arena) (trees a) (trees d) f.extends xa in
     record {
-      store = (grows_terms modes rules s p.store h w.arena xs eb ek ef).store;
+      store = (grows_terms modes rules s p.store h w.arena xs eb ek ef eu).store;
       facts = facts_stay modes (trees a) (trees d) xa hyps.judgements p.facts.items f.are;
       pairs = pairs_more_terms (length (trees b)) (length (trees d)) (extends-length (trees b) (trees d) xb) p.pairs.items q.within;
       pairs_are = pairs_stay (trees b) (trees d) xb p.pairs.items q.within ∙ q.are;

@@ -49,7 +49,7 @@ use Rattle.sx_derive.proofs.Walking.{first_events, first_fits}
 
 -- the search that begins
 pub begun : (modes : Modes) (rules : List Rule) (hyps : Hypotheses) (form : ℕ) (terms : List Tree) (p : Problem) → IsProblem modes rules hyps terms None p → length hyps.judgements < 2 ^ 32 → (mark : Mark) (tasks : Vec TaskOf Global) →
-    tasks.items ≡ record { next = 0; form = form; terms = p.terms; levels = 2999; frames = 0; mark = mark } ∷ [] →
+    tasks.items ≡ record { next = 0; form = form; terms = p.terms; levels = 2999; frames = p.store.until; mark = mark } ∷ [] →
     StandsForEvents modes rules hyps (record { store = p.store; facts = p.facts; pairs = p.pairs; tasks = tasks; state = Open }) (events modes rules hyps (record { form = form; terms = terms }) 1)
 begun modes rules hyps form terms p h few mark tasks e =
     let l = facts_length modes (store_trees p.store) hyps.judgements p.facts.items h.facts in
@@ -60,9 +60,9 @@ begun modes rules hyps form terms p h few mark tasks e =
         facts = h.facts;
         pairs = h.pairs;
         pairs_are = h.pairs_are;
-        tasks = first_fits modes rules p.store (length p.facts.items + length rules) form p.terms 2999 mark tasks.items h.terms_below e;
+        tasks = first_fits modes rules p.store (length p.facts.items + length rules) form p.terms 2999 mark tasks.items h.store h.terms_below e;
       };
-      events = sym (first_events modes rules p.pairs.items hyps.judgements p.store form p.terms 2999 mark tasks.items e ∙ problem_events modes rules hyps form terms None p h);
+      events = sym (first_events modes rules p.pairs.items hyps.judgements p.store form p.terms 2999 mark tasks.items h.store e ∙ problem_events modes rules hyps form terms None p h);
     }
 
 -- the events of a search that has come to no limit

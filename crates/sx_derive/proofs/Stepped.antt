@@ -41,15 +41,15 @@ then_each-give (try ∷ es) = ap (λ xs. try ∷ xs) (then_each-give es)
 then_each-give (stop c ∷ es) = ap (λ xs. stop c ∷ xs) (then_each-give es)
 then_each-give (give a ∷ es) = ap (λ xs. give a ∷ xs) (then_each-give es)
 
-then_each-when : {A B : Type 0} (f : A → List (Event B)) (b : Bool) (es : List (Event A)) → then_each f (when b es) ≡ when b (then_each f es)
+pub then_each-when : {A B : Type 0} (f : A → List (Event B)) (b : Bool) (es : List (Event A)) → then_each f (when b es) ≡ when b (then_each f es)
 then_each-when f true es = refl
 then_each-when f false es = refl
 
-then_each-when_matched : {A B : Type 0} (f : A → List (Event B)) (r : Option Assignment) (g : Assignment → List (Event A)) → then_each f (when_matched r g) ≡ when_matched r (λ env. then_each f (g env))
+pub then_each-when_matched : {A B : Type 0} (f : A → List (Event B)) (r : Option Assignment) (g : Assignment → List (Event A)) → then_each f (when_matched r g) ≡ when_matched r (λ env. then_each f (g env))
 then_each-when_matched f None g = refl
 then_each-when_matched f (Some env) g = refl
 
-then_each-unless_passed : {A B : Type 0} (f : A → List (Event B)) (c : Option Cause) (es : List (Event A)) → then_each f (unless_passed c es) ≡ unless_passed c (then_each f es)
+pub then_each-unless_passed : {A B : Type 0} (f : A → List (Event B)) (c : Option Cause) (es : List (Event A)) → then_each f (unless_passed c es) ≡ unless_passed c (then_each f es)
 then_each-unless_passed f None es = refl
 then_each-unless_passed f (Some c) es = refl
 
@@ -82,7 +82,7 @@ module _ (modes : Modes) (rules : List Rule) (hyps : Hypotheses) where
   goal_result_events (suc levels) goal frames = refl
 
   -- a premise in work makes a frame
-  kid_after : (r : ℕ) (rule : Rule) (levels : ℕ) (ps : List Premise) (patterns : List Tree) (env : Assignment) (kids : Proofs) (a : Answer) →
+  pub kid_after : (r : ℕ) (rule : Rule) (levels : ℕ) (ps : List Premise) (patterns : List Tree) (env : Assignment) (kids : Proofs) (a : Answer) →
       then_each (λ end. conclude modes r rule (end.0, joined_proofs kids end.1)) (after_kid (premise_events modes hyps (goal_events modes rules hyps levels) ps) patterns env a)
       ≡ after_frame modes rules hyps (record { number = r; rule = rule; rest = ps; patterns = patterns; env = env; kids = kids; levels = levels }) a
   kid_after r rule levels ps patterns env kids a =

@@ -37,25 +37,25 @@ limit_is c (TooDeep n) h = (too_deep h.0, h.1, (h.0, refl, h.2))
 limit_is c (TooBig n) h = (too_big h.0, h.1, (h.0, refl, h.2))
 
 pub concluded_passed : (modes : Modes) (rules : List Rule) (s t : Store) (number env kids : ℕ) (rule : RuleOf) (outs : List ℕ) (l : Limit) → IsStore modes rules s →
-    AreHeld s.arena t.arena outs (outputs_of modes (judgement_instance (filled (env_at (store_envs s) env)) (rule_of rule).conclusion)) → t.binds ≡ s.binds → t.kids.items ≡ s.kids.items → t.frames.items ≡ s.frames.items →
+    AreHeld s.arena t.arena outs (outputs_of modes (judgement_instance (filled (env_at (store_envs s) env)) (rule_of rule).conclusion)) → t.binds ≡ s.binds → t.kids.items ≡ s.kids.items → t.frames.items ≡ s.frames.items → t.until ≡ s.until →
     IsLimit (limit_passed (map (tree_at (trees t.arena)) outs)) (Some l) →
     IsConcluded modes rules s t number (rule_of rule) (filled (env_at (store_envs s) env)) (kids_at (store_kids s) kids) (Passed l)
-concluded_passed modes rules s t number env kids rule outs l h a b k f i =
+concluded_passed modes rules s t number env kids rule outs l h a b k f o i =
     let S = filled (env_at (store_envs s) env) in
     let q = limit_is (limit_passed (map (tree_at (trees t.arena)) outs)) l i in
     let e = sym (ap limit_passed a.are) ∙ q.1 in
     record {
-      grows = grows_terms modes rules s t h a.arena a.extends b k f;
+      grows = grows_terms modes rules s t h a.arena a.extends b k f o;
       is = λ js next. (q.0, q.2, ap (λ c. result_unless c (next (by number (first_values (length (rule_of rule).sorts) S) (kids_at (store_kids s) kids), outputs_of modes (judgement_instance S (rule_of rule).conclusion)))) e);
     }
 
 pub concluded_done : (modes : Modes) (rules : List Rule) (s t : Store) (number env kids variables : ℕ) (rule : RuleOf) (outs : Vec ℕ Global) → IsStore modes rules s →
-    AreHeld s.arena t.arena outs.items (outputs_of modes (judgement_instance (filled (env_at (store_envs s) env)) (rule_of rule).conclusion)) → t.binds ≡ s.binds → t.kids.items ≡ s.kids.items → t.frames.items ≡ s.frames.items →
+    AreHeld s.arena t.arena outs.items (outputs_of modes (judgement_instance (filled (env_at (store_envs s) env)) (rule_of rule).conclusion)) → t.binds ≡ s.binds → t.kids.items ≡ s.kids.items → t.frames.items ≡ s.frames.items → t.until ≡ s.until →
     limit_passed (map (tree_at (trees t.arena)) outs.items) ≡ None → variables ≡ vec_len rule.vars → env ≤ length s.binds.cells.items → kids ≤ length s.kids.items →
     IsConcluded modes rules s t number (rule_of rule) (filled (env_at (store_envs s) env)) (kids_at (store_kids s) kids) (Done (By number variables env kids) outs)
-concluded_done modes rules s t number env kids variables rule outs h a b k f i v m n =
+concluded_done modes rules s t number env kids variables rule outs h a b k f same_until i v m n =
     let S = filled (env_at (store_envs s) env) in
-    let g = grows_terms modes rules s t h a.arena a.extends b k f in
+    let g = grows_terms modes rules s t h a.arena a.extends b k f same_until in
     let e = sym (ap limit_passed a.are) ∙ i in
     let p = grown-length (bind_step (trees s.arena)) s.binds.cells.items in
     let q = grown-length (kid_step (store_envs s)) s.kids.items in
@@ -77,13 +77,13 @@ concluded_done modes rules s t number env kids variables rule outs h a b k f i v
     }
 
 module _ (modes : Modes) (rules : List Rule) (s t : Store) (j : Judgement) (c : Waiting) (terms : List ℕ) (h : IsStore modes rules s)
-    (a : AreHeld s.arena t.arena terms (inputs_of modes (judgement_instance (filled (env_at (store_envs s) c.env)) j))) (b : t.binds ≡ s.binds) (k : t.kids.items ≡ s.kids.items) (f : t.frames.items ≡ s.frames.items) where
+    (a : AreHeld s.arena t.arena terms (inputs_of modes (judgement_instance (filled (env_at (store_envs s) c.env)) j))) (b : t.binds ≡ s.binds) (k : t.kids.items ≡ s.kids.items) (f : t.frames.items ≡ s.frames.items) (o : t.until ≡ s.until) where
   pub asked_passed : (l : Limit) → IsLimit (limit_passed (map (tree_at (trees t.arena)) terms)) (Some l) → IsAsked modes rules s t j c (Passed l)
   asked_passed l i =
       let q = limit_is (limit_passed (map (tree_at (trees t.arena)) terms)) l i in
       let e = sym (ap limit_passed a.are) ∙ q.1 in
       record {
-        grows = grows_terms modes rules s t h a.arena a.extends b k f;
+        grows = grows_terms modes rules s t h a.arena a.extends b k f o;
         is = λ hyps next rule found. (
           q.0,
           q.2,
@@ -102,7 +102,7 @@ module _ (modes : Modes) (rules : List Rule) (s t : Store) (j : Judgement) (c : 
 
   pub asked_spent : limit_passed (map (tree_at (trees t.arena)) terms) ≡ None → c.levels ≡ 0 → IsAsked modes rules s t j c DepthSpent
   asked_spent i l = record {
-    grows = grows_terms modes rules s t h a.arena a.extends b k f;
+    grows = grows_terms modes rules s t h a.arena a.extends b k f o;
     is = λ hyps next rule found. not_passed i hyps rule
         ∙ ap (λ n. goal_result hyps n (goal_of modes (judgement_instance (filled (env_at (store_envs s) c.env)) j))
         (waiting_frame modes rule j (env_at (store_envs s) c.env) (kids_at (store_kids s) c.kids) c ∷ frames_at (store_frames modes rules s) c.before)) l;
@@ -118,28 +118,30 @@ frame_is modes rules es ds ks ls j c rule f g x y =
     ∙ (λ i. record { number = c.rule; rule = rule; rest = drop (c.premise + 1) rule.premises; patterns = p i; env = env_at es c.env; kids = kids_at ks c.kids; levels = c.levels })
 
 pub asked_goes : (modes : Modes) (rules : List Rule) (s t u : Store) (j : Judgement) (c : Waiting) (outs : Vec ℕ Global) (n : ℕ) → IsStore modes rules s →
-    AreHeld s.arena t.arena outs.items (inputs_of modes (judgement_instance (filled (env_at (store_envs s) c.env)) j)) → t.binds ≡ s.binds → t.kids.items ≡ s.kids.items → t.frames.items ≡ s.frames.items →
+    AreHeld s.arena t.arena outs.items (inputs_of modes (judgement_instance (filled (env_at (store_envs s) c.env)) j)) → t.binds ≡ s.binds → t.kids.items ≡ s.kids.items → t.frames.items ≡ s.frames.items → t.until ≡ s.until →
     limit_passed (map (tree_at (trees t.arena)) outs.items) ≡ None → (c.levels ≡ 0 → ⊥) → Awaits rules j c →
-    c.env ≤ length s.binds.cells.items → c.kids ≤ length s.kids.items → c.before ≤ length s.frames.items →
-    u.arena ≡ t.arena → u.binds ≡ t.binds → u.kids.items ≡ t.kids.items → u.frames.items ≡ t.frames.items ++ c ∷ [] → n ≡ length t.frames.items + 1 →
+    c.env ≤ length s.binds.cells.items → c.kids ≤ length s.kids.items → c.before ≤ length s.frames.items → s.until ≤ c.before →
+    u.arena ≡ t.arena → u.binds ≡ t.binds → u.kids.items ≡ t.kids.items → u.frames.items ≡ t.frames.items ++ c ∷ [] → u.until ≡ t.until → n ≡ length t.frames.items + 1 →
     IsAsked modes rules s u j c (Goes j.form outs (c.levels - 1) n)
-asked_goes modes rules s t u j c outs n h a b k f i l w le lk lb ua ub uk uf e =
-    let g = grows_terms modes rules s t h a.arena a.extends b k f in
+asked_goes modes rules s t u j c outs n h a b k f same_until i l w le lk lb lu ua ub uk uf uu e =
+    let g = grows_terms modes rules s t h a.arena a.extends b k f same_until in
     let me = grown-length (bind_step (trees s.arena)) s.binds.cells.items in
     let mk = grown-length (kid_step (store_envs s)) s.kids.items in
-    let mf = grown-length (waiting_step modes rules (store_envs s) (store_kids s)) s.frames.items in
+    let mf = grown-length (waiting_step modes rules s.until (store_envs s) (store_kids s)) s.frames.items in
     let xe = extends-length (store_envs s) (store_envs t) g.envs in
     let xk = extends-length (store_kids s) (store_kids t) g.kids in
     let xf = extends-length (store_frames modes rules s) (store_frames modes rules t) g.frames in
-    let p : WaitingFits rules (store_envs t) (store_kids t) (store_frames modes rules t) c = record {
+    let p : WaitingFits rules t.until (store_envs t) (store_kids t) (store_frames modes rules t) c = record {
       waits = (w.rule, j, w.found, w.premise);
       env = (omega arith);
       kids = (omega arith);
       before = (omega arith);
+      above = λ z. (omega arith);
     } in
-    let o = grows_frame modes rules t u c g.store p ua ub uk uf in
-    let mu = grown-length (waiting_step modes rules (store_envs u) (store_kids u)) u.frames.items in
+    let o = grows_frame modes rules t u c g.store p ua ub uk uf uu in
+    let mu = grown-length (waiting_step modes rules u.until (store_envs u) (store_kids u)) u.frames.items in
     let ml = ap length uf ∙ length_push t.frames.items c in
+    let there = g.store.until in
     let ie : env_at (store_envs t) c.env ≡ env_at (store_envs s) c.env = env_stays (store_envs s) (store_envs t) g.envs c.env (omega arith) in
     let ik : kids_at (store_kids t) c.kids ≡ kids_at (store_kids s) c.kids = kids_stay_at (store_kids s) (store_kids t) g.kids c.kids (omega arith) in
     let jf : frames_at (store_frames modes rules t) c.before ≡ frames_at (store_frames modes rules s) c.before = frames_stay_at (store_frames modes rules s) (store_frames modes rules t) g.frames c.before (omega arith) in
@@ -156,7 +158,8 @@ asked_goes modes rules s t u j c outs n h a b k f i l w le lk lb ua ub uk uf e =
           sym ((ap (frames_at (store_frames modes rules u)) e ∙ o.1) ∙ (λ x. fr x ∷ jf x)) in (
             subst (λ (y : Arena). AreBelow (length (trees y)) outs.items) (sym ua) a.within,
             (omega arith),
-            not_passed modes rules s t j c outs.items h a b k f i hyps rule
+            (omega arith),
+            not_passed modes rules s t j c outs.items h a b k f same_until i hyps rule
                 ∙ ap (λ m. goal_result hyps m (goal_of modes (judgement_instance S j)) (waiting_frame modes rule j (env_at (store_envs s) c.env) (kids_at (store_kids s) c.kids) c ∷ frames_at (store_frames modes rules s) c.before)) one
                 ∙ (λ x. goes_on (hypotheses_from 0 hyps.judgements (c.levels - 1) (record { form = j.form; terms = terms x }) (fs x))),
           );

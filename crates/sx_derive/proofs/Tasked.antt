@@ -77,7 +77,7 @@ module _ (modes : Modes) (rules : List Rule) (hyps : Hypotheses) (levels : ℕ) 
       ∙ (machine_makes_events modes rules hyps).hypothesis next j (drop (suc next) hyps.judgements) levels goal frames ts
       ∙ ap (λ es. try ∷ (result_events modes rules hyps (given_result modes hyps next j goal frames) ++ es)) (task_hypotheses (suc next) ts (omega arith))
 
-  task_rules : (next : ℕ) → length hyps.judgements ≤ next → task_from next hyps.judgements rules levels goal frames ≡ rules_from (next - length hyps.judgements) (drop (next - length hyps.judgements) rules) levels goal frames
+  pub task_rules : (next : ℕ) → length hyps.judgements ≤ next → task_from next hyps.judgements rules levels goal frames ≡ rules_from (next - length hyps.judgements) (drop (next - length hyps.judgements) rules) levels goal frames
   task_rules next h = ap (λ b. task_when b next hyps.judgements rules levels goal frames) (less_false next (length hyps.judgements) h)
 
   -- the try of a rule

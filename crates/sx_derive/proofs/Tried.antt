@@ -56,7 +56,7 @@ module _ (modes : Modes) (rules : List Rule) (pairs : List Pair) (s t : Store) (
         (number_false rule.conclusion.form form d);
   }
 
-  module _ (same_form : rule.conclusion.form ≡ form) (g : BindsGrow (trees s.arena) s.binds t.binds) (ta : t.arena ≡ s.arena) (tk : t.kids.items ≡ s.kids.items) (tf : t.frames.items ≡ s.frames.items) where
+  module _ (same_form : rule.conclusion.form ≡ form) (g : BindsGrow (trees s.arena) s.binds t.binds) (ta : t.arena ≡ s.arena) (tk : t.kids.items ≡ s.kids.items) (tf : t.frames.items ≡ s.frames.items) (tu : t.until ≡ s.until) where
     abbrev matched_as : List Judgement → Option Assignment → Result
     matched_as js m = result_matched m (λ env. premises_result modes (hyps_in pairs s js) number rule levels (frames_in modes rules s frames) (hand_on modes (hyps_in pairs s js) (frames_in modes rules s frames)) rule.premises env no_more)
 
@@ -67,18 +67,18 @@ module _ (modes : Modes) (rules : List Rule) (pairs : List Pair) (s t : Store) (
 
     pub rule_none : match_all (inputs_of modes rule.conclusion) (map (tree_at (store_trees s)) terms) nothing_bound ≡ None → IsCandidateTried modes rules pairs s t tried_as Nothing
     rule_none m = record {
-      grows = grows_binds modes rules s t h g ta tk tf;
+      grows = grows_binds modes rules s t h g ta tk tf tu;
       is = λ js. tried_is js None m;
     }
 
     module _ (hp : ArePairs (length (store_trees s)) pairs) (lf : frames ≤ length s.frames.items) (v : Store) (env : ℕ) (m : match_all (inputs_of modes rule.conclusion) (map (tree_at (store_trees s)) terms) nothing_bound ≡ Some (env_at (store_envs t) env)) (step : Step)
         (p : IsPremises modes rules pairs t v number rule levels env 0 frames rule.premises step) where
       grown : StoreGrows modes rules s v
-      grown = grows_then modes rules s t v (grows_binds modes rules s t h g ta tk tf) p.grows
+      grown = grows_then modes rules s t v (grows_binds modes rules s t h g ta tk tf tu) p.grows
 
       step_is : (js : List Judgement) → IsSearchStep modes rules js v (hand_on modes (hyps_in pairs s js) (frames_in modes rules s frames)) step (tried_as (hyps_in pairs s js))
       step_is js =
-          let st = grows_binds modes rules s t h g ta tk tf in
+          let st = grows_binds modes rules s t h g ta tk tf tu in
           let z = (sizes modes rules s).frames in
           let ep : pairs_of (store_trees t) pairs ≡ pairs_of (store_trees s) pairs = pairs_stay (store_trees s) (store_trees t) st.trees pairs hp in
           let ef : frames_in modes rules t frames ≡ frames_in modes rules s frames = frames_stay_at (store_frames modes rules s) (store_frames modes rules t) st.frames frames (omega arith) in

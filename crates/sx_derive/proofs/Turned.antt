@@ -65,10 +65,13 @@ module _ (modes : Modes) (rules : List Rule) (n : ℕ) where
       let b = (sizes modes rules t).frames in
       let x = extends-length (store_frames modes rules s) (store_frames modes rules t) g.frames in
       let l = f.frames in
+      let o = f.until in
+      let u = g.until in
       record {
         next = f.next;
         terms = below_more (length (store_trees s)) (length (store_trees t)) (extends-length (store_trees s) (store_trees t) g.trees) k.terms.items f.terms;
         frames = (omega arith);
+        until = (omega arith);
       }
 
   pub fits_more : (s t : Store) (xs : List TaskOf) → StoreGrows modes rules s t → TasksFit modes rules s n xs → TasksFit modes rules t n xs
@@ -104,7 +107,7 @@ module _ (modes : Modes) (rules : List Rule) (n : ℕ) where
   piled_top b s [] t p = (p.0, (p.1.0, p.1.1, p.1.2, p.1.3))
   piled_top b s (x ∷ xs) t p = let r = piled_top p.0 s xs t p.1.3 in (r.0, ((p.0, (p.1.0, p.1.1, p.1.2, r.1.0)), r.1.1, r.1.2, r.1.3))
 
-  piled_later : (b c s : Store) (xs : List TaskOf) → P b xs c → StoreGrows modes rules c s → P b xs s
+  pub piled_later : (b c s : Store) (xs : List TaskOf) → P b xs c → StoreGrows modes rules c s → P b xs s
   piled_later b c s [] p g = grows_then modes rules b c s p g
   piled_later b c s (x ∷ xs) p g = (p.0, (p.1.0, p.1.1, p.1.2, piled_later p.0 c s xs p.1.3 g))
 
@@ -138,10 +141,12 @@ module _ (modes : Modes) (rules : List Rule) (pairs : List Pair) (js : List Judg
   after_fits =
       let f = fit_more modes rules n old new t x.grows ft in
       let z = f.frames in
+      let o = f.until in
       record {
         next = (omega arith);
         terms = subst (λ is. AreBelow (length (store_trees new)) is) (sym a_terms) f.terms;
         frames = (omega arith);
+        until = (omega arith);
       }
 
   -- the task that is left, and the tasks before it
@@ -157,10 +162,12 @@ module _ (modes : Modes) (rules : List Rule) (pairs : List Pair) (js : List Judg
   after_in : (c : Store) → TaskFits modes rules c n t → TaskFits modes rules c n after
   after_in c f =
       let z = f.frames in
+      let o = f.until in
       record {
         next = (omega arith);
         terms = subst (λ is. AreBelow (length (store_trees c)) is) (sym a_terms) f.terms;
         frames = (omega arith);
+        until = (omega arith);
       }
 
   left_piled : (first c : Store) → Piled modes rules n first tasks c → IsMark c t.mark → TaskFits modes rules c n t → StoreGrows modes rules c old → Piled modes rules n first (tasks ++ after ∷ []) new
@@ -238,11 +245,11 @@ module _ (modes : Modes) (rules : List Rule) (pairs : List Pair) (js : List Judg
       let r = subst (λ (y : Step). IsSearchStep modes rules js new answers y x.result) e x.is in
       let goal = goal_in new form terms.items in
       let fr = frames_in modes rules new frames in
-      let q = old_is (goes_on (hypotheses_from 0 js levels goal fr)) r.2 in
+      let q = old_is (goes_on (hypotheses_from 0 js levels goal fr)) r.3 in
       let z = (sizes modes rules new).frames in
       let l = r.1 in
       let goes_to : TaskOf = record { next = 0; form = form; terms = terms; levels = levels; frames = frames; mark = mark } in
-      let goes_fits : TaskFits modes rules new n goes_to = record { next = (omega arith); terms = r.0; frames = (omega arith) } in
+      let goes_fits : TaskFits modes rules new n goes_to = record { next = (omega arith); terms = r.0; frames = (omega arith); until = r.2 } in
       let k : TasksFit modes rules new n ((tasks ++ after ∷ []) ++ more ∷ []) = subst (λ (m : TaskOf). TasksFit modes rules new n ((tasks ++ after ∷ []) ++ m ∷ [])) (sym f)
       (fits_push modes rules n new (tasks ++ after ∷ []) goes_to left_fits goes_fits) in
       let s : events_left modes rules pairs js new ((tasks ++ after ∷ []) ++ more ∷ []) ≡ tasks_events modes rules hyps (hypotheses_from 0 js levels goal fr ∷ left_stack) =
@@ -353,7 +360,7 @@ module _ (modes : Modes) (rules : List Rule) (n : ℕ) (s : Store) (xs : List Ta
   moved = record { next = next; form = t.form; terms = t.terms; levels = t.levels; frames = t.frames; mark = t.mark }
 
   move_fit : (c : Store) → TaskFits modes rules c n t → TaskFits modes rules c n moved
-  move_fit c f = record { next = l; terms = f.terms; frames = f.frames }
+  move_fit c f = record { next = l; terms = f.terms; frames = f.frames; until = f.until }
 
   pub moved_fits : TasksFit modes rules s n (xs ++ t ∷ []) → TasksFit modes rules s n (xs ++ after ∷ [])
   moved_fits f =

@@ -18,7 +18,8 @@ use Rattle.sx_arena.specs.Arena.{AreBelow, Extends}
 use Rattle.sx_derive.specs.Candidates.{goal_in, AreFacts}
 use Rattle.sx_derive.specs.Handing.{hyps_in}
 use Rattle.sx_derive.specs.Store.{IsStore, StoreGrows, IsMark, IsStoreCut, store_trees}
-use Rattle.sx_derive.specs.Tasks.{events_left, TaskFits, TasksFit, Piled, wanted_in, WantedBelow}
+use Rattle.sx_derive.specs.Machine.{Frame, tasks_events}
+use Rattle.sx_derive.specs.Tasks.{task_from, events_left, TaskFits, TasksFit, Piled, wanted_in, WantedBelow}
 use Rattle.sx_derive.specs.Tasks.{IsEnding, IsTryOutcome}
 use Rattle.sx_derive.specs.Turns.{IsTaskPopped, IsTaskTurn}
 use Rattle.sx_derive.specs.Walked.{events_in, IsWalked}
@@ -28,6 +29,7 @@ use Rattle.sx_derive.proofs.Stored.{grows_same, grows_then}
 use Rattle.sx_derive.proofs.Tasked.{task_starts, facts_length}
 use Rattle.sx_derive.proofs.Turned.{fits_more, fits_push, piled_grows, piled_fits, piled_push, piled_top, events_stay, events_try}
 use Rattle.sx_derive.proofs.Cut.{cut_grows}
+use Rattle.sx_derive.proofs.Handed.{frames_until}
 use Rattle.sx_arena.specs.Pairs.{ArePairs}
 use Rattle.sx_arena.proofs.Growing.{extends-length}
 use Rattle.sx_arena.proofs.Parted.{pairs_more_terms}
@@ -229,19 +231,22 @@ module _ (modes : Modes) (rules : List Rule) (pairs : List Pair) (facts : List F
           (grows_then modes rules old now new w.grows y.grows, subst (IsEnding new ending) (sym e) o.0, (let z = t in omega arith))
 
 -- the events of a goal are those of its first task
-pub first_events : (modes : Modes) (rules : List Rule) (pairs : List Pair) (js : List Judgement) (s : Store) (form : ℕ) (terms : Vec ℕ Global) (levels : ℕ) (mark : Mark) (tasks : List TaskOf) →
-    tasks ≡ record { next = 0; form = form; terms = terms; levels = levels; frames = 0; mark = mark } ∷ [] → events_left modes rules pairs js s tasks ≡ events_in modes rules pairs js s levels form terms.items
-first_events modes rules pairs js s form terms levels mark tasks e = ap (events_left modes rules pairs js s) e ∙ sym (task_starts modes rules (hyps_in pairs s js) levels (goal_in s form terms.items))
+pub first_events : (modes : Modes) (rules : List Rule) (pairs : List Pair) (js : List Judgement) (s : Store) (form : ℕ) (terms : Vec ℕ Global) (levels : ℕ) (mark : Mark) (tasks : List TaskOf) → IsStore modes rules s →
+    tasks ≡ record { next = 0; form = form; terms = terms; levels = levels; frames = s.until; mark = mark } ∷ [] → events_left modes rules pairs js s tasks ≡ events_in modes rules pairs js s levels form terms.items
+first_events modes rules pairs js s form terms levels mark tasks h e =
+    ap (events_left modes rules pairs js s) e
+    ∙ ap (λ (fs : List Frame). tasks_events modes rules (hyps_in pairs s js) (task_from 0 js rules levels (goal_in s form terms.items) fs ∷ [])) (frames_until modes rules s h)
+    ∙ sym (task_starts modes rules (hyps_in pairs s js) levels (goal_in s form terms.items))
 
-pub first_fits : (modes : Modes) (rules : List Rule) (s : Store) (n form : ℕ) (terms : Vec ℕ Global) (levels : ℕ) (mark : Mark) (tasks : List TaskOf) → AreBelow (length (store_trees s)) terms.items →
-    tasks ≡ record { next = 0; form = form; terms = terms; levels = levels; frames = 0; mark = mark } ∷ [] → TasksFit modes rules s n tasks
-first_fits modes rules s n form terms levels mark tasks b e =
-    subst (λ (ts : List TaskOf). TasksFit modes rules s n ts) (sym e) (record { next = (omega arith); terms = b; frames = (omega arith) }, tt)
+pub first_fits : (modes : Modes) (rules : List Rule) (s : Store) (n form : ℕ) (terms : Vec ℕ Global) (levels : ℕ) (mark : Mark) (tasks : List TaskOf) → IsStore modes rules s → AreBelow (length (store_trees s)) terms.items →
+    tasks ≡ record { next = 0; form = form; terms = terms; levels = levels; frames = s.until; mark = mark } ∷ [] → TasksFit modes rules s n tasks
+first_fits modes rules s n form terms levels mark tasks h b e =
+    subst (λ (ts : List TaskOf). TasksFit modes rules s n ts) (sym e) (record { next = (omega arith); terms = b; frames = h.until; until = (omega arith) }, tt)
 
 pub first_piled : (modes : Modes) (rules : List Rule) (s : Store) (n form : ℕ) (terms : Vec ℕ Global) (levels : ℕ) (mark : Mark) (tasks : List TaskOf) → IsStore modes rules s → IsMark s mark → AreBelow (length (store_trees s)) terms.items →
-    tasks ≡ record { next = 0; form = form; terms = terms; levels = levels; frames = 0; mark = mark } ∷ [] → Piled modes rules n s tasks s
+    tasks ≡ record { next = 0; form = form; terms = terms; levels = levels; frames = s.until; mark = mark } ∷ [] → Piled modes rules n s tasks s
 first_piled modes rules s n form terms levels mark tasks h k b e =
-    subst (λ (ts : List TaskOf). Piled modes rules n s ts s) (sym e) (s, (grows_same modes rules s h, k, record { next = (omega arith); terms = b; frames = (omega arith) }, grows_same modes rules s h))
+    subst (λ (ts : List TaskOf). Piled modes rules n s ts s) (sym e) (s, (grows_same modes rules s h, k, record { next = (omega arith); terms = b; frames = h.until; until = (omega arith) }, grows_same modes rules s h))
 
 pub walked_as : (modes : Modes) (rules : List Rule) (old new : Store) (wanted : Option (Vec ℕ Global)) (budget : ℕ) (es fs : List (Event Answer)) (first last : ℕ) (r : Result EndingOf NoMemory) → es ≡ fs →
     IsWalked modes rules old new wanted budget es first last r → IsWalked modes rules old new wanted budget fs first last r

@@ -13,6 +13,10 @@ use Rattle.std.specs.Prelude.{
   length,
   get_or,
   slice_get,
+  nat_eq,
+  Bool,
+  true,
+  false,
   Option,
   Some,
   None,
@@ -96,10 +100,23 @@ abbrev pub frames_at : List (List Frame) → ℕ → List Frame
 frames_at fs zero = []
 frames_at fs (suc i) = get_or fs i []
 
--- the chain of a cell: its frame before the chain that it goes on from
-abbrev pub waiting_step : Modes → List Rule → List Assignment → List Proofs → List (List Frame) →
+-- the frame of a cell before the chain that it goes on from
+abbrev pub waiting_chain : Modes → List Rule → List Assignment → List Proofs → List (List Frame) →
     Waiting → List Frame
-waiting_step modes rules es ks fs c = frame_of modes rules es ks c ∷ frames_at fs c.before
+waiting_chain modes rules es ks fs c = frame_of modes rules es ks c ∷ frames_at fs c.before
+
+-- the chain, or none where the number is that at which answers are handed out
+abbrev pub chain_unless : Bool → List Frame → List Frame
+chain_unless true fs = []
+chain_unless false fs = fs
+
+-- the chain of a cell, whose number is one more than there are cells before it: that of the number
+-- at which answers are handed out is empty
+abbrev pub waiting_step : Modes → List Rule → ℕ → List Assignment → List Proofs →
+    List (List Frame) →
+    Waiting → List Frame
+waiting_step modes rules until es ks fs c =
+    chain_unless (nat_eq (suc (length fs)) until) (waiting_chain modes rules es ks fs c)
 
 -- the rule of a frame is there, and waits at a judgement premise
 abbrev pub WaitsAt : List Rule → Waiting → Type 0
@@ -107,20 +124,23 @@ WaitsAt rules c =
     (rule : Rule) × (j : Judgement) × (slice_get rules c.rule ≡ Some rule)
     × (slice_get rule.premises c.premise ≡ Some (holds j))
 
--- the cell waits at a judgement premise of its rule, and names only what stands before it
-pub record WaitingFits (rules : List Rule) (es : List Assignment) (ks : List Proofs)
+-- the cell waits at a judgement premise of its rule, and names only what stands before it; where it
+-- is past the number at which answers are handed out, it does not go on from before that
+pub record WaitingFits (rules : List Rule) (until : ℕ) (es : List Assignment) (ks : List Proofs)
     (fs : List (List Frame)) (c : Waiting) : Type 0 where
   pub waits : WaitsAt rules c
   pub env : c.env ≤ length es
   pub kids : c.kids ≤ length ks
   pub before : c.before ≤ length fs
+  pub above : until ≤ length fs → until ≤ c.before
 
 -- the chains that cells make, in order
-abbrev pub frames_of : Modes → List Rule → List Assignment → List Proofs → List Waiting →
+abbrev pub frames_of : Modes → List Rule → ℕ → List Assignment → List Proofs → List Waiting →
     List (List Frame)
-frames_of modes rules es ks cs = grown_from (waiting_step modes rules es ks) [] cs
+frames_of modes rules until es ks cs = grown_from (waiting_step modes rules until es ks) [] cs
 
 -- each cell fits those before it
-abbrev pub AreFrames : Modes → List Rule → List Assignment → List Proofs → List Waiting → Type 0
-AreFrames modes rules es ks cs =
-    CellsFit (waiting_step modes rules es ks) (WaitingFits rules es ks) [] cs
+abbrev pub AreFrames : Modes → List Rule → ℕ → List Assignment → List Proofs → List Waiting →
+    Type 0
+AreFrames modes rules until es ks cs =
+    CellsFit (waiting_step modes rules until es ks) (WaitingFits rules until es ks) [] cs

@@ -4,7 +4,6 @@ use Rattle.std.specs.Prelude.{
   ℕ,
   suc,
   ◌≤◌,
-  true,
   List,
   [],
   ◌∷◌,
@@ -14,6 +13,7 @@ use Rattle.std.specs.Prelude.{
   None,
   map,
   length,
+  reverse,
 }
 use Rattle.sx_rules.specs.Rules.{Judgement, Premise, Rule, Hypotheses}
 use Rattle.sx_rules.specs.Deep.{AreShallow}
@@ -26,7 +26,8 @@ use Rattle.sx_arena.specs.Pairs.{pairs_of, ArePairs}
 use Rattle.sx_arena.specs.declared.fact.Fact.{Fact}
 use Rattle.sx_arena.specs.declared.pairs.Pair.{Pair}
 use Rattle.sx_derive.specs.Candidates.{goal_in}
-use Rattle.sx_derive.specs.Quiet.{IsSilent}
+use Rattle.sx_derive.specs.Failing.{FailsAlong, PremisesFail, RulesFail}
+use Rattle.sx_derive.specs.Quiet.{IsQuiet}
 use Rattle.sx_derive.specs.Store.{store_trees, store_envs}
 use Rattle.sx_derive.specs.Stuck.{
   Reason as ReasonData,
@@ -76,6 +77,21 @@ abbrev pub blame_in : Store → Spot → Reason → Blame
 blame_in s spot reason =
     record { goal = spot_goal s spot; path = spot.path.items; reason = reason_in s reason }
 
+module _ (modes : Modes) (rules : List Rule) (hyps : Hypotheses) (levels : ℕ) where
+  -- the premises fail as the notes say, of which the first is that of the premise without an answer
+  abbrev pub PremisesFailAlong : List ℕ → List Premise → Assignment → Type 0
+  PremisesFailAlong notes ps env =
+      (k : ℕ) (ks : List ℕ) → notes ≡ k ∷ ks →
+      PremisesFail modes rules hyps (FailsAlong modes rules hyps levels)
+      (goal_events modes rules hyps levels) 0 k ks ps env
+
+  -- the goal fails among the rules as the notes say
+  abbrev pub RulesFailAlong : List ℕ → Goal → Type 0
+  RulesFailAlong notes goal =
+      (k : ℕ) (ks : List ℕ) → notes ≡ k ∷ ks →
+      RulesFail modes rules hyps (FailsAlong modes rules hyps levels)
+      (goal_events modes rules hyps levels) k ks rules goal
+
 module _ (modes subjects : Modes) (rules : List Rule) (hyps : Hypotheses) (budget levels : ℕ) where
   -- the premises of a rule from a number on lead to the blame
   abbrev pub PremisesLead : ℕ → Rule → Goal → List ℕ → ℕ → List Premise → Assignment → Blame →
@@ -91,14 +107,15 @@ module _ (modes subjects : Modes) (rules : List Rule) (hyps : Hypotheses) (budge
       path blame
 
   -- the blame is one that is led to, or whatever the goal below leads to is; its terms are no
-  -- deeper than 1,000, and neither a stop nor an answer stands among its events
-  abbrev pub IsDescent : Store → (Blame → Type 0) → Descent → Type 0
-  IsDescent s Leads (Stuck spot reason) =
+  -- deeper than 1,000, its events are quiet, and the notes, its own the last, say where it fails
+  abbrev pub IsDescent : Store → List ℕ → (Blame → Type 0) → Descent → Type 0
+  IsDescent s notes Leads (Stuck spot reason) =
       AreBelow (length (store_trees s)) spot.terms.items
       × ReasonBelow (length (store_trees s)) reason × Leads (blame_in s spot reason)
-  IsDescent s Leads (Below spot) =
+  IsDescent s notes Leads (Below spot) =
       AreBelow (length (store_trees s)) spot.terms.items × AreShallow (spot_goal s spot).terms
-      × IsSilent true budget (goal_events modes rules hyps levels (spot_goal s spot))
+      × IsQuiet budget (goal_events modes rules hyps levels (spot_goal s spot))
+      × FailsAlong modes rules hyps levels (spot_goal s spot) (reverse notes)
       × ((blame : Blame) →
       IsStuck modes subjects rules hyps levels (spot_goal s spot) spot.path.items blame →
       Leads blame)

@@ -1,5 +1,5 @@
 -- What a search is given: its rules, and its hypotheses by their numbers in a store.
-use Rattle.std.specs.Prelude.{ℕ, List}
+use Rattle.std.specs.Prelude.{ℕ, List, reverse}
 use Rattle.sx_rules.specs.Rules.{Judgement, Hypotheses}
 use Rattle.sx_rules.specs.Derivations.{Proofs}
 use Rattle.sx_rules.specs.declared.rule.Judgement.{Judgement as JudgementOf}
@@ -7,8 +7,17 @@ use Rattle.sx_arena.specs.Binds.{env_at}
 use Rattle.sx_arena.specs.Facts.{AreFacts}
 use Rattle.sx_arena.specs.Matching.{Assignment}
 use Rattle.sx_arena.specs.Views.{rules_of, set_modes, rule_of, judgement_of}
-use Rattle.sx_derive.specs.Asking.{asked_events, last_events}
-use Rattle.sx_derive.specs.Descents.{AreHyps, spot_goal, PremisesLead, RulesLead, IsDescent}
+use Rattle.sx_derive.specs.Asking.{asked_events, AskedFails}
+use Rattle.sx_derive.specs.Descents.{
+  AreHyps,
+  spot_goal,
+  PremisesFailAlong,
+  RulesFailAlong,
+  PremisesLead,
+  RulesLead,
+  IsDescent,
+}
+use Rattle.sx_derive.specs.Failing.{FailsAlong}
 use Rattle.sx_derive.specs.Store.{IsStore, StoreGrows, store_trees, store_envs}
 use Rattle.sx_derive.specs.Stuck.{Blame, IsStuck}
 use Rattle.sx_derive.specs.Walk.{Event, Answer, premise_events, goal_events, rules_events}
@@ -63,12 +72,29 @@ asked_by g js s env levels j =
     asked_events (set_modes g.rules.now) (rules_of g.rules.now) g.pairs.now js s env levels
     (judgement_of j)
 
--- the events of the premise where it is a rule's last one
-abbrev pub last_by : Given → List Judgement → Store → ℕ → ℕ → JudgementOf →
-    List (Event (Assignment × Proofs))
-last_by g js s env levels j =
-    last_events (set_modes g.rules.now) (rules_of g.rules.now) g.pairs.now js s env levels
+-- where that goal leads without an answer
+abbrev pub FailsBy : Given → List Judgement → Store → ℕ → ℕ → JudgementOf → List ℕ → Type 0
+FailsBy g js s env levels j =
+    AskedFails (set_modes g.rules.now) (rules_of g.rules.now) g.pairs.now js s env levels
     (judgement_of j)
+
+-- the premises of a candidate fail as the notes say, of which the last is that of the premise
+abbrev pub CandidateFails : Given → Hypotheses → ℕ → Store → Candidate → List ℕ → Type 0
+CandidateFails g hyps levels s c notes =
+    PremisesFailAlong (set_modes g.rules.now) (rules_of g.rules.now) hyps levels (reverse notes)
+    (rule_of c.rule.now).premises (env_at (store_envs s) c.env)
+
+-- the goal fails among the rules as the notes say, of which the last is its own
+abbrev pub RulesFailBy : Given → Hypotheses → ℕ → Store → Spot → List ℕ → Type 0
+RulesFailBy g hyps levels s spot notes =
+    RulesFailAlong (set_modes g.rules.now) (rules_of g.rules.now) hyps levels (reverse notes)
+    (spot_goal s spot)
+
+-- the goal, with that many levels, its own counted, fails as the notes say
+abbrev pub GoalFails : Given → Hypotheses → ℕ → Store → Spot → List ℕ → Type 0
+GoalFails g hyps levels s spot notes =
+    FailsAlong (set_modes g.rules.now) (rules_of g.rules.now) hyps levels (spot_goal s spot)
+    (reverse notes)
 
 -- the premises of a goal's candidate lead to the blame
 abbrev pub CandidateLeads : Given → Hypotheses → Bounds → Store → Spot → Candidate → Blame → Type 0
@@ -89,8 +115,10 @@ IsStuckBy g hyps levels s spot =
     IsStuck (set_modes g.rules.now) (subject_modes g.rules.now) (rules_of g.rules.now) hyps levels
     (spot_goal s spot) spot.path.items
 
--- the descent is to a blame that is led to, or to a goal from which all that is led to is
-abbrev pub DescendsTo : Given → Hypotheses → Bounds → Store → (Blame → Type 0) → Descent → Type 0
-DescendsTo g hyps bounds s Leads =
+-- the descent is to a blame that is led to, or to a goal from which all that is led to is, and
+-- which fails as the notes say
+abbrev pub DescendsTo : Given → Hypotheses → Bounds → Store → List ℕ → (Blame → Type 0) →
+    Descent → Type 0
+DescendsTo g hyps bounds s notes Leads =
     IsDescent (set_modes g.rules.now) (subject_modes g.rules.now) (rules_of g.rules.now) hyps
-    bounds.budget bounds.levels s Leads
+    bounds.budget bounds.levels s notes Leads

@@ -10,7 +10,7 @@ use Rattle.sx_arena.specs.declared.pairs.Pair.{Pair}
 use Rattle.sx_derive.specs.declared.step.Step.{Step}
 use Rattle.sx_derive.specs.declared.store.Store.{Store}
 use Rattle.sx_arena.specs.Arena.{tree_at}
-use Rattle.sx_derive.specs.Chains.{head_proof, frames_at, waiting_step, WaitingFits}
+use Rattle.sx_derive.specs.Chains.{head_proof, frames_at, waiting_chain, WaitingFits}
 use Rattle.sx_arena.specs.Pairs.{pairs_of}
 use Rattle.sx_derive.specs.Store.{StoreGrows, store_trees, store_envs, store_kids, store_frames}
 use Rattle.sx_derive.specs.Step.{IsSearchStep}
@@ -31,12 +31,12 @@ frames_in modes rules s i = frames_at (store_frames modes rules s) i
 -- the frame of a cell, and those behind it
 abbrev pub waiting_in : Modes → List Rule → Store → Waiting → List Frame
 waiting_in modes rules s c =
-    waiting_step modes rules (store_envs s) (store_kids s) (store_frames modes rules s) c
+    waiting_chain modes rules (store_envs s) (store_kids s) (store_frames modes rules s) c
 
 -- the cell may stand in the store
 abbrev pub IsWaitingCell : Modes → List Rule → Store → Waiting → Type 0
 IsWaitingCell modes rules s c =
-    WaitingFits rules (store_envs s) (store_kids s) (store_frames modes rules s) c
+    WaitingFits rules s.until (store_envs s) (store_kids s) (store_frames modes rules s) c
 
 -- what comes of the answer at the frame of the cell, where the frames behind it say what becomes of
 -- the next

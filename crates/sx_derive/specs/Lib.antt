@@ -17,7 +17,8 @@ pub mod Turns
 pub mod Walked
 pub mod Problems
 pub mod Quiet
-pub mod Open
+pub mod Failing
+pub mod Noted
 pub mod Asking
 pub mod Ways
 pub mod Descents
@@ -26,3 +27,6 @@ pub mod Blames
 pub mod Deriving
 pub mod Listing
 pub mod Resumable
+pub mod Runs
+pub mod Traced
+pub mod Tracing

@@ -45,7 +45,7 @@ IsSearchStep modes rules js s next (Done head outputs) r =
     ))
 IsSearchStep modes rules js s next (Goes form terms levels frames) r =
     AreBelow (length (store_trees s)) terms.items × (frames ≤ length (store_frames modes rules s))
-    × (r ≡ goes_on
+    × (s.until ≤ frames) × (r ≡ goes_on
     (hypotheses_from 0 js levels
     (record { form = form; terms = map (tree_at (store_trees s)) terms.items })
     (frames_at (store_frames modes rules s) frames)))

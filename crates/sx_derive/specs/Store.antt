@@ -1,5 +1,5 @@
 -- The store of a search as plain data, and how it grows.
-use Rattle.std.specs.Prelude.{◌≡◌, ℕ, List, length, take}
+use Rattle.std.specs.Prelude.{◌≡◌, ℕ, ◌≤◌, List, length, take}
 use Rattle.sx_term.specs.Tree.{Tree}
 use Rattle.sx_arena.specs.Matching.{Assignment}
 use Rattle.sx_rules.specs.Rules.{Rule}
@@ -28,17 +28,19 @@ store_kids s = kid_chains (store_envs s) s.kids.items
 
 -- its chains of frames
 abbrev pub store_frames : Modes → List Rule → Store → List (List Frame)
-store_frames modes rules s = frames_of modes rules (store_envs s) (store_kids s) s.frames.items
+store_frames modes rules s =
+    frames_of modes rules s.until (store_envs s) (store_kids s) s.frames.items
 
--- each cell refers to earlier ones
+-- each cell refers to earlier ones, and the frame at which answers are handed out is there
 pub record IsStore (modes : Modes) (rules : List Rule) (s : Store) : Type 0 where
   pub arena : IsArena s.arena
   pub binds : IsBinds (trees s.arena) s.binds
   pub kids : AreKids (store_envs s) s.kids.items
-  pub frames : AreFrames modes rules (store_envs s) (store_kids s) s.frames.items
+  pub frames : AreFrames modes rules s.until (store_envs s) (store_kids s) s.frames.items
+  pub until : s.until ≤ length s.frames.items
 
--- the store goes on from the other: what was named before stands for the same, and bindings, proofs
--- and frames stay where they are
+-- the store goes on from the other: what was named before stands for the same, bindings, proofs and
+-- frames stay where they are, and answers are handed out at the same frame
 pub record StoreGrows (modes : Modes) (rules : List Rule) (old new : Store) : Type 0 where
   pub store : IsStore modes rules new
   pub trees : Extends (store_trees old) (store_trees new)
@@ -48,6 +50,7 @@ pub record StoreGrows (modes : Modes) (rules : List Rule) (old new : Store) : Ty
   pub bind_cells : Extends old.binds.cells.items new.binds.cells.items
   pub kid_cells : Extends old.kids.items new.kids.items
   pub frame_cells : Extends old.frames.items new.frames.items
+  pub until : new.until ≡ old.until
 
 -- the store has the terms at the numbers, and only terms are new in it
 pub record AreMadeInStore (old new : Store) (numbers : List ℕ) (ts : List Tree) : Type 0 where
@@ -55,6 +58,7 @@ pub record AreMadeInStore (old new : Store) (numbers : List ℕ) (ts : List Tree
   pub binds : new.binds ≡ old.binds
   pub kids : new.kids.items ≡ old.kids.items
   pub frames : new.frames.items ≡ old.frames.items
+  pub until : new.until ≡ old.until
 
 -- the store ends at the mark
 pub record IsMark (s : Store) (m : Mark) : Type 0 where
@@ -69,6 +73,7 @@ pub record IsChainsCut (m : Mark) (old new : Store) : Type 0 where
   pub binds : new.binds.cells.items ≡ take m.binds old.binds.cells.items
   pub kids : new.kids.items ≡ take m.kids old.kids.items
   pub frames : new.frames.items ≡ take m.frames old.frames.items
+  pub until : new.until ≡ old.until
 
 -- the terms and the chains are cut at the mark
 pub record IsStoreCut (m : Mark) (old new : Store) : Type 0 where
@@ -77,3 +82,4 @@ pub record IsStoreCut (m : Mark) (old new : Store) : Type 0 where
   pub binds : new.binds.cells.items ≡ take m.binds old.binds.cells.items
   pub kids : new.kids.items ≡ take m.kids old.kids.items
   pub frames : new.frames.items ≡ take m.frames old.frames.items
+  pub until : new.until ≡ old.until

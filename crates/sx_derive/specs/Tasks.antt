@@ -94,6 +94,7 @@ pub record TaskFits (modes : Modes) (rules : List Rule) (s : Store) (candidates 
   pub next : t.next ≤ candidates
   pub terms : AreBelow (length (store_trees s)) t.terms.items
   pub frames : t.frames ≤ length s.frames.items
+  pub until : s.until ≤ t.frames
 
 -- each task may stand in the store
 abbrev pub TasksFit : Modes → List Rule → Store → ℕ → List TaskOf → Type 0

@@ -29,9 +29,3 @@ IsWalked modes rules old new wanted budget es first last (Ok ending) =
     × (last ≡ first + tries_of (wanted_in old wanted) budget es)
 IsWalked modes rules old new wanted budget es first last (Err e) =
     (first ≤ last) × (last ≤ first + tries_of (wanted_in old wanted) budget es)
-
--- the ending is how the walk ends
-abbrev pub IsWalkedTo : Modes → List Rule → Store → Store → Option (Vec ℕ Global) → ℕ →
-    List (Event Answer) → EndingOf → Type 0
-IsWalkedTo modes rules old new wanted budget es ending =
-    StoreGrows modes rules old new × IsEnding new ending (walk (wanted_in old wanted) budget es)

@@ -1,8 +1,5 @@
--- Ways to variables, and the subjects of judgements.
-use Rattle.std.specs.Prelude.{◌≡◌, ℕ, Bool, true, false, List, [], ◌∷◌, ◌++◌, Option, Some, None}
-use Rattle.sx_term.specs.declared.term.Term.{Term}
-use Rattle.sx_term.specs.Tree.{Tree}
-use Rattle.sx_term.specs.Term.{tree}
+-- Ways to variables, and which places of forms are subjects.
+use Rattle.std.specs.Prelude.{◌≡◌, ℕ, Bool, true, false, List, ◌++◌, Option, Some, None}
 use Rattle.sx_rules.specs.declared.rule_set.RuleSet.{RuleSet}
 use Rattle.sx_rules.specs.Modes.{Modes}
 use Rattle.sx_rules.specs.Views.{forms, subjects_in}
@@ -15,8 +12,3 @@ subject_modes set = subjects_in (forms set.forms.items)
 abbrev pub IsWay : List ℕ → List ℕ → Option (List ℕ) → Bool → Type 0
 IsWay old new None found = (found ≡ false) × (new ≡ old)
 IsWay old new (Some way) found = (found ≡ true) × (new ≡ old ++ way)
-
--- the first of the terms, where there is one
-abbrev pub IsFirstTerm : List Tree → Option Term → Type 0
-IsFirstTerm ts None = ts ≡ []
-IsFirstTerm ts (Some t) = (rest : List Tree) × (ts ≡ tree t ∷ rest)

@@ -15,11 +15,13 @@ ghost use Rattle.sx_derive.specs.Givens.{
   HasHyps,
   events_by,
   rules_events_by,
+  RulesFailBy,
+  GoalFails,
   GoalLeads,
   IsStuckBy,
   DescendsTo,
 };
-ghost use Rattle.sx_derive.specs.Quiet.{IsSilent};
+ghost use Rattle.sx_derive.specs.Quiet.{IsQuiet};
 ghost use Rattle.sx_derive.specs.Store.{IsStore, StoreGrows, store_trees};
 ghost use Rattle.sx_derive.specs.Stuck.{rule_match};
 
@@ -44,7 +46,7 @@ fn has_inputs(fact: &Fact, form: u32, terms: &[usize]) -> bool
 }
 
 /// The first fact of the form with the inputs.
-fn first_fact<'a>(facts: &'a [Fact], form: u32, terms: &[usize]) -> Option<&'a Fact>
+pub(crate) fn first_fact<'a>(facts: &'a [Fact], form: u32, terms: &[usize]) -> Option<&'a Fact>
     ensures { IsFirstFact form terms.entry.now facts.entry.now (option_map (λ f. f.now) result) }
 {
     for i in 0..facts.len() {
@@ -82,7 +84,7 @@ fn rule_fit(
 }
 
 /// The first rule of the form whose inputs match the terms, and the chain that states the match.
-fn first_rule(
+pub(crate) fn first_rule(
     rules: &RuleSet,
     store: &mut Store,
     form: u32,
@@ -107,24 +109,23 @@ fn first_rule(
     Ok(None)
 }
 
-/// Where the rules lead from a goal that is no hypothesis, of which it may be known that it has no
-/// answer.
+/// Where the rules lead from a goal that is no hypothesis, along the notes.
 fn descend_rules(
     given: &Given,
     store: &mut Store,
     spot: Spot,
     bounds: Bounds,
-    known: bool,
+    notes: &mut Vec<usize>,
 ) -> Result<Descent, NoMemory>
     requires few { length given.now.facts.now < 2 ^ 32 }
     requires store { IsStoreOf given.now store.old }
     requires terms { AreBelow (length (store_trees store.old)) spot.terms.items }
     requires quiet { (hyps : Hypotheses) × HasHyps given.now store.old hyps
-        × IsSilent known bounds.budget
-        (rules_events_by given.now hyps bounds.levels store.old spot) }
+        × IsQuiet bounds.budget (rules_events_by given.now hyps bounds.levels store.old spot)
+        × RulesFailBy given.now hyps bounds.levels store.old spot notes.old.items }
     ensures grows { IfOk result (λ _. GrowsIn given.now store.old store.new) }
     ensures descent { IfOk result (λ d. (hyps : Hypotheses) → HasHyps given.now store.old hyps →
-        DescendsTo given.now hyps bounds store.new
+        DescendsTo given.now hyps bounds store.new notes.new.items
         (GoalLeads given.now hyps bounds store.old spot) d) }
 {
     let rules = given.rules;
@@ -137,28 +138,29 @@ fn descend_rules(
         Some((number, env)) => {
             let rule = rule_at(rules, number);
             let candidate = Candidate { rule, number, env };
-            descend_premises(given, store, &candidate, spot, bounds, known)
+            descend_premises(given, store, &candidate, spot, bounds, notes)
         }
     }
 }
 
-/// Where a goal leads that has no answer, which may be known, or none that is wanted.
+/// Where a goal leads that has no answer, or none that is wanted. The notes say which premises have
+/// no answer, the goal's own the last; those that are left are of the goal below.
 pub(crate) fn descend(
     given: &Given,
     store: &mut Store,
     spot: Spot,
     bounds: Bounds,
-    known: bool,
+    notes: &mut Vec<usize>,
 ) -> Result<Descent, NoMemory>
     requires few { length given.now.facts.now < 2 ^ 32 }
     requires store { IsStoreOf given.now store.old }
     requires terms { AreBelow (length (store_trees store.old)) spot.terms.items }
     requires quiet { (hyps : Hypotheses) × HasHyps given.now store.old hyps
-        × IsSilent known bounds.budget
-        (events_by given.now hyps (suc bounds.levels) store.old spot) }
+        × IsQuiet bounds.budget (events_by given.now hyps (suc bounds.levels) store.old spot)
+        × GoalFails given.now hyps (suc bounds.levels) store.old spot notes.old.items }
     ensures grows { IfOk result (λ _. GrowsIn given.now store.old store.new) }
     ensures descent { IfOk result (λ d. (hyps : Hypotheses) → HasHyps given.now store.old hyps →
-        DescendsTo given.now hyps bounds store.new
+        DescendsTo given.now hyps bounds store.new notes.new.items
         (IsStuckBy given.now hyps (suc bounds.levels) store.old spot) d) }
 {
     given.rules.facts();
@@ -170,6 +172,6 @@ pub(crate) fn descend(
                 reason: Reason::Mismatch { by: None, got },
             })
         }
-        None => descend_rules(given, store, spot, bounds, known),
+        None => descend_rules(given, store, spot, bounds, notes),
     }
 }

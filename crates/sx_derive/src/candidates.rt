@@ -34,6 +34,7 @@ pub(crate) fn try_rule(
     requires store { IsStoreOf given.now store.old }
     requires pairs { ArePairs (length (store_trees store.old)) given.now.pairs.now }
     requires frames { task.now.frames ≤ length store.old.frames.items }
+    requires until { store.old.until ≤ task.now.frames }
     requires terms { AreBelow (length (store_trees store.old)) task.now.terms.items }
     ensures { IfOk result (λ step. (rule : Rule) →
         slice_get (rules_of given.now.rules.now) number ≡ Some rule →
@@ -82,6 +83,7 @@ pub(crate) fn try_given(
     requires store { IsStoreOf given.now store.old }
     requires pairs { ArePairs (length (store_trees store.old)) given.now.pairs.now }
     requires frames { task.now.frames ≤ length store.old.frames.items }
+    requires until { store.old.until ≤ task.now.frames }
     requires terms { AreBelow (length (store_trees store.old)) task.now.terms.items }
     requires fact { (j : Judgement)
         × IsFact (set_modes given.now.rules.now) (store_trees store.old) j fact.now }

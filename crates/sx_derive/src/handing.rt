@@ -64,7 +64,8 @@ fn resume(
     }
 }
 
-/// What comes of an answer that is handed to the frames of a chain.
+/// What comes of an answer that is handed to the frames of a chain, up to that at which answers are
+/// handed out.
 pub(crate) fn hand_on(
     given: &Given,
     store: &mut Store,
@@ -76,6 +77,7 @@ pub(crate) fn hand_on(
     requires store { IsStoreOf given.now store.old }
     requires pairs { ArePairs (length (store_trees store.old)) given.now.pairs.now }
     requires frames { frames ≤ length store.old.frames.items }
+    requires until { store.old.until ≤ frames }
     requires head { HeadFits (length (store_envs store.old)) (length (store_kids store.old)) head }
     requires outputs { AreBelow (length (store_trees store.old)) outputs.items }
     ensures { IfOk result
@@ -86,7 +88,7 @@ pub(crate) fn hand_on(
     let mut head = head;
     let mut outputs = outputs;
     let mut waiting = frames;
-    while waiting > 0 {
+    while waiting > store.until {
         let frame = store.frames[waiting - 1];
         match resume(given, store, frame, head, &outputs)? {
             Step::Done {

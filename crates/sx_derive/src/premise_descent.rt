@@ -1,6 +1,6 @@
 //! The first premise of a goal's first candidate that fails.
 
-ghost use Rattle.std.specs.Prelude.{◌≡◌, ◌^◌, ◌≤◌, ◌<◌, IfOk, Some, length, map};
+ghost use Rattle.std.specs.Prelude.{◌≡◌, ◌↔◌, IsTrue, ◌^◌, ◌≤◌, ◌<◌, IfOk, Some, length, map};
 ghost use Rattle.sx_term.specs.Term.{tree};
 ghost use Rattle.sx_rules.specs.Deep.{AreShallow, RuleIsShallow};
 ghost use Rattle.sx_rules.specs.Rules.{Hypotheses};
@@ -12,41 +12,43 @@ ghost use Rattle.sx_derive.specs.Givens.{
   GrowsIn,
   HasHyps,
   candidate_events,
+  CandidateFails,
   CandidateLeads,
   DescendsTo,
 };
-ghost use Rattle.sx_derive.specs.Quiet.{IsSilent};
+ghost use Rattle.sx_derive.specs.Quiet.{IsQuiet};
 ghost use Rattle.sx_derive.specs.Store.{store_trees};
 ghost use Rattle.sx_derive.specs.Ways.{subject_modes};
 ghost use Rattle.sx_derive.specs.declared.descent.Descent.TheVariants.{Stuck};
 ghost use Rattle.sx_derive.specs.declared.descent.Reason.TheVariants.{Equal, Mismatch};
 
-use crate::ask::{Asked, ask_known};
+use crate::ask::{Asked, ask};
 use crate::bounds::Bounds;
 use crate::candidate::Candidate;
 use crate::descent::{Descent, Reason, Spot};
 use crate::given::Given;
-use crate::made_places::made_outputs;
+use crate::made_places::{made_inputs, made_outputs};
 use crate::store::Store;
 use crate::subject_way::put_premise_way;
 use sx_arena::{Chain, instances_apart};
 use sx_rules::{Judgement, Premise, Rule, RuleSet};
 use sx_term::NoMemory;
 
-/// The goal of a premise with these terms, at its path.
+/// The goal of a premise with these terms, at its path from that of the rule's goal.
 fn premise_spot(
     rules: &RuleSet,
     rule: &Rule,
     premise: &Judgement,
     terms: Vec<usize>,
-    path: Vec<usize>,
+    spot: Spot,
 ) -> Result<Spot, NoMemory>
     requires shallow { AreShallow (map tree rule.now.conclusion.places.items) }
     ensures { IfOk result
         (λ s. IsPremiseSpot (subject_modes rules.now) (rule_of rule.now) (judgement_of premise.now)
-        terms.items path.items s) }
+        terms.items spot.path.items s) }
 {
-    let mut path = path;
+    drop(spot.terms);
+    let mut path = spot.path;
     put_premise_way(rules, rule, premise, &mut path)?;
     Ok(Spot {
         form: premise.form,
@@ -88,15 +90,25 @@ fn unwanted(spot: Spot, got: Vec<usize>) -> Descent
     }
 }
 
-/// Where the premises of a goal's first candidate lead, gone through with first answers. It may be
-/// known that the goal has no answer.
+/// Whether it is the number that is noted.
+fn is_noted(noted: Option<usize>, number: usize) -> bool
+    ensures { IsTrue result ↔ (noted ≡ Some number) }
+{
+    match noted {
+        Some(it) => it == number,
+        None => false,
+    }
+}
+
+/// Where the premises of a goal's first candidate lead, gone through with first answers. The last
+/// note is the number of the premise without an answer, which is not asked; it is taken off.
 pub(crate) fn descend_premises(
     given: &Given,
     store: &mut Store,
     candidate: &Candidate,
     spot: Spot,
     bounds: Bounds,
-    known: bool,
+    notes: &mut Vec<usize>,
 ) -> Result<Descent, NoMemory>
     requires few { length given.now.facts.now < 2 ^ 32 }
     requires store { IsStoreOf given.now store.old }
@@ -104,16 +116,17 @@ pub(crate) fn descend_premises(
     requires env { candidate.now.env ≤ length store.old.binds.cells.items }
     requires terms { AreBelow (length (store_trees store.old)) spot.terms.items }
     requires quiet { (hyps : Hypotheses) × HasHyps given.now store.old hyps
-        × IsSilent known bounds.budget
-        (candidate_events given.now hyps bounds.levels store.old candidate.now) }
+        × IsQuiet bounds.budget
+        (candidate_events given.now hyps bounds.levels store.old candidate.now)
+        × CandidateFails given.now hyps bounds.levels store.old candidate.now notes.old.items }
     ensures grows { IfOk result (λ _. GrowsIn given.now store.old store.new) }
     ensures descent { IfOk result (λ d. (hyps : Hypotheses) → HasHyps given.now store.old hyps →
-        DescendsTo given.now hyps bounds store.new
+        DescendsTo given.now hyps bounds store.new notes.new.items
         (CandidateLeads given.now hyps bounds store.old spot candidate.now) d) }
 {
-    let rules = given.rules;
+    given.rules.facts();
     let rule = candidate.rule;
-    rules.facts();
+    let noted = notes.pop();
     let mut env = candidate.env;
     let pairs = given.pairs;
     for k in 0..rule.premises.len() {
@@ -128,17 +141,20 @@ pub(crate) fn descend_premises(
                 }
             }
             Premise::Holds(judgement) => {
-                let last = known && k + 1 == rule.premises.len();
-                match ask_known(given, store, judgement, env, bounds, last)? {
+                if is_noted(noted, k) {
+                    let terms = made_inputs(given, store, judgement, env)?;
+                    let kid = premise_spot(given.rules, rule, judgement, terms, spot)?;
+                    return Ok(Descent::Below(kid));
+                }
+                match ask(given, store, judgement, env, bounds)? {
                     Asked::Matched(next) => env = next,
-                    Asked::Unanswered(terms) => {
-                        drop(spot.terms);
-                        let kid = premise_spot(rules, rule, judgement, terms, spot.path)?;
+                    Asked::Unanswered { terms, further } => {
+                        *notes = further;
+                        let kid = premise_spot(given.rules, rule, judgement, terms, spot)?;
                         return Ok(Descent::Below(kid));
                     }
                     Asked::Differs { terms, got } => {
-                        drop(spot.terms);
-                        let kid = premise_spot(rules, rule, judgement, terms, spot.path)?;
+                        let kid = premise_spot(given.rules, rule, judgement, terms, spot)?;
                         return Ok(differs(kid, candidate.number, k, got));
                     }
                 }

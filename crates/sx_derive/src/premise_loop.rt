@@ -31,6 +31,7 @@ pub(crate) fn premises(
     requires env { from.env ≤ length store.old.binds.cells.items }
     requires kids { from.kids ≤ length store.old.kids.items }
     requires frames { from.before ≤ length store.old.frames.items }
+    requires until { store.old.until ≤ from.before }
     ensures { IfOk result
         (λ step. IsPremises (set_modes given.now.rules.now) (rules_of given.now.rules.now)
         given.now.pairs.now store.old store.new from.rule (rule_of rule.now) from.levels from.env

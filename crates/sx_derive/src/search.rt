@@ -78,6 +78,7 @@ impl Search {
                 terms: problem.terms,
                 levels: LEVELS_BELOW,
             },
+            problem.store.until,
             mark,
         )?;
         Ok(Search {

@@ -84,6 +84,7 @@ pub(crate) fn asked(
     requires env { waiting.env ≤ length store.old.binds.cells.items }
     requires kids { waiting.kids ≤ length store.old.kids.items }
     requires before { waiting.before ≤ length store.old.frames.items }
+    requires until { store.old.until ≤ waiting.before }
     ensures { IfOk result
         (λ step. IsAsked (set_modes given.now.rules.now) (rules_of given.now.rules.now) store.old
         store.new

@@ -9,13 +9,15 @@ use crate::chains::{Kid, Waiting};
 use std::alloc::Global;
 use sx_arena::{Arena, Binds};
 
-/// The terms, bindings, proofs and frames of a search.
+/// The terms, bindings, proofs and frames of a search, and the number of the frame at which answers
+/// are handed out; 0 where they are handed to all frames that wait.
 #[derive(Drop)]
 pub struct Store {
     pub(crate) arena: Arena,
     pub(crate) binds: Binds,
     pub(crate) kids: Vec<Kid>,
     pub(crate) frames: Vec<Waiting>,
+    pub(crate) until: usize,
 }
 
 /// Where a store ends: numbers of terms, bindings, proofs and frames.
@@ -37,6 +39,7 @@ impl Store {
             binds: Binds::new(alloc),
             kids: Vec::new(alloc),
             frames: Vec::new(alloc),
+            until: 0,
         }
     }
 

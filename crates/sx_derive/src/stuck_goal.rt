@@ -1,6 +1,6 @@
 //! The stuck goal of a goal without an answer.
 
-ghost use Rattle.std.specs.Prelude.{◌≡◌, false, ◌^◌, ◌<◌, [], IfOk, length, None};
+ghost use Rattle.std.specs.Prelude.{◌≡◌, ◌^◌, ◌<◌, [], IfOk, length, None};
 ghost use Rattle.sx_rules.specs.Deep.{AreShallow};
 ghost use Rattle.sx_rules.specs.Derivations.{ShallowJudgements};
 ghost use Rattle.sx_rules.specs.Rules.{Hypotheses};
@@ -12,7 +12,7 @@ ghost use Rattle.sx_derive.specs.Blames.{blame_of, cause_of};
 ghost use Rattle.sx_derive.specs.Candidates.{goal_in};
 ghost use Rattle.sx_derive.specs.Descents.{reason_in, ReasonBelow, blame_in};
 ghost use Rattle.sx_derive.specs.Givens.{IsStoreOf, HasHyps, events_by, IsStuckBy};
-ghost use Rattle.sx_derive.specs.Quiet.{IsQuiet, IsSilent};
+ghost use Rattle.sx_derive.specs.Quiet.{IsQuiet};
 ghost use Rattle.sx_derive.specs.Store.{store_trees};
 ghost use Rattle.sx_derive.specs.Stuck.{IsStuck};
 ghost use Rattle.sx_derive.specs.Walk.{events};
@@ -73,7 +73,8 @@ fn export_blame(alloc: Global, store: &Store, spot: Spot, reason: Reason) -> Res
     })
 }
 
-/// The stuck goal that a goal without an answer leads to, level by level in one store.
+/// The stuck goal that a goal without an answer leads to, level by level in one store. What is
+/// noted of one level serves the next.
 fn stuck_below(
     given: &Given,
     store: &mut Store,
@@ -84,30 +85,25 @@ fn stuck_below(
     requires store { IsStoreOf given.now store.old }
     requires terms { AreBelow (length (store_trees store.old)) first.terms.items }
     requires quiet { (hyps : Hypotheses) × HasHyps given.now store.old hyps
-        × IsSilent false bounds.budget (events_by given.now hyps bounds.levels store.old first) }
+        × IsQuiet bounds.budget (events_by given.now hyps bounds.levels store.old first) }
     ensures { IfOk result (λ b. (hyps : Hypotheses) → HasHyps given.now store.old hyps →
         IsStuckBy given.now hyps bounds.levels store.old first (blame_of b)) }
 {
     let mut here = first;
     let mut left = bounds.levels;
-    let mut known = false;
+    let mut notes = Vec::new(given.alloc);
     while left > 0 {
         left -= 1;
         let below = Bounds {
             levels: left,
             budget: bounds.budget,
         };
-        match descend(given, store, here, below, known)? {
-            Descent::Stuck { spot, reason } => return export_blame(
-                given.alloc,
-                store,
-                spot,
-                reason,
-            ),
-            Descent::Below(next) => {
-                here = next;
-                known = true;
+        match descend(given, store, here, below, &mut notes)? {
+            Descent::Stuck { spot, reason } => {
+                drop(notes);
+                return export_blame(given.alloc, store, spot, reason);
             }
+            Descent::Below(next) => here = next,
         }
     }
     unreachable!()

@@ -8,7 +8,7 @@ ghost use Rattle.sx_derive.specs.Givens.{IsStoreOf, HasFacts};
 ghost use Rattle.sx_derive.specs.Store.{store_trees};
 ghost use Rattle.sx_derive.specs.Tasks.{events_left, Piled, TasksFit, WantedBelow};
 ghost use Rattle.sx_derive.specs.Turns.{IsTaskPopped};
-ghost use Rattle.sx_derive.specs.Walked.{events_in, IsWalked, IsWalkedTo};
+ghost use Rattle.sx_derive.specs.Walked.{events_in, IsWalked};
 ghost use Rattle.sx_arena.specs.Views.{rules_of, set_modes};
 
 use crate::given::Given;
@@ -88,50 +88,11 @@ fn walk_tasks<L: Ledger>(
     Ok(Ending::Exhausted)
 }
 
-/// How the walk of what is left of the tasks ends, where no try is counted.
-pub(crate) fn walk_uncounted(
-    given: &Given,
-    store: &mut Store,
-    wanted: &Option<Vec<usize>>,
-    tasks: Vec<Task>,
-    budget: u64,
-) -> Result<Ending, NoMemory>
-    requires few { length given.now.facts.now < 2 ^ 32 }
-    requires facts { (js : List Judgement) × HasFacts given.now store.old js }
-    requires store { IsStoreOf given.now store.old }
-    requires pairs { ArePairs (length (store_trees store.old)) given.now.pairs.now }
-    requires wanted { WantedBelow (length (store_trees store.old)) wanted.now }
-    requires tasks { Piled (set_modes given.now.rules.now) (rules_of given.now.rules.now)
-        (length given.now.facts.now + length (rules_of given.now.rules.now)) store.old tasks.items
-        store.old }
-    ensures { IfOk result (λ ending. (js : List Judgement) → HasFacts given.now store.old js →
-        IsWalkedTo (set_modes given.now.rules.now) (rules_of given.now.rules.now) store.old
-        store.new
-        wanted.now budget (events_left (set_modes given.now.rules.now)
-        (rules_of given.now.rules.now)
-        given.now.pairs.now js store.old tasks.items) ending) }
-{
-    let mut tasks = tasks;
-    let mut left = budget;
-    while let Some(task) = next_task(given, store, &mut tasks, &mut left) {
-        if left == 0 {
-            return Ok(Ending::Spent);
-        }
-        left -= 1;
-        store.cut(task.mark);
-        match turn(given, store, wanted, task, &mut tasks) {
-            Err(e) => return Err(e),
-            Ok(None) => {}
-            Ok(Some(ending)) => return Ok(ending),
-        }
-    }
-    Ok(Ending::Exhausted)
-}
-
-/// The task of a goal, no candidate of which is tried.
+/// The task of a goal for whose answers those frames wait, no candidate of which is tried.
 pub(crate) fn first_task(
     alloc: Global,
     goal: NumberedGoal,
+    frames: usize,
     mark: Mark,
 ) -> Result<Vec<Task>, NoMemory>
     ensures { IfOk result (λ r. r.items ≡ record {
@@ -139,7 +100,7 @@ pub(crate) fn first_task(
       form = goal.form;
       terms = goal.terms;
       levels = goal.levels;
-      frames = 0;
+      frames = frames;
       mark = mark;
     } ∷ []) }
 {
@@ -149,7 +110,7 @@ pub(crate) fn first_task(
         levels,
     } = goal;
     let mut tasks = Vec::new(alloc);
-    tasks.push(new_task(form, terms, levels, 0, mark))?;
+    tasks.push(new_task(form, terms, levels, frames, mark))?;
     Ok(tasks)
 }
 
@@ -176,7 +137,7 @@ pub(crate) fn walk<L: Ledger>(
         js store.old goal.levels goal.form goal.terms.items) steps.old steps.new result }
 {
     let mark = store.mark();
-    match first_task(given.alloc, goal, mark) {
+    match first_task(given.alloc, goal, store.until, mark) {
         Err(e) => Err(e),
         Ok(tasks) => walk_tasks(given, store, wanted, tasks, budget, steps),
     }

@@ -17,4 +17,4 @@ returns c =
     (subst (λ js. AreFactsIn (set_modes c.args.rules.now) c.args.store.now.arena c.enter_facts.new.arena (map judgement_of js) c.in_ok-facts.facts.items) c.deref.ensures.value c.in_ok-facts.ensures)
     (subst (λ ps. ArePairsIn c.enter_facts.new.arena c.enter_pairs.new.arena (map pair ps) c.in_ok-pairs.pairs.items) c.deref-2.ensures.value c.in_ok-pairs.ensures)
     (held_as _ _ _ _ _ (ap (map tree) c.deref-3.ensures.value) c.in_ok-terms.ensures)
-    c.in_ok-wanted.ensures refl refl refl
+    c.in_ok-wanted.ensures refl refl refl refl

@@ -48,9 +48,9 @@ premises-requires-clause-shallow c = shallow_at _ _ _ c.requires.shallow c.rule_
 pub premises-requires-clause-store : goal.premises-requires-clause-store
 premises-requires-clause-store c =
     let s = c.args.store.now in
-    let t : Store = record { arena = s.arena; binds = c.fit_places.new.binds; kids = s.kids; frames = s.frames } in
-    kid_store (set_modes c.args.given.now.rules.now) (rules_of c.args.given.now.rules.now) s t (record { arena = s.arena; binds = c.fit_places.new.binds; kids = c.push_kid.new.kids; frames = s.frames }) c.args.frame c.args.head
-    c.requires.store c.requires.frame c.requires.head c.in_ok-fit-in-Holds.ensures.grows refl refl refl refl refl c.in_ok-kids-in-Some.ensures.items refl
+    let t : Store = record { arena = s.arena; binds = c.fit_places.new.binds; kids = s.kids; frames = s.frames; until = s.until } in
+    kid_store (set_modes c.args.given.now.rules.now) (rules_of c.args.given.now.rules.now) s t (record { arena = s.arena; binds = c.fit_places.new.binds; kids = c.push_kid.new.kids; frames = s.frames; until = s.until }) c.args.frame c.args.head
+    c.requires.store c.requires.frame c.requires.head c.in_ok-fit-in-Holds.ensures.grows refl refl refl refl refl refl c.in_ok-kids-in-Some.ensures.items refl refl
 
 pub premises-requires-clause-frames : goal.premises-requires-clause-frames
 premises-requires-clause-frames c =
@@ -59,12 +59,19 @@ premises-requires-clause-frames c =
     let w = c.requires.frame.before in
     omega arith
 
+pub premises-requires-clause-until : goal.premises-requires-clause-until
+premises-requires-clause-until c =
+    let z = sizes (set_modes c.args.given.now.rules.now) (rules_of c.args.given.now.rules.now) c.args.store.now in
+    let e = z.frames in
+    let o = c.requires.store.until in
+    c.requires.frame.above (omega arith)
+
 pub returns-in-None : goal.returns-in-None
 returns-in-None c =
     let l = waiting (goal.at.returns-in-None c).In-Holds in
     let s = c.args.store.now in
-    resumed_none (set_modes c.args.given.now.rules.now) (rules_of c.args.given.now.rules.now) _ s (record { arena = s.arena; binds = c.fit_places.new.binds; kids = s.kids; frames = s.frames }) c.args.frame (rule_of c.rule_at-rule.result.now) (judgement_of c.in-Holds.judgement) c.args.head c.args.outputs.now
-    c.requires.store c.requires.pairs c.requires.frame c.rule_at-rule.ensures l.1 c.requires.head c.in_ok-fit-in-Holds.ensures.grows refl refl refl
+    resumed_none (set_modes c.args.given.now.rules.now) (rules_of c.args.given.now.rules.now) _ s (record { arena = s.arena; binds = c.fit_places.new.binds; kids = s.kids; frames = s.frames; until = s.until }) c.args.frame (rule_of c.rule_at-rule.result.now) (judgement_of c.in-Holds.judgement) c.args.head c.args.outputs.now
+    c.requires.store c.requires.pairs c.requires.frame c.rule_at-rule.ensures l.1 c.requires.head c.in_ok-fit-in-Holds.ensures.grows refl refl refl refl
     ((λ i. match_all (selected (sym c.new-side.ensures.outputs i) (sym c.new-side.ensures.roles i) (map tree (sym c.new-side.ensures.places i))) (map (tree_at (store_trees s)) c.args.outputs.now) (env_at (store_envs s) c.args.frame.env))
     ∙ (rw c.in-None.is at c.in_ok-fit-in-Holds.ensures.fit))
 
@@ -73,11 +80,11 @@ returns-in_ok-kids-in-Some c =
     let l = waiting (goal.at.returns-in_ok-kids-in-Some c).In-Holds in
     let s = c.args.store.now in
     let f = rw c.in-Some.is at c.in_ok-fit-in-Holds.ensures.fit in
-    ok_weaker _ _ (λ step p. resumed_more (set_modes c.args.given.now.rules.now) (rules_of c.args.given.now.rules.now) _ s (record { arena = s.arena; binds = c.fit_places.new.binds; kids = s.kids; frames = s.frames }) c.args.frame (rule_of c.rule_at-rule.result.now) (judgement_of c.in-Holds.judgement) c.args.head c.args.outputs.now
-    c.requires.store c.requires.pairs c.requires.frame c.rule_at-rule.ensures l.1 c.requires.head c.in_ok-fit-in-Holds.ensures.grows refl refl refl
-    (record { arena = s.arena; binds = c.fit_places.new.binds; kids = c.push_kid.new.kids; frames = s.frames }) c.premises.new.store c.in-Some.env _ step f.0
+    ok_weaker _ _ (λ step p. resumed_more (set_modes c.args.given.now.rules.now) (rules_of c.args.given.now.rules.now) _ s (record { arena = s.arena; binds = c.fit_places.new.binds; kids = s.kids; frames = s.frames; until = s.until }) c.args.frame (rule_of c.rule_at-rule.result.now) (judgement_of c.in-Holds.judgement) c.args.head c.args.outputs.now
+    c.requires.store c.requires.pairs c.requires.frame c.rule_at-rule.ensures l.1 c.requires.head c.in_ok-fit-in-Holds.ensures.grows refl refl refl refl
+    (record { arena = s.arena; binds = c.fit_places.new.binds; kids = c.push_kid.new.kids; frames = s.frames; until = s.until }) c.premises.new.store c.in-Some.env _ step f.0
     ((λ i. match_all (selected (sym c.new-side.ensures.outputs i) (sym c.new-side.ensures.roles i) (map tree (sym c.new-side.ensures.places i))) (map (tree_at (store_trees s)) c.args.outputs.now) (env_at (store_envs s) c.args.frame.env)) ∙ f.1)
-    refl refl c.in_ok-kids-in-Some.ensures.items refl c.in_ok-kids-in-Some.ensures.chain p) c.premises.result c.premises.ensures
+    refl refl c.in_ok-kids-in-Some.ensures.items refl refl c.in_ok-kids-in-Some.ensures.chain p) c.premises.result c.premises.ensures
 
 pub rule_at-rule-requires : goal.rule_at-rule-requires
 rule_at-rule-requires c = slice_get_within (rules_of c.args.given.now.rules.now) c.args.frame.rule _ c.requires.frame.waits.2

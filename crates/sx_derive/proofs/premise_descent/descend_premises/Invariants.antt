@@ -6,4 +6,4 @@ use Rattle.sx_derive.proofs.Descended.{Descending}
 use Rattle.sx_derive.proofs.premise_descent.descend_premises.Given as goal
 
 abbrev pub invariant-loop-k : goal.invariant-loop-k
-invariant-loop-k l = (hyps : Hypotheses) × Descending (set_modes l.given.rules.now) (subject_modes l.given.rules.now) (rules_of l.given.rules.now) hyps l.known l.bounds.budget l.bounds.levels l.candidate.number (rule_of l.candidate.rule.now) l.initial.store l.given.facts.now l.given.pairs.now l.candidate.env l.spot l.store l.k (drop l.k (map premise_of l.candidate.rule.now.premises.items)) l.env
+invariant-loop-k l = (hyps : Hypotheses) × Descending (set_modes l.given.rules.now) (subject_modes l.given.rules.now) (rules_of l.given.rules.now) hyps l.noted l.notes.items l.bounds.budget l.bounds.levels l.candidate.number (rule_of l.candidate.rule.now) l.initial.store l.given.facts.now l.given.pairs.now l.candidate.env l.spot l.store l.k (drop l.k (map premise_of l.candidate.rule.now.premises.items)) l.env

@@ -40,12 +40,12 @@ instances_apart-requires-clause-pairs c =
 pub returns-then-not-branch : goal.returns-then-not-branch
 returns-then-not-branch c =
     let l = within (goal.at.returns-then-not-branch c).After-index in
-    apart_fails _ _ _ c.args.store.now c.loop-k.store (record { arena = c.instances_apart.new.arena; binds = c.loop-k.store.binds; kids = c.loop-k.store.kids; frames = c.loop-k.store.frames }) c.args.from.rule _ c.args.from.levels c.args.from.env c.args.from.kids c.args.from.before _ c.requires.store c.requires.pairs c.requires.env c.requires.kids c.requires.frames c.in_ok-instances_apart-in-Apart.field-0 _ _ _ (passed_as _ _ _ _ c.loop-k.store _ _ _ _ _ _ _ _ _ (drop_premise _ c.loop-k.k _ _ l c.index.ensures c.in-Apart.is) c.loop-k.invariant) c.in_ok-instances_apart-in-Apart.ensures c.if-not-branch.true refl refl refl
+    apart_fails _ _ _ c.args.store.now c.loop-k.store (record { arena = c.instances_apart.new.arena; binds = c.loop-k.store.binds; kids = c.loop-k.store.kids; frames = c.loop-k.store.frames; until = c.loop-k.store.until }) c.args.from.rule _ c.args.from.levels c.args.from.env c.args.from.kids c.args.from.before _ c.requires.store c.requires.pairs c.requires.env c.requires.kids c.requires.frames c.in_ok-instances_apart-in-Apart.field-0 _ _ _ (passed_as _ _ _ _ c.loop-k.store _ _ _ _ _ _ _ _ _ (drop_premise _ c.loop-k.k _ _ l c.index.ensures c.in-Apart.is) c.loop-k.invariant) c.in_ok-instances_apart-in-Apart.ensures c.if-not-branch.true refl refl refl refl
 
 pub loop-k-preserved : goal.loop-k-preserved
 loop-k-preserved c =
     let l = within (goal.at.loop-k-preserved c).After-index in
-    apart_holds _ _ _ c.args.store.now c.loop-k.store (record { arena = c.instances_apart.new.arena; binds = c.loop-k.store.binds; kids = c.loop-k.store.kids; frames = c.loop-k.store.frames }) c.args.from.rule _ c.args.from.levels c.args.from.env c.args.from.kids c.args.from.before _ c.requires.store c.requires.pairs c.requires.env c.requires.kids c.requires.frames c.in_ok-instances_apart-in-Apart.field-0 _ _ _ (passed_as _ _ _ _ c.loop-k.store _ _ _ _ _ _ _ _ _ (drop_premise _ c.loop-k.k _ _ l c.index.ensures c.in-Apart.is) c.loop-k.invariant) c.in_ok-instances_apart-in-Apart.ensures c.if-not-branch.false refl refl refl
+    apart_holds _ _ _ c.args.store.now c.loop-k.store (record { arena = c.instances_apart.new.arena; binds = c.loop-k.store.binds; kids = c.loop-k.store.kids; frames = c.loop-k.store.frames; until = c.loop-k.store.until }) c.args.from.rule _ c.args.from.levels c.args.from.env c.args.from.kids c.args.from.before _ c.requires.store c.requires.pairs c.requires.env c.requires.kids c.requires.frames c.in_ok-instances_apart-in-Apart.field-0 _ _ _ (passed_as _ _ _ _ c.loop-k.store _ _ _ _ _ _ _ _ _ (drop_premise _ c.loop-k.k _ _ l c.index.ensures c.in-Apart.is) c.loop-k.invariant) c.in_ok-instances_apart-in-Apart.ensures c.if-not-branch.false refl refl refl refl
 
 pub asked-requires-clause-shallow : goal.asked-requires-clause-shallow
 asked-requires-clause-shallow c =
@@ -72,6 +72,12 @@ pub asked-requires-clause-before : goal.asked-requires-clause-before
 asked-requires-clause-before c =
     let v = stayed (goal.at.asked-requires-clause-before c).At-loop-k in
     v.frames_within
+
+pub asked-requires-clause-until : goal.asked-requires-clause-until
+asked-requires-clause-until c =
+    let u = c.loop-k.invariant.grows.until in
+    let o = c.requires.until in
+    omega arith
 
 pub returns-in-Holds : goal.returns-in-Holds
 returns-in-Holds c =

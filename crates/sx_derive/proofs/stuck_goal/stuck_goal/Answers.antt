@@ -1,4 +1,4 @@
-use Rattle.std.proofs.Common.{◌≡◌, ℕ, List, [], false, length, ap, arith, subst}
+use Rattle.std.proofs.Common.{◌≡◌, ℕ, List, [], length, ap, arith, subst}
 use Rattle.std.proofs.lemmas.List.{length-map}
 use Rattle.sx_rules.specs.Views.{goal as goal_of, hypotheses}
 use Rattle.sx_arena.specs.Views.{rules_of, set_modes, judgement_of}
@@ -28,7 +28,7 @@ stuck_below-blame-requires-clause-quiet c =
     let rs = rules_of c.args.rules.now in
     let hy = hypotheses c.args.given.now in
     problem_quiet m rs hy c.args.goal.now.form (goal_of c.args.goal.now).terms _ c.in_ok-problem.problem c.in_ok-problem.ensures c.deref.result.now c.deref-2.result.now c.deref.ensures.value c.deref-2.ensures.value
-    false c.args.budget 3000 (events_quiet m rs hy c.args.budget (goal_of c.args.goal.now) c.requires.quiet)
+    c.args.budget 3000 (events_quiet m rs hy c.args.budget (goal_of c.args.goal.now) c.requires.quiet)
 
 pub returns : goal.returns
 returns c =

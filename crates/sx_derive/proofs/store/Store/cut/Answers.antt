@@ -12,4 +12,5 @@ returns c =
       binds = c.cut_chains.ensures.binds;
       kids = c.cut_chains.ensures.kids;
       frames = c.cut_chains.ensures.frames;
+      until = c.cut_chains.ensures.until;
     }

@@ -1,0 +1,14 @@
+use Rattle.sx_arena.specs.Views.{rules_of, set_modes}
+use Rattle.sx_derive.specs.Tracing.{candidates_of}
+use Rattle.sx_derive.proofs.Noted.{noted_answer, noted_nothing}
+use Rattle.sx_derive.proofs.first.first_noted.Goals as goal
+
+pub returns-in-Answered : goal.returns-in-Answered
+returns-in-Answered c = λ js a.
+    noted_answer (set_modes c.args.given.now.rules.now) (rules_of c.args.given.now.rules.now) c.args.given.now.pairs.now js (candidates_of c.args.given.now) c.args.store.now c.trace.new.store c.cut_chains.new.self c.args.goal c.mark-mark.result c.requires.store c.mark-mark.ensures c.in-Answered.head c.in-Answered.outputs c.in-Answered.tasks
+    (rw c.in-Answered.is at (c.in_ok-outputs.ensures js a)) c.cut_chains.ensures
+
+pub returns-in-Failed : goal.returns-in-Failed
+returns-in-Failed c = λ js a.
+    noted_nothing (set_modes c.args.given.now.rules.now) (rules_of c.args.given.now.rules.now) c.args.given.now.pairs.now js (candidates_of c.args.given.now) c.args.store.now c.trace.new.store c.cut.new.self c.args.goal c.mark-mark.result c.requires.store c.mark-mark.ensures c.in-Failed.notes
+    (rw c.in-Failed.is at (c.in_ok-outputs.ensures js a)) c.cut.ensures

@@ -1,0 +1,395 @@
+//! What a goal comes to along first candidates.
+
+ghost use Rattle.std.specs.Prelude.{◌≡◌, ◌^◌, ◌<◌, ◌≤◌, ◌∷◌, [], IfOk, List, Some};
+ghost use Rattle.std.specs.Prelude.{length, map, reverse, slice_get};
+ghost use Rattle.sx_term.specs.Term.{tree};
+ghost use Rattle.sx_rules.specs.Deep.{AreShallow, PremiseIsShallow, RuleIsShallow};
+ghost use Rattle.sx_rules.specs.Rules.{Judgement as JudgementOf, holds};
+ghost use Rattle.sx_arena.specs.Arena.{AreBelow};
+ghost use Rattle.sx_arena.specs.Pairs.{ArePairs};
+ghost use Rattle.sx_arena.specs.Views.{judgement_of, premise_of, rule_of, rules_of, set_modes};
+ghost use Rattle.sx_derive.specs.Candidates.{goal_in};
+ghost use Rattle.sx_derive.specs.Chains.{HeadFits};
+ghost use Rattle.sx_derive.specs.Givens.{IsStoreOf, GrowsIn, HasFacts};
+ghost use Rattle.sx_derive.specs.Handing.{IsWaitingCell, answer_in};
+ghost use Rattle.sx_derive.specs.Store.{store_trees, store_envs, store_kids};
+ghost use Rattle.sx_derive.specs.Traced.{IsAnswerTaken, IsFirstCandidate};
+ghost use Rattle.sx_derive.specs.Tracing.{
+  AreQuiet,
+  ComesToBy,
+  FitIn,
+  IsPremiseTracedBy,
+  IsTracedBy,
+  IsTracedUnderBy,
+  NotedOf,
+  StandFrom,
+  StandsSomewhere,
+  WaitsQuietly,
+  candidate_left,
+  goal_events_by,
+  left_by,
+};
+ghost use Rattle.sx_derive.specs.declared.store.Store.{Store as StoreOf};
+
+use crate::candidate::Candidate;
+use crate::candidate_descent::{first_fact, first_rule};
+use crate::chains::{Head, Waiting, push_kid, push_waiting};
+use crate::given::Given;
+use crate::made_places::{made_inputs, made_outputs};
+use crate::numbered_goal::NumberedGoal;
+use crate::run::next_answer;
+use crate::store::{Mark, Store};
+use crate::tasks::Task;
+use crate::walk::first_task;
+use std::alloc::Global;
+use sx_arena::{Chain, Side, fit_places, instances_apart, rule_at};
+use sx_rules::{Judgement, Premise};
+use sx_term::NoMemory;
+
+/// The first answer of a goal, and the tasks that are left after it; or that there is none, and the
+/// premises without an answer that first candidates lead to, the innermost first.
+#[derive(Drop)]
+pub enum Traced {
+    Answered {
+        head: Head,
+        outputs: Vec<usize>,
+        tasks: Vec<Task>,
+    },
+    Failed(Vec<usize>),
+}
+
+/// A premise holds by what is given first, with the chains of bindings and of proofs after it; or
+/// nothing is given at it, and where its goal has no answer, the notes of its goal and its number.
+#[derive(Drop)]
+pub enum Premised {
+    Holds { env: usize, kids: usize },
+    Fails(Vec<usize>),
+}
+
+/// The first rule that fits and the chain that states the match, where no fact is the goal.
+#[inline(never)]
+fn first_candidate(
+    given: &Given,
+    store: &mut Store,
+    form: u32,
+    terms: &[usize],
+) -> Result<Option<(u32, usize)>, NoMemory>
+    requires store { IsStoreOf given.now store.old }
+    requires terms { AreBelow (length (store_trees store.old)) terms.now }
+    ensures grows { IfOk result (λ _. GrowsIn given.now store.old store.new) }
+    ensures first { IfOk result (λ x. IsFirstCandidate (set_modes given.now.rules.now)
+        (rules_of given.now.rules.now) given.now.facts.now store.new form terms.now
+        (goal_in store.old form terms.now) x) }
+{
+    match first_fact(given.facts, form, terms) {
+        Some(_) => Ok(None),
+        None => first_rule(given.rules, store, form, terms),
+    }
+}
+
+/// The task alone.
+fn one_task(alloc: Global, task: Task) -> Result<Vec<Task>, NoMemory>
+    ensures { IfOk result (λ r. r.items ≡ task ∷ []) }
+{
+    let mut tasks = Vec::new(alloc);
+    tasks.push(task)?;
+    Ok(tasks)
+}
+
+/// What the tasks that are left come to, where the first candidate comes to nothing.
+#[inline(never)]
+fn try_others(
+    given: &Given,
+    store: &mut Store,
+    tasks: Vec<Task>,
+    notes: Vec<usize>,
+    budget: u64,
+) -> Result<Traced, NoMemory>
+    requires few { length given.now.facts.now < 2 ^ 32 }
+    requires stands { StandsSomewhere given.now tasks.items store.old }
+    requires quiet { AreQuiet given.now budget store.old
+        (λ js. left_by given.now js store.old tasks.items) }
+    ensures { IfOk result (λ t. (first : StoreOf) (js : List JudgementOf) →
+        StandFrom given.now first js tasks.items store.old →
+        ComesToBy given.now js first store.new (left_by given.now js store.old tasks.items)
+        (λ noted. noted ≡ reverse notes.items) t) }
+{
+    let mut tasks = tasks;
+    match next_answer(given, store, &mut tasks, budget)? {
+        Some(answer) => {
+            drop(notes);
+            Ok(Traced::Answered {
+                head: answer.head,
+                outputs: answer.outputs,
+                tasks,
+            })
+        }
+        None => {
+            drop(tasks);
+            Ok(Traced::Failed(notes))
+        }
+    }
+}
+
+/// What an answer makes of a premise of a rule: its outputs are matched.
+#[inline(never)]
+fn take_answer(
+    given: &Given,
+    store: &mut Store,
+    judgement: &Judgement,
+    from: Waiting,
+    head: Head,
+    outputs: &[usize],
+) -> Result<Premised, NoMemory>
+    requires shallow { AreShallow (map tree judgement.now.places.items) }
+    requires store { IsStoreOf given.now store.old }
+    requires env { from.env ≤ length store.old.binds.cells.items }
+    requires kids { from.kids ≤ length store.old.kids.items }
+    requires head { HeadFits (length (store_envs store.old)) (length (store_kids store.old)) head }
+    requires outputs { AreBelow (length (store_trees store.old)) outputs.now }
+    ensures grows { IfOk result (λ _. GrowsIn given.now store.old store.new) }
+    ensures taken { IfOk result (λ p. IsAnswerTaken (set_modes given.now.rules.now) store.old
+        store.new from (judgement_of judgement.now) (answer_in store.old head outputs.now) p) }
+{
+    let side = Side::new(given.rules, judgement, true);
+    let fit = fit_places(&store.arena, &mut store.binds, from.env, &side, outputs)?;
+    match fit {
+        None => Ok(Premised::Fails(Vec::new(given.alloc))),
+        Some(env) => {
+            let kids = push_kid(&mut store.kids, from.kids, head)?;
+            Ok(Premised::Holds { env, kids })
+        }
+    }
+}
+
+/// What the goal of a premise comes to where its answers are handed out to the rule that waits.
+#[cycle(trace)]
+fn trace_under(
+    given: &Given,
+    store: &mut Store,
+    from: Waiting,
+    goal: NumberedGoal,
+    budget: u64,
+) -> Result<Traced, NoMemory>
+    requires few { length given.now.facts.now < 2 ^ 32 }
+    requires facts { (js : List JudgementOf) × HasFacts given.now store.old js }
+    requires store { IsStoreOf given.now store.old }
+    requires pairs { ArePairs (length (store_trees store.old)) given.now.pairs.now }
+    requires waits { IsWaitingCell (set_modes given.now.rules.now) (rules_of given.now.rules.now)
+        store.old from }
+    requires before { from.before ≡ store.old.until }
+    requires terms { AreBelow (length (store_trees store.old)) goal.terms.items }
+    requires quiet { AreQuiet given.now budget store.old
+        (λ js. goal_events_by given.now js store.old goal) }
+    ensures { IfOk result (λ t. (js : List JudgementOf) → HasFacts given.now store.old js →
+        IsTracedUnderBy given.now js store.old store.new from goal t) }
+{
+    let outer = store.until;
+    store.until = push_waiting(&mut store.frames, from)?;
+    let traced = trace(given, store, goal, budget);
+    store.until = outer;
+    traced
+}
+
+/// What a judgement premise of a rule comes to.
+#[cycle(trace)]
+fn trace_judgement(
+    given: &Given,
+    store: &mut Store,
+    judgement: &Judgement,
+    from: Waiting,
+    tasks: &mut Vec<Task>,
+    budget: u64,
+) -> Result<Premised, NoMemory>
+    requires few { length given.now.facts.now < 2 ^ 32 }
+    requires facts { (js : List JudgementOf) × HasFacts given.now store.old js }
+    requires store { IsStoreOf given.now store.old }
+    requires pairs { ArePairs (length (store_trees store.old)) given.now.pairs.now }
+    requires shallow { AreShallow (map tree judgement.now.places.items) }
+    requires before { from.before ≡ store.old.until }
+    requires env { from.env ≤ length store.old.binds.cells.items }
+    requires kids { from.kids ≤ length store.old.kids.items }
+    requires waits { WaitsQuietly given.now budget store.old (holds (judgement_of judgement.now))
+        from tasks.old.items }
+    requires tasks { FitIn given.now store.old tasks.old.items }
+    ensures { IfOk result (λ p. IsPremiseTracedBy given.now store.old store.new from
+        (holds (judgement_of judgement.now)) tasks.old.items tasks.new.items p) }
+{
+    let terms = made_inputs(given, store, judgement, from.env)?;
+    let goal = NumberedGoal {
+        form: judgement.form,
+        terms,
+        levels: from.levels - 1,
+    };
+    match trace_under(given, store, from, goal, budget)? {
+        Traced::Failed(noted) => {
+            let mut notes = noted;
+            notes.push(from.premise)?;
+            Ok(Premised::Fails(notes))
+        }
+        Traced::Answered {
+            head,
+            outputs,
+            tasks: more,
+        } => {
+            let mut more = more;
+            tasks.append(&mut more)?;
+            take_answer(given, store, judgement, from, head, &outputs)
+        }
+    }
+}
+
+/// What a premise of a rule comes to.
+#[cycle(trace)]
+fn trace_premise(
+    given: &Given,
+    store: &mut Store,
+    premise: &Premise,
+    from: Waiting,
+    tasks: &mut Vec<Task>,
+    budget: u64,
+) -> Result<Premised, NoMemory>
+    requires few { length given.now.facts.now < 2 ^ 32 }
+    requires facts { (js : List JudgementOf) × HasFacts given.now store.old js }
+    requires store { IsStoreOf given.now store.old }
+    requires pairs { ArePairs (length (store_trees store.old)) given.now.pairs.now }
+    requires shallow { PremiseIsShallow (premise_of premise.now) }
+    requires before { from.before ≡ store.old.until }
+    requires env { from.env ≤ length store.old.binds.cells.items }
+    requires kids { from.kids ≤ length store.old.kids.items }
+    requires waits { WaitsQuietly given.now budget store.old (premise_of premise.now) from
+        tasks.old.items }
+    requires tasks { FitIn given.now store.old tasks.old.items }
+    ensures { IfOk result (λ p. IsPremiseTracedBy given.now store.old store.new from
+        (premise_of premise.now) tasks.old.items tasks.new.items p) }
+{
+    match premise {
+        Premise::Holds(judgement) => trace_judgement(given, store, judgement, from, tasks, budget),
+        Premise::Apart(one, other) => {
+            let chain = Chain {
+                binds: &store.binds,
+                env: from.env,
+            };
+            let pairs = given.pairs;
+            if !instances_apart(given.alloc, &mut store.arena, &chain, pairs, one, other)? {
+                return Ok(Premised::Fails(Vec::new(given.alloc)));
+            }
+            Ok(Premised::Holds {
+                env: from.env,
+                kids: from.kids,
+            })
+        }
+    }
+}
+
+/// What a goal's first candidate comes to, and where it comes to nothing, the tasks that are left.
+#[cycle(trace)]
+fn trace_rule(
+    given: &Given,
+    store: &mut Store,
+    candidate: &Candidate,
+    levels: usize,
+    tasks: Vec<Task>,
+    budget: u64,
+) -> Result<Traced, NoMemory>
+    requires few { length given.now.facts.now < 2 ^ 32 }
+    requires found { slice_get (rules_of given.now.rules.now) candidate.now.number
+        ≡ Some (rule_of candidate.now.rule.now) }
+    requires shallow { RuleIsShallow (rule_of candidate.now.rule.now) }
+    requires env { candidate.now.env ≤ length store.old.binds.cells.items }
+    requires stands { StandsSomewhere given.now tasks.items store.old }
+    requires quiet { AreQuiet given.now budget store.old
+        (λ js. candidate_left given.now js store.old candidate.now levels tasks.items) }
+    ensures { IfOk result (λ t. (first : StoreOf) (js : List JudgementOf) →
+        StandFrom given.now first js tasks.items store.old →
+        ComesToBy given.now js first store.new
+        (candidate_left given.now js store.old candidate.now levels tasks.items)
+        (NotedOf given.now js store.old candidate.now levels) t) }
+{
+    let rule = candidate.rule;
+    let mut tasks = tasks;
+    let mut env = candidate.env;
+    let mut kids = 0;
+    let outer = store.until;
+    for k in 0..rule.premises.len() {
+        let from = Waiting {
+            rule: candidate.number,
+            premise: k,
+            env,
+            kids,
+            levels,
+            before: outer,
+        };
+        match trace_premise(given, store, &rule.premises[k], from, &mut tasks, budget)? {
+            Premised::Holds {
+                env: next,
+                kids: more,
+            } => {
+                env = next;
+                kids = more;
+            }
+            Premised::Fails(notes) => return try_others(given, store, tasks, notes, budget),
+        }
+    }
+    let outputs = made_outputs(given, store, &rule.conclusion, env)?;
+    Ok(Traced::Answered {
+        head: Head::By {
+            number: candidate.number,
+            variables: rule.vars.len(),
+            env,
+            kids,
+        },
+        outputs,
+        tasks,
+    })
+}
+
+/// What the goal comes to, its first candidate and those of its premises before all others.
+#[cycle(trace)]
+pub(crate) fn trace(
+    given: &Given,
+    store: &mut Store,
+    goal: NumberedGoal,
+    budget: u64,
+) -> Result<Traced, NoMemory>
+    requires few { length given.now.facts.now < 2 ^ 32 }
+    requires facts { (js : List JudgementOf) × HasFacts given.now store.old js }
+    requires store { IsStoreOf given.now store.old }
+    requires pairs { ArePairs (length (store_trees store.old)) given.now.pairs.now }
+    requires terms { AreBelow (length (store_trees store.old)) goal.terms.items }
+    requires quiet { AreQuiet given.now budget store.old
+        (λ js. goal_events_by given.now js store.old goal) }
+    ensures { IfOk result (λ t. (js : List JudgementOf) → HasFacts given.now store.old js →
+        IsTracedBy given.now js store.old store.new goal t) }
+{
+    let mark = store.mark();
+    let outer = store.until;
+    match first_candidate(given, store, goal.form, &goal.terms)? {
+        None => {
+            let tasks = first_task(given.alloc, goal, outer, mark)?;
+            try_others(given, store, tasks, Vec::new(given.alloc), budget)
+        }
+        Some((number, env)) => {
+            given.rules.facts();
+            let rule = rule_at(given.rules, number);
+            let candidate = Candidate { rule, number, env };
+            let NumberedGoal {
+                form,
+                terms,
+                levels,
+            } = goal;
+            let tasks = one_task(
+                given.alloc,
+                Task {
+                    next: given.facts.len() + number as usize + 1,
+                    form,
+                    terms,
+                    levels,
+                    frames: outer,
+                    mark,
+                },
+            )?;
+            trace_rule(given, store, &candidate, levels, tasks, budget)
+        }
+    }
+}
