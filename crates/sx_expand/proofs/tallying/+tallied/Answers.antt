@@ -1,22 +1,26 @@
 use Rattle.std.proofs.Common.{rules, arith, ◌≡◌, ℕ, ◌+◌, ◌-◌, ◌<◌, List, length, get_or, max, ap, sym, subst, ◌∙◌}
 use Rattle.std.proofs.lemmas.List.{length-map, get_or_default}
-use Rattle.sx_rules.specs.Derivations.{Proofs, height_of, most_height}
+use Rattle.sx_rules.specs.Derivations.{Proof, Proofs, height_of, most_height}
 use Rattle.sx_rules.specs.EntryView.{entry}
 use Rattle.sx_rewrite.specs.declared.given_use.GivenUse.{GivenUse}
 use Rattle.sx_rewrite.proofs.SizeLaws.{near-at}
 use Rattle.sx_rewrite.proofs.Tallied.{sized-many, by-height, sized-tally, base-tally, given-tally, with-unused}
-use Rattle.sx_expand.specs.Listed.{set_in, entries_in}
+use Rattle.sx_expand.specs.Listed.{set_in, entries_in, StandsIn}
 use Rattle.sx_expand.proofs.Standing.{given-stands}
 use Rattle.sx_expand.proofs.EndsAt.{listed-within}
 use Rattle.sx_expand.proofs.Rows.{IsHead, head-is}
-use Rattle.sx_expand.proofs.Emitting.{rule-at}
+use Rattle.sx_expand.proofs.Emitting.{IsRuleAt, rule-at}
 use Rattle.sx_expand.proofs.ListTallies.{IsNextKid, Sizing, Basing, next-kid, some-left, sizing-more, sizing-last, basing-more, basing-last}
 use Rattle.sx_expand.proofs.tallying.+tallied.Goals as goal
-use Rattle.sx_expand.proofs.tallying.+tallied.Goals.{tally-Start, base_tally-In-loop-at, certificate_tally-In-loop-given}
+use Rattle.sx_expand.proofs.tallying.+tallied.Goals.{tally-Start, tally-In-Rule, base_tally-In-loop-at, certificate_tally-In-loop-given}
 
 -- the entry is in the list
 entry_is_there : (t : ℕ) (c : tally-Start t) → c.args.at < length c.args.listing.now.list.now
 entry_is_there t c = listed-within (set_in c.args.listing.now) c.args.listing.now.list.now c.args.at c.requires.stands.0 c.requires.stands.1
+
+-- the rule's node with its kids is listed there
+rule_is_listed : (t : ℕ) (c : tally-In-Rule t) (p : Proof) → StandsIn c.args.listing.now c.args.at p → IsRuleAt (set_in c.args.listing.now) c.args.listing.now.list.now c.args.listing.now.ends.now c.requires.ends c.args.at c.entry_at.result c.entry_at.ensures c.in-Rule.number p
+rule_is_listed t c p = rule-at (set_in c.args.listing.now) c.args.listing.now.list.now c.args.listing.now.ends.now c.requires.ends c.args.at c.entry_at.result c.entry_at.ensures c.in-Rule.number c.in-Rule.is p
 
 -- the next of the row that stands in the list
 next_in_row : (t : ℕ) (c : base_tally-In-loop-at t) → (left : Proofs) × IsHead (set_in c.args.listing.now) (entries_in c.args.listing.now) c.args.listing.now.ends.now c.loop-at.at c.args.end left
@@ -62,8 +66,8 @@ pub tally-certificate_tally-requires : goal.tally-certificate_tally-requires
 tally-certificate_tally-requires t c =
     let a = set_in c.args.listing.now in
     let r = c.requires.stands in
-    let w = listed-within a c.args.listing.now.list.now c.args.at r.0 r.1 in
-    let s = rule-at a c.args.listing.now.list.now c.args.listing.now.ends.now c.requires.ends c.args.at c.entry_at.result c.entry_at.ensures c.in-Rule.number c.in-Rule.is r.0 r.1 in
+    let w = entry_is_there t (goal.at.tally-certificate_tally-requires t c).Start in
+    let s = rule_is_listed t (goal.at.tally-certificate_tally-requires t c).In-Rule r.0 r.1 in
     let m = sized-many a c.in-Rule.number c.in-Some.size.now s.kids c.in-Some.ensures.value s.fit in
     let h = by-height a r.0 c.in-Rule.number s.binds s.kids s.is in
     let l = r.2 in
@@ -73,8 +77,8 @@ pub tally-base_tally-requires : goal.tally-base_tally-requires
 tally-base_tally-requires t c =
     let a = set_in c.args.listing.now in
     let r = c.requires.stands in
-    let w = listed-within a c.args.listing.now.list.now c.args.at r.0 r.1 in
-    let s = rule-at a c.args.listing.now.list.now c.args.listing.now.ends.now c.requires.ends c.args.at c.entry_at.result c.entry_at.ensures c.in-Rule.number c.in-Rule.is r.0 r.1 in
+    let w = entry_is_there t (goal.at.tally-base_tally-requires t c).Start in
+    let s = rule_is_listed t (goal.at.tally-base_tally-requires t c).In-Rule r.0 r.1 in
     let h = by-height a r.0 c.in-Rule.number s.binds s.kids s.is in
     let l = r.2 in
     (search rules, (c.requires.ends, (s.kids, s.up.row, s.up.sum ∙ sym c.number_at-end.ensures, omega (arith, h, l))))
@@ -82,14 +86,14 @@ tally-base_tally-requires t c =
 pub tally-returns-in-Some : goal.tally-returns-in-Some
 tally-returns-in-Some t c = λ p q.
     let a = set_in c.args.listing.now in
-    let s = rule-at a c.args.listing.now.list.now c.args.listing.now.ends.now c.requires.ends c.args.at c.entry_at.result c.entry_at.ensures c.in-Rule.number c.in-Rule.is p q in
+    let s = rule_is_listed t (goal.at.tally-returns-in-Some t c).In-Rule p q in
     let m = sized-many a c.in-Rule.number c.in-Some.size.now s.kids c.in-Some.ensures.value s.fit in
     sized-tally a p c.in-Rule.number s.binds s.kids s.is c.in-Some.size.now c.in-Some.ensures.value c.in-Some.ensures.only s.fit c.certificate_tally.result (c.certificate_tally.ensures s.kids s.up.row m)
 
 pub tally-returns-in-None : goal.tally-returns-in-None
 tally-returns-in-None t c = λ p q.
     let a = set_in c.args.listing.now in
-    let s = rule-at a c.args.listing.now.list.now c.args.listing.now.ends.now c.requires.ends c.args.at c.entry_at.result c.entry_at.ensures c.in-Rule.number c.in-Rule.is p q in
+    let s = rule_is_listed t (goal.at.tally-returns-in-None t c).In-Rule p q in
     base-tally a p c.in-Rule.number s.binds s.kids s.is c.in-None.ensures.value s.fit c.base_tally.result (c.base_tally.ensures s.kids s.up.row (s.up.sum ∙ sym c.number_at-end.ensures))
 
 pub tally-returns-in-Given : goal.tally-returns-in-Given
