@@ -13,6 +13,16 @@ use Rattle.sx_notation.proofs.TextReading.{err_if}
 use Rattle.sx_typing.specs.Unread.{IsUnreadText}
 use Rattle.sx_typing.proofs.Bodies.{is_marked, has_no_names, reads_as}
 use Rattle.sx_typing.proofs.text_reading.read_body_text.Goals as goal
+use Rattle.sx_typing.proofs.text_reading.read_body_text.Goals.{In-Ok}
+
+-- the reading is the only one of the tokens
+only_reading : (c : In-Ok) → IsAnswer (numbered c.args.grammar.now.parts)
+    (plain_tokens [] c.in_ok-tokens.tokens.items) (sort_number c.args.sort)
+    (only (plain_reading c.in-Ok.reading))
+only_reading c =
+    subst (λ (l : List Token). IsAnswer (numbered c.args.grammar.now.parts) (plain_tokens [] l)
+    (sort_number c.args.sort) (only (plain_reading c.in-Ok.reading)))
+    c.deref.ensures.value c.in-Ok.ensures.only
 
 pub returns-in_err-tokens-clause-refused : goal.returns-in_err-tokens-clause-refused
 returns-in_err-tokens-clause-refused c =
@@ -25,8 +35,7 @@ strip-requires-clause-marked c =
     let p = c.args.grammar.now.parts in
     let r = plain_reading c.in-Ok.reading in
     let ts = c.in_ok-tokens.tokens.items in
-    let answer = subst (λ (l : List Token). IsAnswer (numbered p) (plain_tokens [] l)
-    (sort_number c.args.sort) (only r)) c.deref.ensures.value c.in-Ok.ensures.only in
+    let answer = only_reading (goal.at.strip-requires-clause-marked c).In-Ok in
     subst (λ (l : List Token). IsMarked l r) (sym c.deref-2.ensures.value)
     (is_marked p c.args.text.now ts c.in_ok-tokens.ensures.cut c.args.sort r answer)
 
@@ -35,8 +44,7 @@ strip-requires-clause-room c =
     let p = c.args.grammar.now.parts in
     let r = plain_reading c.in-Ok.reading in
     let ts = c.in_ok-tokens.tokens.items in
-    let answer = subst (λ (l : List Token). IsAnswer (numbered p) (plain_tokens [] l)
-    (sort_number c.args.sort) (only r)) c.deref.ensures.value c.in-Ok.ensures.only in
+    let answer = only_reading (goal.at.strip-requires-clause-room c).In-Ok in
     let none : length (reading_names ts r) ≡ 0 =
     ap length (has_no_names p c.args.text.now ts c.in_ok-tokens.ensures.cut c.args.sort r
     answer) in
@@ -50,8 +58,7 @@ returns-in-Ok-strip-clause-read c =
     let p = c.args.grammar.now.parts in
     let r = plain_reading c.in-Ok.reading in
     let ts = c.in_ok-tokens.tokens.items in
-    let answer = subst (λ (l : List Token). IsAnswer (numbered p) (plain_tokens [] l)
-    (sort_number c.args.sort) (only r)) c.deref.ensures.value c.in-Ok.ensures.only in
+    let answer = only_reading (goal.at.returns-in-Ok-strip-clause-read c).In-Ok in
     let names = subst (λ (l : List Token). AddsEach c.new-names.result (reading_names l r)
     c.strip.new.vars) c.deref-2.ensures.value c.in-Ok-strip.ensures.names in
     let fresh = subst (λ (l : List Text). AddsEach l (reading_names ts r) c.strip.new.vars)

@@ -1,11 +1,14 @@
-use Rattle.std.proofs.Common.{[], None, ap, ◌∙◌, sym, subst}
-use Rattle.std.specs.Prelude.{Ok, Err}
+use Rattle.std.proofs.Common.{ℕ, [], None, ◌+◌, ◌≤◌, ap, ◌∙◌, sym, subst}
+use Rattle.std.specs.Prelude.{Result, Ok, Err}
 use Rattle.sx_term.specs.Term.{tree}
 use Rattle.sx_grammar.specs.Told.{shapes_of}
 use Rattle.sx_rules.specs.Deep.{AreShallow}
 use Rattle.sx_rules.specs.Modes.{Goal}
 use Rattle.sx_rules.specs.Views.{goal as goal_of}
 use Rattle.sx_rules.proofs.Refusals.{good_moded}
+use Rattle.sx_derive.specs.declared.derive_error.DeriveError.{DeriveError}
+use Rattle.sx_derive.specs.declared.listed.Listed.{Listed}
+use Rattle.sx_derive.specs.Deriving.{AreCounted}
 use Rattle.sx_derive.specs.Search.{tries_of}
 use Rattle.sx_derive.proofs.FewNodes.{tries_within}
 use Rattle.sx_typing.specs.Goals.{source_events}
@@ -15,6 +18,20 @@ use Rattle.sx_typing.proofs.TypedBodies.{source_goal, found_good, one_listed, ty
 use Rattle.sx_typing.proofs.Tries.{tried, counted_most}
 use Rattle.sx_typing.proofs.Walks.{final_if}
 use Rattle.sx_typing.proofs.typing.type_source.Goals as goal
+use Rattle.sx_typing.proofs.typing.type_source.Goals.{Start}
+
+-- how many tries the walk of the goal makes
+abbrev made : (g : _) → Start g → ℕ
+made g c = tries_of None c.args.tries
+    (source_events (source_of c.args.source.now) (tree c.args.body.now.term))
+
+-- the steps rise by no more than the tries that may be made
+few_steps : (g : _) (c : Start g) (last : ℕ) (r : Result Listed DeriveError) →
+    AreCounted (made g c) c.args.steps.now last r → last ≤ c.args.steps.now + c.args.tries
+few_steps g c last r =
+    counted_most (made g c) c.args.steps.now last c.args.tries r
+    (tries_within None c.args.tries
+    (source_events (source_of c.args.source.now) (tree c.args.body.now.term)))
 
 pub main_goal-requires-clause-form : goal.main_goal-requires-clause-form
 main_goal-requires-clause-form g c =
@@ -50,9 +67,8 @@ returns-in-Ok-clause-typed g c =
 
 pub returns-in-Ok-clause-most : goal.returns-in-Ok-clause-most
 returns-in-Ok-clause-most g c =
-    let es = source_events (source_of c.args.source.now) (tree c.args.body.now.term) in
-    counted_most (tries_of None c.args.tries es) c.args.steps.now c.search.new.steps c.args.tries
-    (Ok c.in-Ok.listed) (tries_within None c.args.tries es) c.in-Ok.ensures.steps
+    few_steps g (goal.at.returns-in-Ok-clause-most g c).Start c.search.new.steps
+    (Ok c.in-Ok.listed) c.in-Ok.ensures.steps
 
 pub no_derivation-requires-clause-error : goal.no_derivation-requires-clause-error
 no_derivation-requires-clause-error g c = (c.args.tries, c.in-Err.ensures.answer)
@@ -72,12 +88,11 @@ returns-in-Err-clause-untyped g c =
 
 pub returns-in-Err-clause-tries : goal.returns-in-Err-clause-tries
 returns-in-Err-clause-tries g c =
-    let es = source_events (source_of c.args.source.now) (tree c.args.body.now.term) in
-    tried (tries_of None c.args.tries es) c.args.steps.now c.search.new.steps c.in-Err.error
-    c.no_derivation.result c.in-Err.ensures.steps c.no_derivation.ensures.memory
+    tried (made g (goal.at.returns-in-Err-clause-tries g c).Start) c.args.steps.now
+    c.search.new.steps c.in-Err.error c.no_derivation.result c.in-Err.ensures.steps
+    c.no_derivation.ensures.memory
 
 pub returns-in-Err-clause-most : goal.returns-in-Err-clause-most
 returns-in-Err-clause-most g c =
-    let es = source_events (source_of c.args.source.now) (tree c.args.body.now.term) in
-    counted_most (tries_of None c.args.tries es) c.args.steps.now c.search.new.steps c.args.tries
-    (Err c.in-Err.error) (tries_within None c.args.tries es) c.in-Err.ensures.steps
+    few_steps g (goal.at.returns-in-Err-clause-most g c).Start c.search.new.steps
+    (Err c.in-Err.error) c.in-Err.ensures.steps
