@@ -1,16 +1,39 @@
 -- Plain images that are compared node by node.
-use Rattle.std.proofs.Common.{◌≡◌, ℕ, zero, suc, ◌≤◌, ◌↔◌, ◌==◌, Bool, true, IsTrue, List, [], ◌∷◌}
-use Rattle.std.proofs.Common.{Vec, length, map, Option, Some, None, option_map, refl, sym, ap, ◌∙◌}
+use Rattle.std.proofs.Common.{◌≡◌, ℕ, zero, suc, ◌<◌, ◌≤◌, ◌↔◌, ◌==◌, Bool, true, IsTrue, List, []}
+use Rattle.std.proofs.Common.{◌∷◌, Vec, length, get_or, map, Option, Some, None, option_map, refl, sym, ap, ◌∙◌}
 use Rattle.std.proofs.Common.{subst, arith}
 use Rattle.std.proofs.lemmas.Bool.Decides.{nat_tests}
 use Rattle.std.specs.declared.alloc.Global.{Global}
 use Rattle.sx_term.specs.declared.term.Term.{Term, Node, Var}
 use Rattle.sx_term.specs.Instances.{instance, instances, bound_by}
 use Rattle.sx_term.specs.Term.{tree}
-use Rattle.sx_term.specs.Tree.{Tree, Trees, node, none, ◌▹◌, forest, listed}
-use Rattle.sx_term.proofs.Kids.{trees, tree-at_node, node-same}
+use Rattle.sx_term.specs.Limits.{most_depth}
+use Rattle.sx_term.specs.Tree.{Tree, Trees, node, none, ◌▹◌, forest, listed, depth_of, greatest_depth}
+use Rattle.sx_term.proofs.Kids.{trees, tree-at_node, node-same, greatest_depth-kids, greatest_depth-at}
 use Rattle.sx_plain.specs.Plain.{Body, Table, image, images}
 use Rattle.sx_plain.proofs.Gathered.{body_image}
+
+-- the kids of a node that is not too deep: they are less deep than it
+pub record KidsWithin (t : Term) (ts : List Term) : Type 0 where
+  pub less : greatest_depth (trees ts) < depth_of (tree t)
+  pub within : greatest_depth (trees ts) < most_depth
+
+pub kids_within : (t : Term) (label : ℕ) (kids : Vec Term Global) (ts : List Term) →
+    t ≡ Node label kids → ts ≡ kids.items → depth_of (tree t) ≤ most_depth → KidsWithin t ts
+kids_within t label kids ts is at shallow =
+    let k = greatest_depth-kids t label kids ts is at in
+    record { less = k; within = omega (arith, k, shallow) }
+
+-- one of the terms that are not too deep: it is no deeper than they are
+pub record ItemWithin (ts : List Term) (t : Term) : Type 0 where
+  pub less : depth_of (tree t) ≤ greatest_depth (trees ts)
+  pub within : depth_of (tree t) ≤ most_depth
+
+pub item_within : (ts : List Term) (i : ℕ) (t : Term) → i < length ts → t ≡ get_or ts i t →
+    greatest_depth (trees ts) < most_depth → ItemWithin ts t
+item_within ts i t below is shallow =
+    let k = greatest_depth-at ts i t below is in
+    record { less = k; within = omega (arith, k, shallow) }
 
 -- whether a term is another, told of what it equals
 pub told_of : {r : Bool} (t u other : Tree) → t ≡ u → (IsTrue r ↔ (t ≡ other)) →

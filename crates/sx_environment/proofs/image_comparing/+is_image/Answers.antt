@@ -1,32 +1,31 @@
-use Rattle.std.proofs.Common.{arith, rules, map, ◌≤◌, ◌<◌, length}
+use Rattle.std.proofs.Common.{arith, rules, ◌<◌, length}
 use Rattle.sx_term.specs.declared.term.Term.TheViews.{the_lemmas}
 use Rattle.sx_term.specs.declared.term.Term.{Term}
 use Rattle.sx_term.specs.Term.{tree}
-use Rattle.sx_term.specs.Tree.{depth_of, greatest_depth, forest, listed}
+use Rattle.sx_term.specs.Tree.{listed}
 use Rattle.sx_term.specs.Instances.{instance, bound_by}
-use Rattle.sx_term.proofs.Kids.{trees, greatest_depth-kids, greatest_depth-at}
+use Rattle.sx_term.proofs.Kids.{trees}
 use Rattle.sx_plain.specs.Plain.{image, images}
 use Rattle.sx_plain.specs.Views.{table_of}
 use Rattle.sx_plain.proofs.Gathered.{node_image, node_instance, part_image}
 use Rattle.sx_environment.proofs.Comparing.{differ_at}
 use Rattle.sx_environment.proofs.ImageNodes.{told_of, image_by_flat, same_images}
-use Rattle.sx_environment.proofs.ImageNodes.{same_instances, past_parts}
+use Rattle.sx_environment.proofs.ImageNodes.{same_instances, past_parts, kids_within, item_within}
 use Rattle.sx_environment.proofs.image_comparing.+is_image.Goals as goal
 
 pub is_image-is_filled-requires : goal.is_image-is_filled-requires
 is_image-is_filled-requires t c =
-    let k = greatest_depth-kids _ _ _ _ c.in-Node.is c.deref.ensures.value in
-    let s = c.requires.shallow in
+    let k = kids_within _ _ _ _ c.in-Node.is c.deref.ensures.value c.requires.shallow in
     let f = c.in-Some.ensures.depth in
-    let g : greatest_depth (forest (map tree c.deref.result.now)) < 1000 = omega (arith, k, s) in
+    let less = k.less in
+    let within = k.within in
     search (rules, the_lemmas)
 
 pub is_image-is_node_image-requires : goal.is_image-is_node_image-requires
 is_image-is_node_image-requires t c =
-    let k = greatest_depth-kids _ _ _ _ c.in-Node.is c.deref-in-None.ensures.value in
-    let s = c.requires.shallow in
-    let g : greatest_depth (forest (map tree c.deref-in-None.result.now)) < 1000 =
-    omega (arith, k, s) in
+    let k = kids_within _ _ _ _ c.in-Node.is c.deref-in-None.ensures.value c.requires.shallow in
+    let less = k.less in
+    let within = k.within in
     search (rules, the_lemmas)
 
 pub is_image-returns-in-Some : goal.is_image-returns-in-Some
@@ -41,9 +40,8 @@ is_image-returns-in-None t c =
 
 pub is_node_image-are_images-requires : goal.is_node_image-are_images-requires
 is_node_image-are_images-requires t c =
-    let k = greatest_depth-kids _ _ _ _ c.in-Node.is c.deref.ensures.value in
-    let o = c.requires.other in
-    let g : greatest_depth (forest (map tree c.deref.result.now)) < 1000 = omega (arith, k, o) in
+    let k = kids_within _ _ _ _ c.in-Node.is c.deref.ensures.value c.requires.other in
+    let within = k.within in
     search (rules, the_lemmas)
 
 pub is_node_image-returns-then-label-other_label :
@@ -54,14 +52,13 @@ is_node_image-returns-then-label-other_label t c =
 
 pub are_images-is_image-requires : goal.are_images-is_image-requires
 are_images-is_image-requires t c =
-    let a = greatest_depth-at _ _ _ c.loop-i-test.true c.index-terms-i.is in
     let h : c.loop-i.i < length c.args.others.now =
     omega (arith, c.loop-i-test.true, c.loop-i.invariant.long) in
-    let b = greatest_depth-at _ _ _ h c.index-others-i.is in
-    let s = c.requires.shallow in
-    let o = c.requires.others in
-    let d : depth_of (tree c.index-terms-i.result) ≤ 1000 = omega (arith, a, s) in
-    let e : depth_of (tree c.index-others-i.result) ≤ 1000 = omega (arith, b, o) in
+    let a = item_within _ _ _ c.loop-i-test.true c.index-terms-i.is c.requires.shallow in
+    let b = item_within _ _ _ h c.index-others-i.is c.requires.others in
+    let less = a.less in
+    let within = a.within in
+    let other_within = b.within in
     search (rules, the_lemmas)
 
 pub are_images-returns-then-not-is_image : goal.are_images-returns-then-not-is_image
@@ -73,11 +70,11 @@ are_images-returns-then-not-is_image t c =
 
 pub is_filled-is_filled_node-requires : goal.is_filled-is_filled_node-requires
 is_filled-is_filled_node-requires t c =
-    let k = greatest_depth-kids _ _ _ _ c.in-Node.is c.deref.ensures.value in
-    let s = c.requires.shallow in
+    let k = kids_within _ _ _ _ c.in-Node.is c.deref.ensures.value c.requires.shallow in
     let p = c.requires.parts in
     let o = c.requires.other in
-    let g : greatest_depth (forest (map tree c.deref.result.now)) < 1000 = omega (arith, k, s) in
+    let less = k.less in
+    let within = k.within in
     search (rules, the_lemmas)
 
 pub is_filled-returns-in-Node : goal.is_filled-returns-in-Node
@@ -88,10 +85,10 @@ is_filled-returns-in-Node t c =
 
 pub is_filled-is_image-requires : goal.is_filled-is_image-requires
 is_filled-is_image-requires t c =
-    let a = greatest_depth-at _ _ _ c.if-i-parts.true c.index-parts-i.is in
-    let p = c.requires.parts in
+    let a = item_within _ _ _ c.if-i-parts.true c.index-parts-i.is c.requires.parts in
     let o = c.requires.other in
-    let d : depth_of (tree c.index-parts-i.result) ≤ 1000 = omega (arith, a, p) in
+    let less = a.less in
+    let within = a.within in
     search (rules, the_lemmas)
 
 pub is_filled-returns-then-i-parts : goal.is_filled-returns-then-i-parts
@@ -106,9 +103,8 @@ is_filled-returns-else-i-parts t c =
 
 pub is_filled_node-are_filled-requires : goal.is_filled_node-are_filled-requires
 is_filled_node-are_filled-requires t c =
-    let k = greatest_depth-kids _ _ _ _ c.in-Node.is c.deref.ensures.value in
-    let o = c.requires.other in
-    let g : greatest_depth (forest (map tree c.deref.result.now)) < 1000 = omega (arith, k, o) in
+    let k = kids_within _ _ _ _ c.in-Node.is c.deref.ensures.value c.requires.other in
+    let within = k.within in
     search (rules, the_lemmas)
 
 pub is_filled_node-returns-then-label-other_label :
@@ -120,15 +116,14 @@ is_filled_node-returns-then-label-other_label t c =
 
 pub are_filled-is_filled-requires : goal.are_filled-is_filled-requires
 are_filled-is_filled-requires t c =
-    let a = greatest_depth-at _ _ _ c.loop-i-test.true c.index-flats-i.is in
     let h : c.loop-i.i < length c.args.others.now =
     omega (arith, c.loop-i-test.true, c.loop-i.invariant.long) in
-    let b = greatest_depth-at _ _ _ h c.index-others-i.is in
-    let s = c.requires.shallow in
+    let a = item_within _ _ _ c.loop-i-test.true c.index-flats-i.is c.requires.shallow in
+    let b = item_within _ _ _ h c.index-others-i.is c.requires.others in
     let p = c.requires.parts in
-    let o = c.requires.others in
-    let d : depth_of (tree c.index-flats-i.result) ≤ 1000 = omega (arith, a, s) in
-    let e : depth_of (tree c.index-others-i.result) ≤ 1000 = omega (arith, b, o) in
+    let less = a.less in
+    let within = a.within in
+    let other_within = b.within in
     search (rules, the_lemmas)
 
 pub are_filled-returns-then-not-is_filled : goal.are_filled-returns-then-not-is_filled
