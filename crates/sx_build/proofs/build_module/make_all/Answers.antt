@@ -1,5 +1,5 @@
 use Rattle.std.proofs.Common.{◌≡◌, ℕ, ◌+◌, ◌<◌, List, [], ◌∷◌, ◌++◌, map, refl, sym, ap, ◌∙◌, subst}
-use Rattle.std.proofs.Common.{arith}
+use Rattle.std.proofs.Common.{length, get_or, arith}
 use Rattle.std.proofs.lemmas.List.{length-map}
 use Rattle.sx_accepting.specs.ReadLanguage.{stated_of, HasText}
 use Rattle.sx_headers.specs.ReadModule.{Module, module_of}
@@ -15,6 +15,33 @@ use Rattle.sx_build.proofs.MakingOn.{goes_on, goes_stop, goes_end}
 use Rattle.sx_build.proofs.Ordered.{source_at, names_next, imports_among, name_is_new}
 use Rattle.sx_build.proofs.Ordered.{once_snoc}
 use Rattle.sx_build.proofs.build_module.make_all.Goals as goal
+use Rattle.sx_build.proofs.build_module.make_all.Goals.{Start, At-loop-i, After-index-sources-i}
+
+-- no module is made
+abbrev begun : (g : _) (c : Start g) → BuildProgress
+begun g c =
+    none_made (map (λ b. (goal.Auditor-dyn g (b.vtable, b.value)).meaning b.value)
+    c.args.building.now.auditors.items)
+
+-- the modules that are made so far
+abbrev made_so_far : (g : _) (c : At-loop-i g) → BuildProgress
+made_so_far g c = record {
+  made = mades_view c.loop-i.building.made.items;
+  auditors = map (λ b. (goal.Auditor-dyn g (b.vtable, b.value)).meaning b.value)
+      c.loop-i.building.auditors.items;
+}
+
+-- the module at hand is one of them
+source_here : (g : _) (c : After-index-sources-i g) →
+    (c.loop-i.i < length (map module_of c.args.sources.now))
+    × (module_of c.index-sources-i.result ≡ get_or (map module_of c.args.sources.now) c.loop-i.i
+    (module_of c.index-sources-i.result))
+source_here g c = (
+  subst (λ (n : ℕ). c.loop-i.i < n) (sym (length-map c.args.sources.now module_of))
+      c.loop-i-test.true,
+  source_at c.args.sources.now c.loop-i.i c.index-sources-i.result c.loop-i-test.true
+      c.index-sources-i.is,
+)
 
 pub loop-i-init : goal.loop-i-init
 loop-i-init g c =
@@ -22,9 +49,7 @@ loop-i-init g c =
     let l = stated_of asked.language.now in
     let sources = c.args.sources.now in
     let ms = map module_of sources in
-    let start : BuildProgress =
-    none_made (map (λ b. (goal.Auditor-dyn g (b.vtable, b.value)).meaning b.value)
-    c.args.building.now.auditors.items) in
+    let start = begun g (goal.at.loop-i-init g c).Start in
     record {
       step = λ files told. (
         0,
@@ -48,18 +73,13 @@ loop-i-init g c =
 pub make_next-requires : goal.make_next-requires
 make_next-requires g c =
     let asked = c.args.asked.now in
-    let l = stated_of asked.language.now in
     let sources = c.args.sources.now in
     let ms = map module_of sources in
-    let start : BuildProgress =
-    none_made (map (λ b. (goal.Auditor-dyn g (b.vtable, b.value)).meaning b.value)
-    c.args.building.now.auditors.items) in
     let i = c.loop-i.i in
     let source = c.index-sources-i.result in
-    let m = module_of source in
-    let below = subst (λ (n : ℕ). i < n) (sym (length-map sources module_of))
-    c.loop-i-test.true in
-    let is = source_at sources i source c.loop-i-test.true c.index-sources-i.is in
+    let here = source_here g (goal.at.make_next-requires g c).After-index-sources-i in
+    let below = here.0 in
+    let is = here.1 in
     let can = c.requires.can in
     let same = holds_at (λ (x : Module). x.header.language ≡ language_in ms) module_of sources i
     source c.loop-i-test.true c.index-sources-i.is can.same in
@@ -87,20 +107,15 @@ loop-i-preserved g c =
     let l = stated_of asked.language.now in
     let sources = c.args.sources.now in
     let ms = map module_of sources in
-    let start : BuildProgress =
-    none_made (map (λ b. (goal.Auditor-dyn g (b.vtable, b.value)).meaning b.value)
-    c.args.building.now.auditors.items) in
+    let at = goal.at.loop-i-preserved g c in
+    let start = begun g at.Start in
     let i = c.loop-i.i in
     let source = c.index-sources-i.result in
     let m = module_of source in
-    let below = subst (λ (n : ℕ). i < n) (sym (length-map sources module_of))
-    c.loop-i-test.true in
-    let is = source_at sources i source c.loop-i-test.true c.index-sources-i.is in
-    let now : BuildProgress = record {
-      made = mades_view c.loop-i.building.made.items;
-      auditors = map (λ b. (goal.Auditor-dyn g (b.vtable, b.value)).meaning b.value)
-          c.loop-i.building.auditors.items;
-    } in
+    let here = source_here g at.After-index-sources-i in
+    let below = here.0 in
+    let is = here.1 in
+    let now = made_so_far g at.At-loop-i in
     let next : BuildProgress = record {
       made = mades_view c.make_next.new.building.made.items;
       auditors = map (λ b. (goal.Auditor-dyn g (b.vtable, b.value)).meaning b.value)
@@ -135,20 +150,15 @@ returns-in-Err-clause-step g c = λ files told.
     let l = stated_of asked.language.now in
     let sources = c.args.sources.now in
     let ms = map module_of sources in
-    let start : BuildProgress =
-    none_made (map (λ b. (goal.Auditor-dyn g (b.vtable, b.value)).meaning b.value)
-    c.args.building.now.auditors.items) in
+    let at = goal.at.returns-in-Err-clause-step g c in
+    let start = begun g at.Start in
     let i = c.loop-i.i in
     let source = c.index-sources-i.result in
     let m = module_of source in
-    let below = subst (λ (n : ℕ). i < n) (sym (length-map sources module_of))
-    c.loop-i-test.true in
-    let is = source_at sources i source c.loop-i-test.true c.index-sources-i.is in
-    let now : BuildProgress = record {
-      made = mades_view c.loop-i.building.made.items;
-      auditors = map (λ b. (goal.Auditor-dyn g (b.vtable, b.value)).meaning b.value)
-          c.loop-i.building.auditors.items;
-    } in
+    let here = source_here g at.After-index-sources-i in
+    let below = here.0 in
+    let is = here.1 in
+    let now = made_so_far g at.At-loop-i in
     let before = c.loop-i.invariant in
     let all = before.step files told in
     let one = c.in-Err.ensures.step files (before.content ∙ told) in (
@@ -169,14 +179,9 @@ returns-clause-step g c = λ files told.
     let l = stated_of asked.language.now in
     let sources = c.args.sources.now in
     let ms = map module_of sources in
-    let start : BuildProgress =
-    none_made (map (λ b. (goal.Auditor-dyn g (b.vtable, b.value)).meaning b.value)
-    c.args.building.now.auditors.items) in
-    let now : BuildProgress = record {
-      made = mades_view c.loop-i.building.made.items;
-      auditors = map (λ b. (goal.Auditor-dyn g (b.vtable, b.value)).meaning b.value)
-          c.loop-i.building.auditors.items;
-    } in
+    let at = goal.at.returns-clause-step g c in
+    let start = begun g at.Start in
+    let now = made_so_far g at.At-loop-i in
     let all = c.loop-i.invariant.step files told in (
       all.0,
       goes_end asked.budgets files l start ms now c.loop-i.i all.0
