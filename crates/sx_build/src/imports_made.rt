@@ -1,6 +1,6 @@
 //! What a module imports of those that were made before it.
 
-ghost use Rattle.std.specs.Prelude.{◌≡◌, ◌++◌, ◌∷◌, [], IfOk, Some, Contains, map};
+ghost use Rattle.std.specs.Prelude.{◌≡◌, IfOk, Some, Contains, map};
 ghost use Rattle.std.specs.List.{AllByRecursion};
 ghost use Rattle.sx_interface.specs.InterfaceView.{interface_view};
 ghost use Rattle.sx_environment.specs.SeenFrom.{IsShort, interfaces_of};
@@ -17,9 +17,10 @@ use crate::made::Made;
 use crate::remembered::Remembered;
 use std::alloc::Global;
 use sx_headers::bad_header;
+use sx_importing::add_import;
 use sx_interface::{Import, digest, interfaces_are_within, read_interface};
 use sx_steps::{StepError, refused, with_suffix};
-use sx_term::{MOST_BYTES, NoMemory, Text};
+use sx_term::{MOST_BYTES, Text};
 use sx_words::{Defect, FileDefect};
 
 /// The module with this name, which is among those that were made.
@@ -102,14 +103,6 @@ fn import_named(
         Some(import) => Ok(import),
         None => import_made(alloc, find(mades, name)),
     }
-}
-
-/// Adds the import behind those that were read.
-fn add_import(imports: &mut Vec<Import>, import: Import) -> Result<(), NoMemory>
-    ensures { IfOk result (λ _. imports.new.items ≡ imports.old.items ++ import ∷ []) }
-{
-    imports.push(import)?;
-    Ok(())
 }
 
 /// What is imported from the modules with these names, which are among those that were made: their

@@ -51,7 +51,7 @@ pub fn read_import<S: Shelf>(alloc: Global, name: &Text, shelf: &mut S) -> Resul
 }
 
 /// Adds the import behind those that were read.
-fn add_import(imports: &mut Vec<Import>, import: Import) -> Result<(), NoMemory>
+pub fn add_import(imports: &mut Vec<Import>, import: Import) -> Result<(), NoMemory>
     ensures { IfOk result (λ _. imports.new.items ≡ imports.old.items ++ import ∷ []) }
 {
     imports.push(import)?;

@@ -12,11 +12,11 @@ ghost use Rattle.sx_verify.specs.BaseFits.{mark_names};
 ghost use Rattle.sx_verify.specs.KeptImports as spec;
 
 use std::alloc::Global;
-use sx_importing::{digest_differs, read_import};
+use sx_importing::{add_import, digest_differs, read_import};
 use sx_interface::{Digest, Import, ImportMark};
 use sx_outside::Shelf;
 use sx_steps::StepError;
-use sx_term::{NoMemory, Text};
+use sx_term::Text;
 use sx_words::Kept;
 
 /// The digest of the import that the interface in the file keeps is the one that was found.
@@ -85,14 +85,6 @@ fn read_kept<S: Shelf>(
         Ok(import) => compare_import(alloc, file, mark, import),
         Err(e) => Err(e),
     }
-}
-
-/// Adds the import behind those that were read.
-fn add_import(imports: &mut Vec<Import>, import: Import) -> Result<(), NoMemory>
-    ensures { IfOk result (λ _. imports.new.items ≡ imports.old.items ++ import ∷ []) }
-{
-    imports.push(import)?;
-    Ok(())
 }
 
 /// Reads the interface of the import, and adds it behind those that were read.
