@@ -11,7 +11,7 @@ use Rattle.sx_arena.specs.declared.places.Limit.{Limit}
 use Rattle.sx_arena.specs.declared.places.Limit.TheVariants.{TooDeep, TooBig}
 use Rattle.sx_arena.specs.declared.side.Side.{Side}
 use Rattle.sx_arena.specs.Arena.{trees, tree_at, IsArena, AreBelow, Extends}
-use Rattle.sx_arena.specs.Views.{mask_of}
+use Rattle.sx_rules.specs.SubjectTerms.{output_mask}
 
 -- the outputs, or else the inputs
 abbrev pub selected : {X : Type 0} → Bool → List Bool → List X → List X
@@ -20,7 +20,7 @@ selected true mask xs = outputs mask xs
 
 -- the terms of a side
 abbrev pub patterns_of : Side → List Tree
-patterns_of s = selected s.outputs (mask_of s.roles.now) (map tree s.places.now)
+patterns_of s = selected s.outputs (output_mask s.roles.now) (map tree s.places.now)
 
 -- the arena goes on from the other, and has the terms at the numbers
 pub record AreHeld (old new : Arena) (is : List ℕ) (ts : List Tree) : Type 0 where

@@ -1,19 +1,14 @@
 -- The rules and the modes of a rule set as plain data.
-use Rattle.std.specs.Prelude.{Bool, List, map}
-use Rattle.sx_rules.specs.declared.rule.Place.{Place}
+use Rattle.std.specs.Prelude.{List, map}
 use Rattle.sx_rules.specs.declared.rule_set.RuleSet.{RuleSet}
 use Rattle.sx_rules.specs.Rules.{Rule}
 use Rattle.sx_rules.specs.Modes.{Modes}
-use Rattle.sx_rules.specs.Views.{is_out, forms, modes_of as modes_by}
+use Rattle.sx_rules.specs.Views.{forms, modes_of as modes_by}
 pub use Rattle.sx_rules.specs.Views.{judgement as judgement_of, premise as premise_of}
 pub use Rattle.sx_rules.specs.Views.{rule as rule_of}
 
 abbrev pub rules_of : RuleSet → List Rule
 rules_of set = map rule_of set.rules.items
-
--- which of the places are outputs
-abbrev pub mask_of : List Place → List Bool
-mask_of places = map (λ p. is_out p.role) places
 
 abbrev pub set_modes : RuleSet → Modes
 set_modes set = modes_by (forms set.forms.items)

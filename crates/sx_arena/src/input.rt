@@ -10,16 +10,16 @@ ghost use Rattle.sx_arena.specs.Arena.{IsArena, IsHeld};
 ghost use Rattle.sx_arena.specs.Entered.{IsFactIn, AreFactsIn, ArePairsShallow, IsPairIn};
 ghost use Rattle.sx_arena.specs.Entered.{ArePairsIn};
 ghost use Rattle.sx_arena.specs.Places.{selected, AreHeld};
-ghost use Rattle.sx_arena.specs.Views.{mask_of, set_modes, judgement_of};
+ghost use Rattle.sx_rules.specs.SubjectTerms.{output_mask};
+ghost use Rattle.sx_arena.specs.Views.{set_modes, judgement_of};
 ghost use Rattle.sx_term.specs.Limits.{most_depth};
 
 use crate::arena::Arena;
 use crate::fact::Fact;
 use crate::pairs::Pair;
-use crate::places::is_output;
 use crate::set::roles;
 use std::alloc::Global;
-use sx_rules::{Judgement, Place, RuleSet};
+use sx_rules::{Judgement, Place, RuleSet, is_output};
 use sx_term::{NoMemory, Term};
 
 /// The number of the term.
@@ -52,7 +52,7 @@ pub fn enter_places(
     requires shallow { AreShallow (map tree places.now) }
     requires arena { IsArena arena.old }
     ensures { IfOk result (λ r. AreHeld arena.old arena.new r.items
-        (selected outputs (mask_of roles.now) (map tree places.now))) }
+        (selected outputs (output_mask roles.now) (map tree places.now))) }
 {
     let mut parts = Vec::new(alloc);
     for i in 0..places.len() {

@@ -35,7 +35,7 @@ pub use laws::match_is_exact;
 pub use output::{export, export_all, export_binds};
 pub use pairs::{Pair, apart, instances_apart};
 pub use pattern::{fit, made};
-pub use places::{Limit, fit_places, is_output, make_places, may_fit, passed};
+pub use places::{Limit, fit_places, make_places, may_fit, passed};
 pub use set::{roles, rule_at};
 pub use shape::{Kids, Shape};
 pub use side::Side;

@@ -1,8 +1,7 @@
 //! The places of a judgement: matching and making its inputs or its outputs, and the limits of
 //! terms.
 
-ghost use Rattle.std.specs.Prelude.{◌≡◌, ◌↔◌, ◌≤◌, ◌<◌, false, IsTrue, IfOk, OnOk, length};
-ghost use Rattle.std.specs.Prelude.{map, get_or};
+ghost use Rattle.std.specs.Prelude.{◌↔◌, ◌≤◌, ◌<◌, IsTrue, IfOk, OnOk, length, map};
 ghost use Rattle.sx_term.specs.Term.{tree};
 ghost use Rattle.sx_rules.specs.Instances.{instance};
 ghost use Rattle.sx_arena.specs.Matching.{match_all, filled};
@@ -10,7 +9,7 @@ ghost use Rattle.sx_rules.specs.Deep.{AreShallow};
 ghost use Rattle.sx_arena.specs.Limits.{limit_passed};
 ghost use Rattle.sx_arena.specs.Arena.{trees, tree_at, IsArena, AreBelow};
 ghost use Rattle.sx_arena.specs.Binds.{envs, env_at, IsBinds, BindsGrow, IsChainFit};
-ghost use Rattle.sx_arena.specs.Views.{mask_of};
+ghost use Rattle.sx_rules.specs.SubjectTerms.{output_mask};
 ghost use Rattle.sx_arena.specs.Places.{
   selected,
   patterns_of,
@@ -26,24 +25,14 @@ use crate::pattern::{fit, made};
 use crate::shape::Shape;
 use crate::side::Side;
 use std::alloc::Global;
-use sx_rules::Place;
-use sx_term::{MOST_DEPTH, MOST_SIZE, NoMemory, Role, Term};
+use sx_rules::{Place, is_output};
+use sx_term::{MOST_DEPTH, MOST_SIZE, NoMemory, Term};
 
 /// The limit that a term passes, with its depth or its size.
 #[derive(Clone, Copy, PartialEq, Eq, Debug)]
 pub enum Limit {
     TooDeep(u64),
     TooBig(u64),
-}
-
-/// Whether the place is an output.
-pub fn is_output(roles: &[Place], place: usize) -> bool
-    ensures { result ≡ get_or (mask_of roles.now) place false }
-{
-    match roles.get(place) {
-        Some(it) => matches!(it.role, Role::Out),
-        None => false,
-    }
 }
 
 /// Whether the term is a node with the label.
@@ -150,7 +139,7 @@ pub fn make_places(
     requires binds { IsBinds (trees arena.old) binds.now }
     requires env { env ≤ length binds.now.cells.items }
     ensures { IfOk result (λ r. AreHeld arena.old arena.new r.items
-        (selected side.now.outputs (mask_of side.now.roles.now)
+        (selected side.now.outputs (output_mask side.now.roles.now)
         (map (instance (filled (env_at (envs (trees arena.old) binds.now) env)))
         (map tree side.now.places.now)))) }
 {

@@ -1,13 +1,14 @@
 //! What a search reads of a rule set.
 
 ghost use Rattle.std.specs.Prelude.{◌≡◌, ◌<◌, Some, length, slice_get};
-ghost use Rattle.sx_arena.specs.Views.{mask_of, set_modes, rules_of, rule_of};
+ghost use Rattle.sx_rules.specs.SubjectTerms.{output_mask};
+ghost use Rattle.sx_arena.specs.Views.{set_modes, rules_of, rule_of};
 
 use sx_rules::{Place, Rule, RuleSet};
 
 /// The places of the form, none where there is no such form.
 pub fn roles(set: &RuleSet, form: u32) -> &[Place]
-    ensures { mask_of result.now ≡ set_modes set.now form }
+    ensures { output_mask result.now ≡ set_modes set.now form }
 {
     match set.forms().get(form as usize) {
         Some(it) => it.places.as_slice(),

@@ -1,7 +1,8 @@
 //! The inputs or the outputs of a judgement.
 
 ghost use Rattle.std.specs.Prelude.{◌≡◌};
-ghost use Rattle.sx_arena.specs.Views.{mask_of, set_modes};
+ghost use Rattle.sx_rules.specs.SubjectTerms.{output_mask};
+ghost use Rattle.sx_arena.specs.Views.{set_modes};
 
 use crate::set::roles;
 use sx_rules::{Judgement, Place, RuleSet};
@@ -18,7 +19,7 @@ pub struct Side<'a> {
 impl<'a> Side<'a> {
     /// The outputs of the judgement, or else its inputs.
     pub fn new(rules: &'a RuleSet, judgement: &'a Judgement, outputs: bool) -> Side<'a>
-        ensures roles { mask_of result.roles.now ≡ set_modes rules.now judgement.now.form }
+        ensures roles { output_mask result.roles.now ≡ set_modes rules.now judgement.now.form }
         ensures outputs { result.outputs ≡ outputs }
         ensures places { result.places.now ≡ judgement.now.places.items }
     {

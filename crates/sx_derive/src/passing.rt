@@ -16,7 +16,8 @@ ghost use Rattle.sx_rules.specs.Modes.{inputs};
 ghost use Rattle.sx_rules.specs.Rules.{Judgement};
 ghost use Rattle.sx_arena.specs.Arena.{tree_at, AreBelow, IsArena};
 ghost use Rattle.sx_arena.specs.Places.{NeverFit};
-ghost use Rattle.sx_arena.specs.Views.{mask_of, rules_of, rule_of, set_modes};
+ghost use Rattle.sx_rules.specs.SubjectTerms.{output_mask};
+ghost use Rattle.sx_arena.specs.Views.{rules_of, rule_of, set_modes};
 ghost use Rattle.sx_derive.specs.Givens.{IsStoreOf, HasFacts};
 ghost use Rattle.sx_derive.specs.Passing.{ComeToNothing};
 ghost use Rattle.sx_derive.specs.Store.{store_trees};
@@ -43,7 +44,7 @@ fn is_other_rule(store: &Store, rule: &Rule, task: &Task, places: &[Place]) -> b
     requires store { IsArena store.now.arena }
     requires terms { AreBelow (length (store_trees store.now)) task.now.terms.items }
     ensures { result ≡ true → (rule_of rule.now).conclusion.form ≡ task.now.form →
-        NeverFit (inputs (mask_of places.now) (rule_of rule.now).conclusion.places)
+        NeverFit (inputs (output_mask places.now) (rule_of rule.now).conclusion.places)
         (map (tree_at (store_trees store.now)) task.now.terms.items) }
 {
     if rule.conclusion.form != task.form {
@@ -61,7 +62,7 @@ fn is_other_rule(store: &Store, rule: &Rule, task: &Task, places: &[Place]) -> b
 fn is_miss(given: &Given, store: &Store, task: &Task, places: &[Place], next: usize) -> bool
     requires store { IsStoreOf given.now store.now }
     requires terms { AreBelow (length (store_trees store.now)) task.now.terms.items }
-    requires places { mask_of places.now ≡ set_modes given.now.rules.now task.now.form }
+    requires places { output_mask places.now ≡ set_modes given.now.rules.now task.now.form }
     ensures there { result ≡ true →
         next < length given.now.facts.now + length (rules_of given.now.rules.now) }
     ensures nothing { result ≡ true → (js : List Judgement) → HasFacts given.now store.now js →

@@ -1,18 +1,8 @@
 //! The flat conclusion of a rule, as a goal.
 
-ghost use Rattle.std.specs.Prelude.{
-  ◌≡◌,
-  false,
-  IfOk,
-  map,
-  get_or,
-  option_map,
-  unwrap_or,
-  if◌then◌else◌,
-};
+ghost use Rattle.std.specs.Prelude.{◌≡◌, IfOk, map, option_map, unwrap_or, if◌then◌else◌};
 ghost use Rattle.std.specs.List.{AllByRecursion};
 ghost use Rattle.sx_term.specs.Term.{tree};
-ghost use Rattle.sx_term.specs.Roles.{is_out};
 ghost use Rattle.sx_rules.specs.Modes as known;
 ghost use Rattle.sx_rules.specs.Sets.{forms_in};
 ghost use Rattle.sx_rules.specs.Views.{goal, judgement, modes_of, subjects_in};
@@ -27,8 +17,8 @@ use crate::flat_goal::FlatGoal;
 use std::alloc::Global;
 use sx_plain::PlainTable;
 use sx_rewrite::{ExtRule, plain_term};
-use sx_rules::{Goal, Place, RuleSet, is_subject};
-use sx_term::{NoMemory, Role, Term};
+use sx_rules::{Goal, RuleSet, is_output, is_subject};
+use sx_term::{NoMemory, Term};
 
 /// The goal and the outputs of the flat conclusion: its places have plain images, and the subject
 /// gives way to the plain image of the body. The one refusal is out of memory.
@@ -73,16 +63,6 @@ pub(crate) fn flat_goal(
         },
         wanted,
     })
-}
-
-/// Whether the place is an output.
-fn is_output(places: &[Place], place: usize) -> bool
-    ensures { result ≡ get_or (map (λ p. is_out p.role) places.now) place false }
-{
-    match places.get(place) {
-        Some(it) => matches!(it.role, Role::Out),
-        None => false,
-    }
 }
 
 /// The plain image of the term; a subject gives way to the plain image of the body, where there

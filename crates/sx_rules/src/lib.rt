@@ -49,4 +49,4 @@ pub use proof::Proof;
 pub use proof_copy::copy_proof;
 pub use rule::{Form, Goal, Hyps, Judgement, Place, Premise, Rule};
 pub use rule_set::RuleSet;
-pub use subject_places::is_subject;
+pub use subject_places::{is_output, is_subject};

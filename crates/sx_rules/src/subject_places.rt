@@ -6,7 +6,7 @@ ghost use Rattle.sx_term.specs.Term.{tree};
 ghost use Rattle.sx_rules.specs.Modes.{outputs};
 ghost use Rattle.sx_rules.specs.Discipline.{subjects_of};
 ghost use Rattle.sx_rules.specs.Sets.{forms_in};
-ghost use Rattle.sx_rules.specs.SubjectTerms.{subject_mask};
+ghost use Rattle.sx_rules.specs.SubjectTerms.{output_mask, subject_mask};
 ghost use Rattle.sx_rules.specs.Views.{judgement, subjects_in, places_at};
 
 use crate::chosen::places_of;
@@ -41,6 +41,16 @@ pub fn is_subject(places: &[Place], place: usize) -> bool
 {
     match places.get(place) {
         Some(it) => matches!(it.role, Role::Sub),
+        None => false,
+    }
+}
+
+/// Whether the place is an output.
+pub fn is_output(places: &[Place], place: usize) -> bool
+    ensures { result ≡ get_or (output_mask places.now) place false }
+{
+    match places.get(place) {
+        Some(it) => matches!(it.role, Role::Out),
         None => false,
     }
 }

@@ -6,7 +6,6 @@ pub mod Unprinted
 pub mod PrintRefused
 pub mod PartRefused
 pub mod Errors
-pub mod Outputs
 pub mod Captured
 pub mod Written
 pub mod Unit

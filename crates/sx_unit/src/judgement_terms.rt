@@ -1,28 +1,18 @@
 //! The terms of a lowered judgement that are printed.
 
-ghost use Rattle.std.specs.Prelude.{◌≡◌, false, List, [], ◌∷◌, map, get_or, MatchOption};
+ghost use Rattle.std.specs.Prelude.{◌≡◌, List, [], ◌∷◌, map, MatchOption};
 ghost use Rattle.sx_term.specs.Term.{tree};
 ghost use Rattle.sx_term.specs.Tree.{Tree};
 ghost use Rattle.sx_rules.specs.Modes.{outputs, outputs_of};
 ghost use Rattle.sx_rules.specs.Sets.{forms_in};
+ghost use Rattle.sx_rules.specs.SubjectTerms.{output_mask};
 ghost use Rattle.sx_rules.specs.Views as views;
 ghost use Rattle.sx_rules.specs.Views.{modes_of, subjects_in};
-ghost use Rattle.sx_unit.specs.Outputs.{output_mask};
 ghost use Rattle.sx_unit.specs.PrintedParts.{printed_of};
 
 use crate::printed_terms::PrintedTerms;
-use sx_rules::{Judgement, Place, RuleSet};
-use sx_term::{Role, Term};
-
-/// Whether the place is an output.
-fn is_output(places: &[Place], place: usize) -> bool
-    ensures { result ≡ get_or (output_mask places.now) place false }
-{
-    match places.get(place) {
-        Some(it) => matches!(it.role, Role::Out),
-        None => false,
-    }
-}
+use sx_rules::{Judgement, Place, RuleSet, is_output};
+use sx_term::Term;
 
 /// The first term at an output place.
 fn output_at<'a>(places: &[Place], terms: &'a [Term]) -> Option<&'a Term>

@@ -1,7 +1,7 @@
 use Rattle.std.proofs.Common.{ℕ, ◌+◌, ◌∙◌, sym, subst, get_or, refl, arith}
 use Rattle.std.proofs.lemmas.List.{get_or_default}
 use Rattle.sx_arena.specs.Arena.{trees}
-use Rattle.sx_arena.specs.Views.{mask_of}
+use Rattle.sx_rules.specs.SubjectTerms.{output_mask}
 use Rattle.sx_arena.proofs.Arenas.{below_zero}
 use Rattle.sx_arena.proofs.Placed.{is_same, is_other, get_at}
 use Rattle.sx_arena.proofs.Keyed.{Keyed, keyed_first, keyed_skip, keyed_few, keyed_lexeme, keyed_hole, keyed_node, keyed_end}
@@ -34,11 +34,11 @@ returns-in-Node c =
 
 pub loop-i-preserved : goal.loop-i-preserved
 loop-i-preserved c = elim c.match-places-i.branch [
-  | in-Lex w ↦ subst (λ (k : ℕ). Keyed (trees c.args.arena.now) (mask_of c.args.side.now.roles.now) c.args.side.now.outputs c.args.side.now.places.now c.args.terms.now (c.loop-i.i + 1) k) (sym w.taken-is)
+  | in-Lex w ↦ subst (λ (k : ℕ). Keyed (trees c.args.arena.now) (output_mask c.args.side.now.roles.now) c.args.side.now.outputs c.args.side.now.places.now c.args.terms.now (c.loop-i.i + 1) k) (sym w.taken-is)
       (keyed_lexeme _ _ _ _ _ _ _ _ c.loop-i.invariant c.loop-i-test.true c.index-places-i.is (sym c.is_output.ensures ∙ is_same _ _ c.if-is_output-outputs.false) _ c.if-taken-terms.false
       (get_or_default c.args.terms.now c.loop-i.taken 0 (get_or c.args.terms.now c.loop-i.taken 0) c.if-taken-terms.false)
       _ _ w.in-Lex.is)
-  | in-Var w ↦ subst (λ (k : ℕ). Keyed (trees c.args.arena.now) (mask_of c.args.side.now.roles.now) c.args.side.now.outputs c.args.side.now.places.now c.args.terms.now (c.loop-i.i + 1) k) (sym w.taken-is)
+  | in-Var w ↦ subst (λ (k : ℕ). Keyed (trees c.args.arena.now) (output_mask c.args.side.now.roles.now) c.args.side.now.outputs c.args.side.now.places.now c.args.terms.now (c.loop-i.i + 1) k) (sym w.taken-is)
       (keyed_hole _ _ _ _ _ _ _ _ c.loop-i.invariant c.loop-i-test.true c.index-places-i.is (sym c.is_output.ensures ∙ is_same _ _ c.if-is_output-outputs.false) _ c.if-taken-terms.false
       (get_or_default c.args.terms.now c.loop-i.taken 0 (get_or c.args.terms.now c.loop-i.taken 0) c.if-taken-terms.false)
       _ w.in-Var.is)

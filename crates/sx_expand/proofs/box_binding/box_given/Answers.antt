@@ -4,7 +4,7 @@ use Rattle.sx_term.specs.Term.{tree}
 use Rattle.sx_rules.specs.Deep.{AreShallow}
 use Rattle.sx_rules.specs.Modes.{outputs, outputs_of}
 use Rattle.sx_rules.specs.Views.{judgement}
-use Rattle.sx_arena.specs.Views.{mask_of}
+use Rattle.sx_rules.specs.SubjectTerms.{output_mask}
 use Rattle.sx_expand.specs.Boxes.{hyps_from, modes_from}
 use Rattle.sx_expand.proofs.BoxNodes.{hypothesis-shallow}
 use Rattle.sx_expand.proofs.Givens.{one-given}
@@ -25,7 +25,7 @@ returns-clause-made c = λ j at.
       below = held.within;
       outputs =
           held.are
-          ∙ ap (λ (ts : List Term). outputs (mask_of c.roles.result.now) (map tree ts)) c.deref.ensures.value
+          ∙ ap (λ (ts : List Term). outputs (output_mask c.roles.result.now) (map tree ts)) c.deref.ensures.value
           ∙ ap (λ (m : List Bool). outputs m it.places) c.roles.ensures
           ∙ ap (outputs_of (modes_from c.args.origin.now))
           (one-given (hyps_from c.args.origin.now) c.args.number it j c.given_at-it.ensures at);

@@ -9,7 +9,8 @@ use Rattle.sx_rules.specs.Rules.{Judgement}
 use Rattle.sx_rules.specs.Sets.{forms_in}
 use Rattle.sx_rules.specs.Views.{judgement, subjects_in}
 use Rattle.sx_arena.specs.Arena.{trees}
-use Rattle.sx_arena.specs.Views.{mask_of, set_modes}
+use Rattle.sx_rules.specs.SubjectTerms.{output_mask}
+use Rattle.sx_arena.specs.Views.{set_modes}
 use Rattle.sx_arena.proofs.Arenas.{maps_same, below_more}
 use Rattle.sx_arena.proofs.Growing.{extends-length}
 use Rattle.sx_expand.specs.KidSubjects.{IsSubjectAt}
@@ -59,7 +60,7 @@ returns-in-Ok-clause-outputs c = λ j at.
     maps_same (trees c.enter_places.new.arena) (trees c.given_subject.new.arena)
     c.in-Ok.ensures.arena.1 c.in_ok-outputs.outputs.items held.within
     ∙ held.are
-    ∙ ap (λ (ts : List Term). outputs (mask_of c.roles.result.now) (map tree ts)) c.deref.ensures.value
+    ∙ ap (λ (ts : List Term). outputs (output_mask c.roles.result.now) (map tree ts)) c.deref.ensures.value
     ∙ ap (λ (m : List Bool). outputs m it.places) mask
     ∙ ap (outputs_of modes) (one-given (hyps_by c.args.reading.now) c.args.number it j c.given_at-it.ensures at)
 

@@ -1,11 +1,11 @@
-use Rattle.std.proofs.Common.{◌≡◌, ◌<◌, sym, ◌∙◌, arith, ap, subst, map, get_or, length, Bool, List, false}
+use Rattle.std.proofs.Common.{◌≡◌, ◌<◌, sym, ◌∙◌, arith, ap, subst, get_or, length, Bool, List, false}
 use Rattle.std.specs.Prelude.{option_map}
-use Rattle.sx_term.specs.Roles.{is_out}
 use Rattle.sx_term.specs.Term.{tree}
 use Rattle.sx_term.specs.Tree.{Tree}
 use Rattle.sx_rules.specs.declared.rule.Place.{Place}
 use Rattle.sx_rules.specs.Modes.{Goal}
 use Rattle.sx_rules.specs.Sets.{forms_in}
+use Rattle.sx_rules.specs.SubjectTerms.{output_mask}
 use Rattle.sx_rules.specs.Views.{modes_of, subjects_in}
 use Rattle.sx_plain.specs.Plain.{image}
 use Rattle.sx_plain.specs.Views.{table_of}
@@ -33,7 +33,7 @@ loop-i-preserved c =
     let within : c.loop-i.i < length j.places.items = omega (arith, l, n) in
     let is = subst (λ (b : Bool). tree c.in_ok-term.term ≡ flat_term table body b (tree c.index.result.now))
     (c.is_subject.ensures ∙ ap (λ (m : List Bool). get_or m c.loop-i.i false) c.places_of-places.ensures.mask) c.in_ok-term.ensures in
-    let mark = sym (c.is_output.ensures ∙ ap (λ (ps : List Place). get_or (map (λ p. is_out p.role) ps) c.loop-i.i false) c.places_of-places.ensures.places) in
+    let mark = sym (c.is_output.ensures ∙ ap (λ (ps : List Place). get_or (output_mask ps) c.loop-i.i false) c.places_of-places.ensures.places) in
     elim c.if-is_output.branch [
       | then-is_output+in_ok-push w ↦
           rw (w.inputs-is, w.wanted-is)

@@ -1,6 +1,6 @@
 use Rattle.std.proofs.Common.{sym}
 use Rattle.sx_rules.proofs.SubjectTerms.{subject_found, subject_later, subject_none}
-use Rattle.sx_unit.specs.Outputs.{output_mask}
+use Rattle.sx_rules.specs.SubjectTerms.{output_mask}
 use Rattle.sx_unit.proofs.judgement_terms.output_at.Goals as goal
 
 pub returns-then-is_output : goal.returns-then-is_output
