@@ -1,10 +1,8 @@
 //! The step that finds the list of the first derivation of a core problem's goal.
 
-ghost use Rattle.std.specs.Prelude.{◌≡◌, ◌<◌, ◌^◌, Some, IfOk, length};
+ghost use Rattle.std.specs.Prelude.{◌≡◌, Some, IfOk};
 ghost use Rattle.sx_core.specs.Problem.{problem as problem_data};
-ghost use Rattle.sx_rules.specs.Views.{hypotheses};
 ghost use Rattle.sx_steps.specs.Stop.{RisesWithin, GivesFor, IsNoFault, CountsTries};
-ghost use Rattle.sx_rules.specs.Rules.{no_hypotheses};
 ghost use Rattle.sx_top.specs.LowerStops.{derive_stop};
 ghost use Rattle.sx_top.specs.Proper.{IsProper, ListsGiven, HasTerms};
 ghost use Rattle.sx_top.specs.Search.{Searches, HasCoreWalked};
@@ -18,17 +16,6 @@ use sx_rules::Hyps;
 use sx_steps::{StepError, Stop, about};
 use sx_term::{NoMemory, Steps, Text};
 use sx_words::{BudgetDefect, Defect, TextDefect};
-
-/// No hypotheses.
-pub fn nothing_given(alloc: Global) -> Hyps
-    ensures none { hypotheses result ≡ no_hypotheses }
-    ensures few { length result.holds.items < 2 ^ 32 }
-{
-    Hyps {
-        holds: Vec::new(alloc),
-        apart: Vec::new(alloc),
-    }
-}
 
 /// Why the goal of the file has no answer.
 fn no_answer(
@@ -69,7 +56,7 @@ pub fn find_first<L: Ledger>(
         steps.new }
     ensures most { RisesWithin budget steps.old steps.new }
 {
-    let given = nothing_given(alloc);
+    let given = Hyps::none(alloc);
     match derive_list(
         alloc,
         &problem.rules,

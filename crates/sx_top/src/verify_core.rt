@@ -15,14 +15,13 @@ ghost use Rattle.sx_top.specs.VerifyCore.{VerifiesWhole};
 ghost use Rattle.sx_steps.specs.Work.{plan_of};
 
 use crate::read_core::read_problem;
-use crate::search::nothing_given;
 use crate::texts::{base_text, interface_text};
 use crate::written::compare;
 use std::alloc::Global;
 use sx_core::CoreProblem;
 use sx_outside::Shelf;
 use sx_replay::replay;
-use sx_rules::Entry;
+use sx_rules::{Entry, Hyps};
 use sx_steps::{StepError, Work, with_suffix};
 use sx_term::{Term, Text};
 use sx_verify::{bad_replay, read_entries, verified_work};
@@ -41,7 +40,7 @@ fn replay_list(
     ensures terms { IfOk result (λ outputs. AreTerms (map tree outputs.items)) }
     ensures no_fault { IsNoFault result }
 {
-    let given = nothing_given(alloc);
+    let given = Hyps::none(alloc);
     match replay(alloc, &problem.rules, &given, &problem.goal, list) {
         Ok(outputs) => Ok(outputs),
         Err(error) => Err(StepError::Stopped(bad_replay(alloc, file, error)?)),

@@ -1,16 +1,14 @@
 -- What a search tells, where no hypotheses are given.
-use Rattle.std.proofs.Common.{◌≡◌, ◌≤◌, ℕ, List, [], map}
+use Rattle.std.proofs.Common.{◌≡◌, ◌≤◌, ℕ, List, []}
 use Rattle.std.proofs.Common.{None, arith}
 use Rattle.sx_term.specs.declared.sort.Sort.{Sort}
 use Rattle.sx_term.specs.Sorts.{Shape}
 use Rattle.sx_term.specs.Tree.{Tree}
 use Rattle.sx_grammar.specs.Grammar.{Text}
-use Rattle.sx_rules.specs.declared.rule.Hyps.{Hyps}
 use Rattle.sx_rules.specs.Derivations.{height_of, HasShallowBinds}
 use Rattle.sx_rules.specs.First.{Answer}
 use Rattle.sx_rules.specs.Modes.{Goal}
-use Rattle.sx_rules.specs.Views.{FormData, NamedRule, judgement, pair, hypotheses, modes_of}
-use Rattle.sx_rules.specs.Views.{subjects_in}
+use Rattle.sx_rules.specs.Views.{FormData, NamedRule, modes_of, subjects_in}
 use Rattle.sx_rules.proofs.Refusals.{good_moded}
 use Rattle.sx_derive.specs.Walk.{events}
 use Rattle.sx_derive.specs.Search.{found, walk}
@@ -24,12 +22,6 @@ use Rattle.sx_rules.specs.Rules.{no_hypotheses}
 use Rattle.sx_typing.specs.Searched.{IsGoalFor, FoundOutputsFit, ExhaustedGoalsFit}
 use Rattle.sx_typing.proofs.Lexemes.{outputs_have_lexemes}
 use Rattle.sx_typing.proofs.SortedGoals.{outputs_are_sorted, stuck_goals_fit}
-
--- hypotheses without entries
-pub none_given : (given : Hyps) → given.holds.items ≡ [] → given.apart.items ≡ [] →
-    hypotheses given ≡ no_hypotheses
-none_given given holds apart =
-    λ i. record { judgements = map judgement (holds i); pairs = map pair (apart i) }
 
 pub found_outputs_fit : FoundOutputsFit
 found_outputs_fit literals shapes forms rules set have vars top goal good wanted budget a e =

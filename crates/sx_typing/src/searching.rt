@@ -1,6 +1,6 @@
 //! The goal of a source, and its first derivation.
 
-ghost use Rattle.std.specs.Prelude.{◌≡◌, ◌<◌, ◌≤◌, ◌++◌, [], None, length, map, IfOk};
+ghost use Rattle.std.specs.Prelude.{◌≡◌, ◌<◌, ◌≤◌, ◌++◌, None, length, map, IfOk};
 ghost use Rattle.sx_term.specs.Term.{tree};
 ghost use Rattle.sx_term.specs.Tree.{depth_of};
 ghost use Rattle.sx_rules.specs.Deep.{AreShallow};
@@ -83,17 +83,6 @@ pub fn main_goal(
     Ok(Goal { form, inputs })
 }
 
-/// No hypotheses.
-fn nothing_given(alloc: Global) -> Hyps
-    ensures holds { result.holds.items ≡ [] }
-    ensures apart { result.apart.items ≡ [] }
-{
-    Hyps {
-        holds: Vec::new(alloc),
-        apart: Vec::new(alloc),
-    }
-}
-
 /// The list of the first derivation of the goal by the rules alone, and its outputs, or why there
 /// is none. At most `tries` tries are made.
 pub(crate) fn find_derivation<L: Ledger>(
@@ -111,6 +100,6 @@ pub(crate) fn find_derivation<L: Ledger>(
         (nameless (rules_in rules.now)) no_hypotheses (goal_of goal.now) 1)) steps.old steps.new
         result }
 {
-    let given = nothing_given(alloc);
+    let given = Hyps::none(alloc);
     derive_list(alloc, rules, &given, goal, None, tries, steps)
 }

@@ -13,7 +13,7 @@ pub returns-in-Ok-clause-step : goal.returns-in-Ok-clause-step
 returns-in-Ok-clause-step c =
     let p = problem_data c.args.problem.now in
     by_plain c.args.problem.now (λ (rs : List Rule) (hyps : Hypotheses). IsReplayAnswer (modes_of p.forms) rs hyps p.goal (entries c.args.list.now) (Ok (map tree c.in-Ok.outputs.items)))
-    (hypotheses c.nothing_given-given.result) c.nothing_given-given.ensures.none c.in-Ok.ensures
+    (hypotheses c.none-given.result) c.none-given.ensures.none c.in-Ok.ensures
 
 pub returns-in-Ok-clause-terms : goal.returns-in-Ok-clause-terms
 returns-in-Ok-clause-terms c =
@@ -24,6 +24,6 @@ returns-clause-step c =
     let p = problem_data c.args.problem.now in (
       c.in-Err.error,
       by_plain c.args.problem.now (λ (rs : List Rule) (hyps : Hypotheses). IsReplayAnswer (modes_of p.forms) rs hyps p.goal (entries c.args.list.now) (Err c.in-Err.error))
-          (hypotheses c.nothing_given-given.result) c.nothing_given-given.ensures.none c.in-Err.ensures,
+          (hypotheses c.none-given.result) c.none-given.ensures.none c.in-Err.ensures,
       c.in_ok-bad_replay-in-Err.ensures.stop,
     )
