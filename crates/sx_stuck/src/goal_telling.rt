@@ -1,7 +1,6 @@
 //! Texts of stuck goals.
 
-ghost use Rattle.std.specs.Prelude.{◌≡◌, ◌≤◌, ◌+◌, ◌^◌, Option, Some, map, option_map};
-ghost use Rattle.std.specs.Prelude.{IfOk, MatchResult};
+ghost use Rattle.std.specs.Prelude.{◌≡◌, IfOk, Option, Some, map, option_map};
 ghost use Rattle.sx_term.specs.Term.{tree};
 ghost use Rattle.sx_rules.specs.Views.{goal as goal_of};
 ghost use Rattle.sx_derive.specs.Blames.{blame_of};
@@ -15,18 +14,7 @@ use sx_derive::{Blame, Cause};
 use sx_notation::print_goal;
 use sx_rules::Goal;
 use sx_term::{NoMemory, Term, Text};
-use sx_words::GoalDefect;
-
-/// The number of a premise, from 1. No rule in memory has a premise whose number is past the
-/// greatest u64.
-fn premise_number(premise: usize) -> Result<u64, NoMemory>
-    ensures { MatchResult result (λ number. number ≡ premise + 1) (λ _. 2 ^ 64 ≤ premise + 1) }
-{
-    match (premise as u64).checked_add(1) {
-        Some(number) => Ok(number),
-        None => Err(NoMemory::Memory),
-    }
-}
+use sx_words::{GoalDefect, premise_number};
 
 /// The goal's text, with the outputs got.
 fn shown_goal(

@@ -1,6 +1,6 @@
 //! Goals of core files that have no derivation.
 
-ghost use Rattle.std.specs.Prelude.{◌≡◌, ◌≤◌, ◌+◌, ◌^◌, IfOk, MatchResult, Some, None, map};
+ghost use Rattle.std.specs.Prelude.{◌≡◌, IfOk, Some, None, map};
 ghost use Rattle.sx_term.specs.Term.{tree};
 ghost use Rattle.sx_rules.specs.Views.{goal as goal_data};
 ghost use Rattle.sx_rules.specs.Sets.{forms_in, rules_in};
@@ -17,7 +17,7 @@ use sx_derive::{Blame, Cause};
 use sx_rules::{Goal, RuleSet};
 use sx_steps::{Stop, about};
 use sx_term::{NoMemory, Term, Text};
-use sx_words::{Defect, GoalDefect};
+use sx_words::{Defect, GoalDefect, premise_number};
 
 /// The name of the rule with this number; empty where there is no such rule.
 fn rule_name(alloc: Global, rules: &RuleSet, number: u32) -> Result<Text, NoMemory>
@@ -26,17 +26,6 @@ fn rule_name(alloc: Global, rules: &RuleSet, number: u32) -> Result<Text, NoMemo
     match rules.rule(number) {
         Some(rule) => rule.name.copy(alloc),
         None => Text::of_str(alloc, ""),
-    }
-}
-
-/// The number of a premise in a printed line, from 1. No rule in memory has a premise whose number
-/// is past the greatest u64.
-fn premise_number(premise: usize) -> Result<u64, NoMemory>
-    ensures { MatchResult result (λ number. number ≡ premise + 1) (λ _. 2 ^ 64 ≤ premise + 1) }
-{
-    match (premise as u64).checked_add(1) {
-        Some(number) => Ok(number),
-        None => Err(NoMemory::Memory),
     }
 }
 

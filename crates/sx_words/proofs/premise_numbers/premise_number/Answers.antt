@@ -1,5 +1,5 @@
 use Rattle.std.proofs.Common.{arith}
-use Rattle.sx_stuck.proofs.goal_telling.premise_number.Goals as goal
+use Rattle.sx_words.proofs.premise_numbers.premise_number.Goals as goal
 
 pub returns-in-Some : goal.returns-in-Some
 returns-in-Some c = omega (arith, c.in-Some.ensures)
