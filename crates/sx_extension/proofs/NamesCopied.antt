@@ -7,7 +7,7 @@ use Rattle.sx_term.specs.Vars.{IsAdded}
 use Rattle.sx_grammar.specs.Grammar.{Text}
 use Rattle.sx_grammar.proofs.Finding.{at_contains}
 use Rattle.sx_lines.specs.Distinct.{AreTextsDistinct}
-use Rattle.sx_notation.proofs.Copied.{copied_more}
+use Rattle.sx_term.proofs.VarCopies.{copied_more}
 
 some_head : {X : Type 0} (x y : X) → Some x ≡ Some y → x ≡ y
 some_head x y e = cc

@@ -25,7 +25,7 @@ mod extension_reading;
 mod grammars;
 mod laws;
 mod layers;
-mod names;
+mod numbered_names;
 mod own_syntax;
 mod own_tables;
 mod plain_body;

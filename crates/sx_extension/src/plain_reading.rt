@@ -10,7 +10,7 @@ ghost use Rattle.sx_extension.specs.Readings.{IsPlainRead, ArePlainsRead, IsBadP
 ghost use Rattle.sx_extension.specs.Readings.{IsFirstBadPlain};
 ghost use Rattle.sx_extension.specs.Stages.{CanReadPlain};
 
-use crate::names::{label_names, number_in, part_names};
+use crate::numbered_names::{label_names, number_in, part_names};
 use crate::plain_body::PlainBody;
 use std::alloc::Global;
 use sx_grammar::Grammar;

@@ -7,7 +7,7 @@ use Rattle.sx_grammar.specs.Grammar.{Text}
 use Rattle.sx_grammar.specs.Stems.{without_digits}
 use Rattle.sx_earley.specs.Tokens.{Stems, stem_sort}
 use Rattle.sx_language.specs.RuleTexts.{NamesHaveStems, HaveStemSorts}
-use Rattle.sx_notation.proofs.Copied.{take_end}
+use Rattle.sx_term.proofs.VarCopies.{take_end}
 
 take_next : (names : List Text) (n : ℕ) (x : Text) → slice_get names n ≡ Some x → take (suc n) names ≡ take n names ++ x ∷ []
 take_next [] n x e = cc

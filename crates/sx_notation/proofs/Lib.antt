@@ -5,7 +5,6 @@ pub mod Growing
 pub mod RuleGrammars
 pub mod Further
 pub mod Numbers
-pub mod Copied
 pub mod TextReading
 pub mod AmongNames
 pub mod TreeTexts

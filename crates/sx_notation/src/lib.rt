@@ -23,7 +23,6 @@ mod language;
 mod laws;
 mod line_reader;
 mod named_tokens;
-mod names;
 mod notation_error;
 mod resolving;
 mod rule_productions;

@@ -17,7 +17,6 @@ ghost use Rattle.sx_notation.specs.ReadAmong.{IsNamedCut, IsReadAmong, IsRefused
 ghost use Rattle.sx_term.specs.Limits.{most_bytes, most_tokens};
 
 use crate::named_tokens::are_named;
-use crate::names::copy_names;
 use crate::notation_error::NotationError;
 use crate::telling::why_unread;
 use std::alloc::Global;
@@ -254,7 +253,7 @@ impl<'a> LineReader<'a> {
         ensures refused { IfErr result
             (IsRefusedAmong self.now.parts self.now.stems sort line.now names.now number) }
     {
-        let mut copy = copy_names(alloc, names)?;
+        let mut copy = names.copy(alloc)?;
         let tokens = named_tokens(alloc, self, line, number, names, &mut copy)?;
         let reading = reading_of(alloc, self, sort, &tokens, line.len(), number)?;
         let term = strip(alloc, &reading, &tokens, &mut copy)?;

@@ -10,7 +10,7 @@
 #![tactic(auto)]
 
 mod held;
-mod names;
+mod joining;
 mod status;
 mod step_error;
 mod stop;
@@ -19,7 +19,7 @@ mod unit;
 mod work;
 
 pub use held::{MOST_LIST_BYTES, read_file};
-pub use names::{joined, with_suffix};
+pub use joining::{joined, with_suffix};
 pub use status::Status;
 pub use step_error::StepError;
 pub use stop::{Stop, about, refusal_line};

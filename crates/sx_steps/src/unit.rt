@@ -4,7 +4,7 @@ ghost use Rattle.std.specs.Prelude.{◌≡◌, ◌++◌, IfOk, [], ◌∷◌};
 ghost use Rattle.sx_steps.specs.Unit.{nodes_line as line_of_nodes, built_plan};
 ghost use Rattle.sx_steps.specs.Work.{plan_of, file_of};
 
-use crate::names::with_suffix;
+use crate::joining::with_suffix;
 use crate::work::{Output, Work};
 use std::alloc::Global;
 use sx_term::{NoMemory, Text};

@@ -25,6 +25,7 @@ pub mod RunLemmas
 pub mod SymbolRuns
 pub mod SortLaws
 pub mod VarLemmas
+pub mod VarCopies
 pub mod Instancing
 pub mod NameLaws
 pub mod ShapeLaws

@@ -52,6 +52,37 @@ impl Vars {
         Ok(number as u32)
     }
 
+    /// The number of a copy of the name, which is added last where it is not there. Where memory is
+    /// lacking, the names are as before.
+    pub fn add_copy(&mut self, alloc: Global, name: &Text) -> Result<u32, NoMemory>
+        requires { length self.old < 2 ^ 32 - 1 }
+        ensures ok { IfOk result (λ number. IsAdded self.old self.new name.now number) }
+        ensures err { OnErr result (self.new ≡ self.old) }
+        ensures grows { length self.new ≤ length self.old + 1 }
+        ensures distinct { IfOk result (λ _. AreDistinct self.new) }
+    {
+        self.add(name.copy(alloc)?)
+    }
+
+    /// The same names.
+    pub fn copy(&self, alloc: Global) -> Result<Vars, NoMemory>
+        requires { length self.now < 2 ^ 32 }
+        ensures { IfOk result (λ names. names ≡ self.now) }
+    {
+        let mut copies = Vars::new(alloc);
+        let mut number: u32 = 0;
+        while let Some(name) = self.name(number) {
+            match copies.add_copy(alloc, name) {
+                Ok(_) => number += 1,
+                Err(e) => {
+                    drop(copies);
+                    return Err(e);
+                }
+            }
+        }
+        Ok(copies)
+    }
+
     /// The name of the variable with this number, or None where there is no such number.
     pub fn name(&self, number: u32) -> Option<&Text>
         ensures value { option_copied result ≡ slice_get self.now number }

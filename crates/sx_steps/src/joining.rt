@@ -1,4 +1,4 @@
-//! Names of files.
+//! Texts that are joined.
 
 ghost use Rattle.std.specs.Prelude.{◌≡◌, ◌++◌, IfOk};
 

@@ -1,7 +1,7 @@
 use Rattle.std.proofs.Common.{◌≡◌, ◌++◌, sym, subst}
 use Rattle.std.specs.Str.{IsUtf8}
 use Rattle.std.proofs.lemmas.Str.{IsUtf8-append}
-use Rattle.sx_steps.proofs.names.joined.Goals as goal
+use Rattle.sx_steps.proofs.joining.joined.Goals as goal
 
 pub of_utf8-requires : goal.of_utf8-requires
 of_utf8-requires c =

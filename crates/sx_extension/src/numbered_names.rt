@@ -3,7 +3,6 @@
 ghost use Rattle.std.specs.Prelude.{◌≡◌, ◌-◌, ◌<◌, ◌≤◌, ◌^◌, Some, Contains, length, map};
 ghost use Rattle.std.specs.Prelude.{slice_get, IfOk};
 ghost use Rattle.sx_term.specs.Cutting.{AreDistinct as AreOnce};
-ghost use Rattle.sx_term.specs.Vars.{IsAdded};
 ghost use Rattle.sx_lines.specs.Distinct.{AreTextsDistinct};
 ghost use Rattle.sx_term.specs.Limits.{most_bytes};
 
@@ -13,14 +12,6 @@ use sx_term::{NoMemory, Text, Vars};
 
 /// The most names that a text of 262,144 bytes can have.
 const MOST_NAMES: usize = sx_term::MOST_BYTES as usize;
-
-/// The number of a copy of the name, which is added last where it is not there.
-fn add_copy(alloc: Global, names: &mut Vars, name: &Text) -> Result<u32, NoMemory>
-    requires { length names.now < 2 ^ 32 - 1 }
-    ensures { IfOk result (λ number. IsAdded names.old names.new name.now number) }
-{
-    names.add(name.copy(alloc)?)
-}
 
 /// The names, none of which stands twice, with their numbers. More than 262,144 take more memory
 /// than there is.
@@ -35,7 +26,7 @@ pub(crate) fn part_names(alloc: Global, names: &[Text]) -> Result<Vars, NoMemory
     let mut vars = Vars::new(alloc);
     for i in 0..names.len() {
         let name = &names[i];
-        add_copy(alloc, &mut vars, name)?;
+        vars.add_copy(alloc, name)?;
     }
     Ok(vars)
 }
@@ -49,7 +40,7 @@ pub(crate) fn label_names(alloc: Global, productions: &[Production]) -> Result<V
     let mut vars = Vars::new(alloc);
     for i in 0..productions.len() {
         let production = &productions[i];
-        add_copy(alloc, &mut vars, &production.label)?;
+        vars.add_copy(alloc, &production.label)?;
     }
     Ok(vars)
 }
@@ -61,5 +52,5 @@ pub(crate) fn number_in(alloc: Global, names: &mut Vars, name: &Text) -> Result<
     ensures number { IfOk result (λ n. slice_get names.old n ≡ Some name.now) }
     ensures same { IfOk result (λ _. names.new ≡ names.old) }
 {
-    add_copy(alloc, names, name)
+    names.add_copy(alloc, name)
 }

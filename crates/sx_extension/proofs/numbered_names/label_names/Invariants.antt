@@ -1,5 +1,5 @@
 use Rattle.std.proofs.Common.{◌≡◌, take, map}
-use Rattle.sx_extension.proofs.names.label_names.Given as goal
+use Rattle.sx_extension.proofs.numbered_names.label_names.Given as goal
 
 abbrev pub invariant-loop-i : goal.invariant-loop-i
 invariant-loop-i l = l.vars ≡ take l.i (map (λ p. p.label) l.productions)
