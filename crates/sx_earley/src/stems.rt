@@ -11,10 +11,10 @@ ghost use Rattle.sx_earley.specs.Unknown.{IsFirstUnknown};
 use crate::metas::Metas;
 use crate::shown::Shown;
 use crate::stem_table::{StemTable, stem_table};
-use std::alloc::{AllocError, Global};
+use std::alloc::Global;
 use std::marker::Model;
 use sx_grammar::Grammar;
-use sx_term::Sort;
+use sx_term::{NoMemory, Sort};
 use sx_token::Token;
 
 /// Stems of metavariables with their sorts, in a table that shows the tokens of any number of
@@ -56,7 +56,7 @@ fn show_each(
     grammar: &Grammar,
     table: &StemTable,
     tokens: &[Token],
-) -> Result<Vec<Shown>, AllocError>
+) -> Result<Vec<Shown>, NoMemory>
     ensures { IfOk result (λ v. (stems : List (List ℕ × Sort)) → IsStems stems table.now →
         AllShow (literal_texts grammar.now) stems tokens.now v.items) }
 {
@@ -70,7 +70,7 @@ fn show_each(
 
 impl<'a> Stems<'a> {
     /// The table of the stems.
-    pub fn new(alloc: Global, metas: &'a Metas) -> Result<Stems<'a>, AllocError>
+    pub fn new(alloc: Global, metas: &'a Metas) -> Result<Stems<'a>, NoMemory>
         ensures { IfOk result (λ s. s ≡ metas.now.stems.items) }
     {
         Ok(Stems {
@@ -101,7 +101,7 @@ impl<'a> Stems<'a> {
         alloc: Global,
         grammar: &Grammar,
         tokens: &[Token],
-    ) -> Result<Vec<Shown>, AllocError>
+    ) -> Result<Vec<Shown>, NoMemory>
         ensures { IfOk result
             (λ v. AllShow (literal_texts grammar.now) self.now tokens.now v.items) }
     {
@@ -116,7 +116,7 @@ pub fn show_all(
     grammar: &Grammar,
     metas: &Metas,
     tokens: &[Token],
-) -> Result<Vec<Shown>, AllocError>
+) -> Result<Vec<Shown>, NoMemory>
     ensures { IfOk result (λ v. AllShow (literal_texts grammar.now) metas.now.stems.items tokens.now
         v.items) }
 {
@@ -129,7 +129,7 @@ pub fn first_unknown(
     alloc: Global,
     metas: &Metas,
     tokens: &[Token],
-) -> Result<Option<usize>, AllocError>
+) -> Result<Option<usize>, NoMemory>
     ensures { IfOk result (IsFirstUnknown metas.now.stems.items tokens.now) }
 {
     let stems = Stems::new(alloc, metas)?;

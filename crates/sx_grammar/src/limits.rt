@@ -11,6 +11,7 @@ use crate::production::Production;
 use crate::standing::literals;
 use crate::symbol::Symbol;
 use std::alloc::{AllocError, Global};
+use sx_term::NoMemory;
 
 /// Below this number sorts, productions and literals can be numbered by a u32.
 const BOUND: usize = 0x1_0000_0000;
@@ -76,7 +77,7 @@ fn are_few(from: &GrammarParts, literals: usize) -> bool
 impl GrammarParts {
     /// Whether a grammar can be made of the parts, or why not can be told: sorts, productions and
     /// literals are fewer than 2^32, and levels are at most 99. The one refusal is out of memory.
-    pub fn is_within_limits(&self, alloc: Global) -> Result<bool, AllocError>
+    pub fn is_within_limits(&self, alloc: Global) -> Result<bool, NoMemory>
         ensures { IfOk result (λ r. IsTrue r ↔ IsWithinLimits (parts self.now)) }
     {
         let count = literal_count(alloc, self)?;
