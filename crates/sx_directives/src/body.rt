@@ -6,7 +6,7 @@ ghost use Rattle.std.specs.List.{repeat};
 ghost use Rattle.sx_directives.specs.Rows.{BeginsBlank, IsToBody, IsBodyText, IsToCut};
 ghost use Rattle.sx_directives.specs.Spelling.{NoneIs};
 
-use crate::names::text_of;
+use crate::part_texts::row_text;
 use crate::parts::{blanks_len, is_blank};
 use crate::row_error::RowError;
 use crate::symbols::after_front;
@@ -70,7 +70,7 @@ pub(crate) fn body_of(alloc: Global, line: &[u8]) -> Result<Text, RowError>
     match split_body(line) {
         Some((count, body)) => {
             let all = behind_spaces(alloc, count, body)?;
-            text_of(alloc, &all)
+            row_text(alloc, &all)
         }
         None => Err(RowError::Shape),
     }

@@ -11,7 +11,7 @@ mod body;
 mod directive;
 mod file_kind;
 mod keyword;
-mod names;
+mod part_texts;
 mod parts;
 mod reading;
 mod row;

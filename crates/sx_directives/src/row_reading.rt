@@ -9,7 +9,7 @@ ghost use Rattle.sx_directives.specs.Rows.{kind_text, AreBrackets, IsSortRow, Is
 ghost use Rattle.sx_directives.specs.Rows.{IsFormRow, IsMainRow, IsModuleRow, IsNameRow};
 ghost use Rattle.sx_directives.specs.Rows.{IsPlainRow};
 
-use crate::names::{literal_of, module_name_of, name_of, stem_of};
+use crate::part_texts::{literal_of, module_name_of, name_of, stem_of};
 use crate::row_error::RowError;
 use crate::rows::{FormLine, MainLine, PlainLine, VarLine};
 use crate::sorts::sort_name_of;

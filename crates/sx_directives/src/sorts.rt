@@ -4,7 +4,7 @@ ghost use Rattle.std.specs.Prelude.{◌≡◌, ◌++◌, ◌∷◌, MatchOption,
 ghost use Rattle.sx_directives.specs.Spelling.{lex_text, NotLexical, NoAt, IsLevelled, IsSortName};
 ghost use Rattle.sx_directives.specs.Spelling.{SpellsSort, NoneIs};
 
-use crate::names::name_of;
+use crate::part_texts::name_of;
 use crate::row_error::RowError;
 use crate::spelled::SpelledSort;
 use std::alloc::Global;

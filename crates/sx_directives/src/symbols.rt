@@ -6,7 +6,7 @@ ghost use Rattle.sx_grammar.specs.Parts.{texts};
 ghost use Rattle.sx_directives.specs.Spelling.{role_text, SpellsSymbol, SpellsForm, EachSpelled};
 ghost use Rattle.sx_directives.specs.Spelling.{NoneIs};
 
-use crate::names::literal_of;
+use crate::part_texts::literal_of;
 use crate::row_error::RowError;
 use crate::sorts::sort_of;
 use crate::spelled::{FormSymbol, SpelledSort};

@@ -4,7 +4,7 @@ ghost use Rattle.std.specs.Prelude.{MatchResult};
 ghost use Rattle.sx_grammar.specs.Parts.{texts};
 ghost use Rattle.sx_directives.specs.Spelling.{EachSpelled, IsVariable, NoneIs};
 
-use crate::names::variable_of;
+use crate::part_texts::variable_of;
 use crate::row_error::RowError;
 use std::alloc::Global;
 use sx_term::Text;

@@ -8,11 +8,12 @@ ghost use Rattle.sx_term.specs.Limits.{most_bytes};
 
 use crate::front::{Front, front_of};
 use crate::table::Table;
-use crate::token::{Token, text_of};
+use crate::token::Token;
 use crate::token_error::TokenError;
 use std::alloc::Global;
-use sx_term::{MOST_TOKENS, Mark};
+use sx_term::{MOST_TOKENS, Mark, Text};
 
+/// Adds the token with this text.
 fn push_token(
     alloc: Global,
     out: &mut Vec<Token>,
@@ -25,7 +26,7 @@ fn push_token(
         ++ record { mark = mark; text = text.now; from = from; to = to } ∷ []) }
     ensures memory { IfErr result (λ e. e ≡ TokenError.Memory) }
 {
-    let text = text_of(alloc, text)?;
+    let text = Text::of_str(alloc, text)?;
     out.push(Token {
         mark,
         text,

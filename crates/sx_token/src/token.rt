@@ -1,11 +1,10 @@
 //! Tokens.
 
-ghost use Rattle.std.specs.Prelude.{◌≡◌, IfOk, IfErr};
+ghost use Rattle.std.specs.Prelude.{◌≡◌, IfOk};
 ghost use Rattle.sx_term.specs.Vars.{without_tilde};
 
-use crate::token_error::TokenError;
 use std::alloc::Global;
-use sx_term::{Mark, NoMemory, Text, TextError};
+use sx_term::{Mark, NoMemory, Text};
 
 /// A token: its mark, its text, and the places of its first byte and of the byte after it, in bytes
 /// from 0.
@@ -27,17 +26,5 @@ impl Token {
             Some(name) => Text::of_str(alloc, name),
             None => self.text.copy(alloc),
         }
-    }
-}
-
-/// The text with these bytes, which are UTF-8.
-pub(crate) fn text_of(alloc: Global, text: &str) -> Result<Text, TokenError>
-    ensures ok { IfOk result (λ t. t ≡ text.now) }
-    ensures memory { IfErr result (λ e. e ≡ TokenError.Memory) }
-{
-    match Text::make(alloc, text.as_bytes()) {
-        Ok(text) => Ok(text),
-        Err(TextError::Memory) => Err(TokenError::Memory),
-        Err(TextError::NotUtf8(_)) => unreachable!(),
     }
 }

@@ -120,7 +120,7 @@ fn put_defect(alloc: Global, defect: &Defect, into: &mut Vec<u8>) -> Result<(), 
 }
 
 /// The text of the refusal.
-fn text_of(alloc: Global, refusal: &Refusal) -> Result<Vec<u8>, NoMemory>
+fn refusal_text(alloc: Global, refusal: &Refusal) -> Result<Vec<u8>, NoMemory>
     ensures { IfOk result (λ text. text.items ≡ refusal_text refusal.now) }
 {
     let mut text = Vec::new(alloc);
@@ -141,6 +141,6 @@ pub fn write_refusal(
         ++ line_text file.now (refusal_text refusal.now)) }
     ensures err { OnErr result (into.new.items ≡ into.old.items) }
 {
-    let text = text_of(alloc, refusal)?;
+    let text = refusal_text(alloc, refusal)?;
     append_line(file, text.as_slice(), into)
 }

@@ -1,4 +1,4 @@
-//! Names, stems, variables and quoted literals.
+//! The texts that parts of a row are: names, stems, variables and quoted literals.
 
 ghost use Rattle.std.specs.Prelude.{◌≡◌, MatchResult};
 ghost use Rattle.std.specs.List.{list_all};
@@ -12,6 +12,7 @@ use std::alloc::Global;
 use sx_lines::is_name;
 use sx_term::{Text, TextError};
 
+/// Why a row with such bytes is refused.
 fn text_error(e: TextError) -> RowError
     ensures { result ≡ spec.text_error e }
 {
@@ -21,8 +22,8 @@ fn text_error(e: TextError) -> RowError
     }
 }
 
-/// The text with these bytes.
-pub(crate) fn text_of(alloc: Global, bytes: &[u8]) -> Result<Text, RowError>
+/// The text with these bytes of a row. Bytes that are not UTF-8 have no shape.
+pub(crate) fn row_text(alloc: Global, bytes: &[u8]) -> Result<Text, RowError>
     ensures { MatchResult result (IsTextOf bytes.now) (NoneIs (IsTextOf bytes.now)) }
 {
     match Text::make(alloc, bytes) {
@@ -38,7 +39,7 @@ pub(crate) fn name_of(alloc: Global, part: &[u8]) -> Result<Text, RowError>
     if !is_name(true, part) {
         return Err(RowError::Shape);
     }
-    text_of(alloc, part)
+    row_text(alloc, part)
 }
 
 /// The name of a module that a part is.
@@ -48,7 +49,7 @@ pub(crate) fn module_name_of(alloc: Global, part: &[u8]) -> Result<Text, RowErro
     if !is_name(false, part) {
         return Err(RowError::Shape);
     }
-    text_of(alloc, part)
+    row_text(alloc, part)
 }
 
 /// Whether each byte is an ASCII letter.
@@ -82,7 +83,7 @@ pub(crate) fn variable_of(alloc: Global, part: &[u8]) -> Result<Text, RowError>
     if are_digits(part) {
         return Err(RowError::Shape);
     }
-    text_of(alloc, part)
+    row_text(alloc, part)
 }
 
 /// Whether the byte is no quote.
@@ -109,7 +110,7 @@ pub(crate) fn literal_of(alloc: Global, part: &[u8]) -> Result<Text, RowError>
                 if *first != b'"' || *last != b'"' || !are_plain_bytes(inside) {
                     return Err(RowError::Shape);
                 }
-                text_of(alloc, inside)
+                row_text(alloc, inside)
             }
             None => Err(RowError::Shape),
         },
