@@ -104,7 +104,8 @@ var_named d stem = find (λ v. bytes_eq v.stem stem) d.vars
 
 -- the name, without the digits at its end, is a stem of this sort
 abbrev pub IsVariableOf : Declared → List ℕ → List ℕ → Type 0
-IsVariableOf d name sort = (v : VarLine) × (var_named d (without_digits name) ≡ Some v) × (v.sort ≡ sort)
+IsVariableOf d name sort =
+    (v : VarLine) × (var_named d (without_digits name) ≡ Some v) × (v.sort ≡ sort)
 
 -- there are as many names as parts, and each is that of a variable of its part's sort
 abbrev pub NamesFit : Declared → List (List ℕ) → List Kid → Type 0

@@ -38,31 +38,26 @@ pub fn run<S: Shelf, I: Source, K: Sink, L: Ledger>(
         (seen (S.content shelf.new) (K.content out.new) (S.read_faults shelf.new)
         (S.write_faults shelf.new) (K.faults out.new))
         steps.old steps.new }
-
     // When it is done, the command keeps its promise.
     ensures promise { Told (KeepsPromise
         (call words.now (map (λ b. meaning b) auditors.items)) result
         (K.content out.old) (K.content out.new))
         (S.content shelf.old) (S.content shelf.new) }
-
     // A fault has its cause.
     ensures read_fault { result ≡ Status.ReadFault →
         Rose (S.read_faults shelf.old) (S.read_faults shelf.new) }
     ensures write_fault { result ≡ Status.WriteFault →
         Rose (S.write_faults shelf.old) (S.write_faults shelf.new) ⊎
         Rose (K.faults out.old) (K.faults out.new) }
-
     // A fault forces its status.
     ensures failed_write { S.write_faults shelf.old < S.write_faults shelf.new →
         result ≡ Status.WriteFault }
     ensures failed_send { K.faults out.old < K.faults out.new → result ≡ Status.WriteFault }
     ensures failed_read { S.read_faults shelf.old < S.read_faults shelf.new →
         IsAfterRead result (K.faults out.old) (K.faults out.new) }
-
     // Nothing is taken from the input.
     ensures input { I.content input.new ≡ I.content input.old }
     ensures takes { I.faults input.new ≡ I.faults input.old }
-
     // Where nothing is wrong with the words and the files, and no fault came, it is done, or memory
     // lacked.
     ensures complete { WhereTold (S.content shelf.old) (λ files. HasNoDefect

@@ -84,13 +84,19 @@ fn show_it(
     }
 }
 
-/// Shows the derivation to the auditors, of which the first gets a setting. The number of the node
-/// to which the auditor of this name objects; the greatest number where that one or memory is
-/// lacking.
+/// Whether the first auditor takes the setting.
+fn first_takes(alloc: Global, row: &mut Vec<Box<dyn Auditor>>, setting: &str) -> bool {
+    match row.get_mut(0) {
+        Some(first) => takes(alloc, first, setting, true),
+        None => false,
+    }
+}
+
+/// Shows the derivation to the auditors. The number of the node to which the auditor of this name
+/// objects; the greatest number where that one or memory is lacking.
 fn objected_in(
     alloc: Global,
     row: &mut Vec<Box<dyn Auditor>>,
-    setting: &str,
     name: &str,
     rules: &RuleSet,
     proof: &Proof,
@@ -102,14 +108,6 @@ fn objected_in(
     requires order { MatchOption list Unit
         (λ l. entries l.now ≡ order_of (view.proof proof.now)) }
 {
-    match row.get_mut(0) {
-        Some(first) => {
-            if !takes(alloc, first, setting, true) {
-                return u64::MAX;
-            }
-        }
-        None => return u64::MAX,
-    }
     let shown = show_it(alloc, row, rules, proof, list);
     let number = objected(&shown, name);
     drop(shown);
@@ -142,13 +140,12 @@ fn stops(alloc: Global, rules: &RuleSet, proof: &Proof, list: Option<&[Entry]>) 
             match Vec::from_array(alloc, three) {
                 Ok(made) => {
                     let mut row = made;
-                    let number = objected_in(
-                        alloc, &mut row, "T-Pair,Z", "stop", rules, proof, list,
-                    );
+                    let is_set = first_takes(alloc, &mut row, "T-Pair,Z");
+                    let number = objected_in(alloc, &mut row, "stop", rules, proof, list);
                     let are_said = says_at(alloc, &row, 0, b"tally T-Pair 2 Z 1")
                         && says_at(alloc, &row, 2, b"nodes 2 of 1000000");
                     drop(row);
-                    number == 3 && are_said
+                    is_set && number == 3 && are_said
                 }
                 Err(_) => false,
             }
@@ -180,11 +177,12 @@ fn passes(alloc: Global, rules: &RuleSet, proof: &Proof, list: Option<&[Entry]>)
             match Vec::from_array(alloc, three) {
                 Ok(made) => {
                     let mut row = made;
-                    let number = objected_in(alloc, &mut row, "Other", "", rules, proof, list);
+                    let is_set = first_takes(alloc, &mut row, "Other");
+                    let number = objected_in(alloc, &mut row, "", rules, proof, list);
                     let are_said = says_at(alloc, &row, 1, b"depth 3 of 3000")
                         && says_at(alloc, &row, 2, b"nodes 5 of 1000000");
                     drop(row);
-                    number == 0 && are_said
+                    is_set && number == 0 && are_said
                 }
                 Err(_) => false,
             }
