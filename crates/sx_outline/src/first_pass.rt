@@ -9,7 +9,7 @@ ghost use Rattle.sx_outline.specs.View.{known};
 
 use crate::declared_rows::DeclaredRows;
 use crate::due::Due;
-use crate::kept::next_kept_line;
+use crate::kept::next_line_of_parts;
 use crate::known::Known;
 use crate::spelled_row::spelled_row;
 use std::alloc::Global;
@@ -59,7 +59,7 @@ fn skip_line<'a>(lines: Rest<'a>) -> Rest<'a>
     ensures skipped { kept_lines (left result) ≡ lines_after (kept_lines (left lines.entry)) }
     ensures shorter { length result.bytes.now ≤ length lines.entry.bytes.now }
 {
-    match next_kept_line(lines) {
+    match next_line_of_parts(lines) {
         Ok((_line, more)) => more,
         Err(_) => lines,
     }
@@ -78,7 +78,7 @@ fn read_rows(
     let mut found = rows;
     let mut left = lines;
     'lines: loop {
-        match next_kept_line(left) {
+        match next_line_of_parts(left) {
             Ok((line, more)) => match take_line(alloc, kind, &mut found, line.text) {
                 Ok(Due::Nothing) => return Ok(found),
                 Ok(Due::Body) => left = skip_line(more),

@@ -12,7 +12,7 @@ use crate::extension_header::ExtensionHeader;
 use crate::head::first_line;
 use crate::header_lines::{extension_line, language_line, use_line};
 use crate::header_uses::HeaderUses;
-use crate::kept::next_kept_line;
+use crate::kept::next_line_of_parts;
 use crate::outline_error::{OutlineError, bad_line};
 use std::alloc::Global;
 use sx_directives::FileKind;
@@ -27,7 +27,7 @@ fn read_uses<'a>(alloc: Global, rest: Rest<'a>) -> Result<(Vec<Text>, Rest<'a>),
     let mut uses = HeaderUses::new(alloc);
     let mut left = rest;
     'lines: loop {
-        match next_kept_line(left) {
+        match next_line_of_parts(left) {
             Ok((line, more)) => match use_line(alloc, &mut uses, line.number, line.text) {
                 Ok(true) => left = more,
                 Ok(false) => return Ok((uses.into_names(), left)),
@@ -50,7 +50,7 @@ fn read_language<'a>(
     ensures read { IsLanguageRead name (kept_lines (left lines.entry)) result }
     ensures utf8 { IsUtf8 lines.entry.bytes.now → IfOk result (λ x. IsUtf8 x.1.bytes.now) }
 {
-    match next_kept_line(lines) {
+    match next_line_of_parts(lines) {
         Ok((line, more)) => {
             let language = language_line(alloc, line.number, line.text)?;
             match read_uses(alloc, more) {
@@ -80,7 +80,7 @@ fn read_named<'a>(
 ) -> Result<(ExtensionHeader, Rest<'a>), OutlineError>
     ensures { IsNamedHeaderRead name.now (kept_lines (left lines.entry)) result }
 {
-    match next_kept_line(lines) {
+    match next_line_of_parts(lines) {
         Ok((line, more)) => {
             first_line(alloc, FileKind::Extension, name, line.number, line.text)?;
             read_language(alloc, name.copy(alloc)?, more)
@@ -97,7 +97,7 @@ pub(crate) fn read_header<'a>(
     ensures read { IsAnyHeaderRead (kept_lines (left lines.entry)) result }
     ensures utf8 { IsUtf8 lines.entry.bytes.now → IfOk result (λ x. IsUtf8 x.1.bytes.now) }
 {
-    match next_kept_line(lines) {
+    match next_line_of_parts(lines) {
         Ok((line, more)) => {
             let name = extension_line(alloc, line.number, line.text)?;
             read_language(alloc, name, more)

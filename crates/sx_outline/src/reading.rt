@@ -9,7 +9,7 @@ ghost use Rattle.sx_outline.specs.Reading.{AreLinesRead, HasCountRoom, IsDeclare
 ghost use Rattle.sx_outline.specs.Reading.{IsOutlineReader};
 ghost use Rattle.sx_outline.specs.View as view;
 
-use crate::kept::next_kept_line;
+use crate::kept::next_line_of_parts;
 use crate::known::Known;
 use crate::next_line::read_next;
 use crate::outline_error::OutlineError;
@@ -40,7 +40,7 @@ pub(crate) fn read_lines(
     let mut reader = reader;
     let mut left = lines;
     'lines: loop {
-        match next_kept_line(left) {
+        match next_line_of_parts(left) {
             Ok((line, more)) => {
                 match read_next(alloc, kind, known, name, reader, line) {
                     Ok(next) => {

@@ -1,6 +1,6 @@
 use Rattle.std.proofs.Common.{arith, sym}
 use Rattle.sx_outline.proofs.LineLaws.{kept-over, kept-line, kept-dropped}
-use Rattle.sx_outline.proofs.kept.next_kept_line.Goals as goal
+use Rattle.sx_outline.proofs.kept.next_line_of_parts.Goals as goal
 
 pub returns-in-Err-clause-first : goal.returns-in-Err-clause-first
 returns-in-Err-clause-first c = kept-over _ _ _ c.kept.invariant.1 c.in-Err.ensures.first
