@@ -1,10 +1,9 @@
 -- Derivations whose entries stand in a list.
 use Rattle.std.specs.Prelude.{◌≡◌, ℕ, ◌+◌, ◌≤◌, List, [], ◌∷◌, ◌++◌, length, drop, get_or}
-use Rattle.sx_rules.specs.Derivations.{Proof, Proofs, no_more, ◌⊳◌, nodes_of, height_of}
+use Rattle.sx_rules.specs.Derivations.{Proof, Proofs, no_more, ◌⊳◌, nodes_of}
 use Rattle.sx_rules.specs.Orders.{Entry, order_of, order_of_all}
 use Rattle.sx_rewrite.specs.Accepted.{Accepted}
 use Rattle.sx_rewrite.specs.LoweredSizes.{HasFitKids, HaveFitKids}
-use Rattle.sx_rules.specs.Limits.{most_levels}
 
 -- the entries of the derivation stand in the list from the number on
 abbrev pub StandsInList : List Entry → ℕ → Proof → Type 0
@@ -39,10 +38,3 @@ pub record AreEndsFrom (a : Accepted) (list : List Entry) (first : ℕ) (ends : 
 -- so it is of all numbers
 abbrev pub AreEnds : Accepted → List Entry → List ℕ → Type 0
 AreEnds a list ends = AreEndsFrom a list 0 ends
-
--- the list is that of the derivation, which has the kids that the rules ask for
--- and is no deeper than 3,000
-pub record IsListOf (a : Accepted) (list : List Entry) (p : Proof) : Type 0 where
-  pub fit : HasFitKids a p
-  pub order : list ≡ order_of p
-  pub height : height_of p ≤ most_levels

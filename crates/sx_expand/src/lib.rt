@@ -3,8 +3,6 @@
 //! - `expand` expands the list of a goal's derivation to the list of what it is lowered to, and
 //!   tells the judgement of that. The nodes are counted first, and then the terms are measured,
 //!   node by node. `expand_open` is the same of a derivation by plain rules, from hypotheses.
-//! - `lower_list` writes the entries of what a derivation is lowered to, by the entries of the
-//!   derivation and no term. Its nodes are counted first, and each entry is written once.
 //! - `check_node` measures the terms of a lowered node by how deep and how big the terms are that
 //!   are put for the variables of its rule. No term is made.
 //! - A node is lowered by the numbers of its terms and of its kids' subjects (`lower_node`): its
@@ -65,6 +63,4 @@ pub use laws::{
     expanding_is_rewriting, kids_are_lowered, nodes_are_measured, nodes_have_subjects,
     orders_are_lowered,
 };
-pub use list_lowering::lower_list;
-pub use lowered_list::LoweredList;
 pub use node_limits::check_node;

@@ -3,48 +3,23 @@
 ghost use Rattle.std.specs.Prelude.{◌≤◌};
 ghost use Rattle.sx_rules.specs.Derivations as spec;
 ghost use Rattle.sx_rules.specs.Derivations.{height_of};
-ghost use Rattle.sx_rules.specs.EntryView.{entries};
-ghost use Rattle.sx_rewrite.specs.AcceptedView.{accepted};
 ghost use Rattle.sx_expand.specs.Listed.{HasEnds, StandsIn, set_in};
 ghost use Rattle.sx_expand.specs.LoweredLists.{IsListLowered};
-ghost use Rattle.sx_expand.specs.Standing.{IsListOf};
 ghost use Rattle.sx_rules.specs.Limits.{most_levels};
 
 use crate::emission::emit;
-use crate::ends::ends_of;
 use crate::listing::Listing;
 use crate::lowered_list::LoweredList;
 use crate::tallying::listed_size;
 use std::alloc::Global;
-use sx_rewrite::{Accepted, RewriteError};
-use sx_rules::Entry;
+use sx_rewrite::RewriteError;
 
 /// How deep a derivation may be.
 const MOST_HEIGHT: u64 = sx_rules::MOST_LEVELS as u64;
 
-/// The list of what the derivation with this list is lowered to, without a look at its terms.
-/// Where that has more nodes than the budget or is deeper than 3,000, the first of these
+/// The list of what the derivation is lowered to that the listing begins with, without a look at
+/// its terms. Where that has more nodes than the budget or is deeper than 3,000, the first of these
 /// is refused, in this order, before anything is written.
-pub fn lower_list(
-    alloc: Global,
-    set: &Accepted,
-    list: &[Entry],
-    budget: u64,
-) -> Result<LoweredList, RewriteError>
-    requires { (p : spec.Proof) × IsListOf (accepted set.now) (entries list.now) p }
-    ensures { (p : spec.Proof) → IsListOf (accepted set.now) (entries list.now) p →
-        IsListLowered (accepted set.now) p budget result }
-{
-    let ends = ends_of(alloc, set, list)?;
-    let listing = Listing {
-        set,
-        list,
-        ends: &ends,
-    };
-    lower_listing(alloc, &listing, budget)
-}
-
-/// The list of what the derivation is lowered to that the listing begins with.
 pub(crate) fn lower_listing(
     alloc: Global,
     listing: &Listing,
