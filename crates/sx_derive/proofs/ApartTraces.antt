@@ -1,5 +1,5 @@
 -- What comes of a premise that wants two terms to be apart.
-use Rattle.std.proofs.Common.{◌≡◌, ℕ, suc, ◌≤◌, Bool, true, false, List, [], ◌∷◌, ◌++◌, length, reverse, Vec, sym, ap, ◌∙◌, arith, subst}
+use Rattle.std.proofs.Common.{◌≡◌, ℕ, suc, ◌≤◌, Bool, true, false, List, [], ◌∷◌, ◌++◌, length, reverse, Vec, sym, ap, ◌∙◌, arith, subst, append-nil}
 use Rattle.std.specs.declared.alloc.Global.{Global}
 use Rattle.sx_term.specs.Tree.{Tree}
 use Rattle.sx_rules.specs.Derivations.{Proofs}
@@ -22,11 +22,12 @@ use Rattle.sx_derive.specs.Walk.{when, are_apart, goal_events}
 use Rattle.sx_derive.specs.declared.chains.Waiting.{Waiting}
 use Rattle.sx_derive.specs.declared.store.Store.{Store}
 use Rattle.sx_derive.specs.declared.tasks.Task.{Task as TaskOf}
+use Rattle.sx_derive.specs.declared.trace.Premised.{Premised}
 use Rattle.sx_derive.specs.declared.trace.Premised.TheVariants.{Holds, Fails}
 use Rattle.sx_derive.proofs.Premised.{stays}
 use Rattle.sx_derive.proofs.RuleEvents.{after_apart}
 use Rattle.sx_derive.proofs.Stored.{grows_terms}
-use Rattle.sx_derive.proofs.Turned.{piled_later, events_stay}
+use Rattle.sx_derive.proofs.Turned.{fits_more, piled_later, events_stay}
 
 module _ (modes : Modes) (rules : List Rule) (pairs : List Pair) (js : List Judgement) (n : ℕ) (c : Waiting) (rule : Rule) (t u : Tree) (ps : List Premise) (s new : Store) (before : List TaskOf)
     (h : IsStore modes rules s) (hp : ArePairs (length (store_trees s)) pairs) (le : c.env ≤ length s.binds.cells.items) (lk : c.kids ≤ length s.kids.items) (fit : TasksFit modes rules s n before) (b : Bool)
@@ -50,12 +51,17 @@ module _ (modes : Modes) (rules : List Rule) (pairs : List Pair) (js : List Judg
   apart_events : premises_after modes rules hyps c.rule rule c.levels (apart t u ∷ ps) env kids ≡ when b (premises_after modes rules hyps c.rule rule c.levels ps env kids)
   apart_events = after_apart modes rules hyps c.rule rule c.levels b t u ps env kids (sym told.is)
 
-  pub apart_failed : b ≡ false → (notes : Vec ℕ Global) → notes.items ≡ [] → PremiseTraced modes rules pairs js n s new c rule (apart t u) ps before before (Fails notes)
+  -- no tasks come behind those before
+  none_more : (premised : Premised) → PremiseTraced modes rules pairs js n s new c rule (apart t u) ps before before premised → PremiseTraced modes rules pairs js n s new c rule (apart t u) ps before (before ++ []) premised
+  none_more premised x = subst (λ (after : List TaskOf). PremiseTraced modes rules pairs js n s new c rule (apart t u) ps before after premised) (sym (append-nil before)) x
+
+  pub apart_failed : b ≡ false → (notes : Vec ℕ Global) → notes.items ≡ [] → PremiseTraced modes rules pairs js n s new c rule (apart t u) ps before (before ++ []) (Fails notes)
   apart_failed f notes e =
       let none_noted : [] ≡ reverse notes.items = sym (ap reverse e) in
-      record {
+      none_more (Fails notes) (record {
         piled = λ first p. piled_later modes rules n first s new before p grown;
         grows = grown;
+        fits = fits_more modes rules n s new before grown fit;
         is = (
           (
             0,
@@ -64,14 +70,15 @@ module _ (modes : Modes) (rules : List Rule) (pairs : List Pair) (js : List Judg
           ),
           subst (λ (ks : List ℕ). NotedFrom modes rules pairs js s c.levels c.premise (apart t u ∷ ps) env ks) none_noted tt,
         );
-      }
+      })
 
-  pub apart_passed : b ≡ true → PremiseTraced modes rules pairs js n s new c rule (apart t u) ps before before (Holds c.env c.kids)
+  pub apart_passed : b ≡ true → PremiseTraced modes rules pairs js n s new c rule (apart t u) ps before (before ++ []) (Holds c.env c.kids)
   apart_passed f =
       let x = stays modes rules s new c.env c.kids 0 grown le lk (omega arith) in
-      record {
+      none_more (Holds c.env c.kids) (record {
         piled = λ first p. piled_later modes rules n first s new before p grown;
         grows = grown;
+        fits = fits_more modes rules n s new before grown fit;
         is = (
           x.env_within,
           x.kids_within,
@@ -83,7 +90,7 @@ module _ (modes : Modes) (rules : List Rule) (pairs : List Pair) (js : List Judg
           ),
           noted x.envs,
         );
-      }
+      })
     where
       noted : env_at (store_envs new) c.env ≡ env → (ks : List ℕ) → NotedFrom modes rules pairs js s c.levels (suc c.premise) ps (env_at (store_envs new) c.env) ks → NotedFrom modes rules pairs js s c.levels c.premise (apart t u ∷ ps) env ks
       noted e [] k = tt

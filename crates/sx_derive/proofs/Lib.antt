@@ -18,6 +18,7 @@ pub mod Handed
 pub mod Tried
 pub mod Tasked
 pub mod Passed
+pub mod Above
 pub mod Turned
 pub mod Walking
 pub mod Running
@@ -31,6 +32,7 @@ pub mod RuleEvents
 pub mod MoreFrames
 pub mod Underneath
 pub mod Piling
+pub mod Kept
 pub mod PremiseTraces
 pub mod ApartTraces
 pub mod CandidateTraces

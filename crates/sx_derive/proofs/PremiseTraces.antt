@@ -1,5 +1,5 @@
 -- What comes of a judgement premise: its goal has no answer, or its first answer is taken.
-use Rattle.std.proofs.Common.{◌≡◌, ℕ, suc, ◌+◌, ◌-◌, ◌<◌, ◌≤◌, List, [], ◌∷◌, ◌++◌, drop, length, reverse, Some, None, Vec, refl, sym, ap, ◌∙◌, arith, subst}
+use Rattle.std.proofs.Common.{◌≡◌, ℕ, suc, ◌+◌, ◌-◌, ◌<◌, ◌≤◌, List, [], ◌∷◌, ◌++◌, drop, length, reverse, Some, None, Vec, refl, sym, ap, ◌∙◌, arith, subst, append-nil}
 use Rattle.std.specs.Prelude.{slice_get}
 use Rattle.std.specs.declared.alloc.Global.{Global}
 use Rattle.std.proofs.lemmas.List.{reverse-append}
@@ -32,7 +32,7 @@ use Rattle.sx_derive.specs.declared.trace.Premised.{Premised}
 use Rattle.sx_derive.specs.declared.trace.Premised.TheVariants.{Holds, Fails}
 use Rattle.sx_derive.specs.declared.trace.Traced.TheVariants.{Answered, Failed}
 use Rattle.sx_derive.proofs.Asked.{quiet_level}
-use Rattle.sx_derive.proofs.Piling.{piled_behind, events_behind}
+use Rattle.sx_derive.proofs.Piling.{piled_behind, fits_behind, events_behind}
 use Rattle.sx_derive.proofs.Premised.{stays}
 use Rattle.sx_derive.proofs.Quiet.{quiet_left}
 use Rattle.sx_derive.proofs.Resumed.{sizes}
@@ -40,10 +40,10 @@ use Rattle.sx_derive.proofs.RuleEvents.{frame, quiet_asked, holds_failed, holds_
 use Rattle.sx_derive.proofs.Steps.{frame_is}
 use Rattle.sx_derive.proofs.Stored.{grows_then, grows_terms}
 use Rattle.sx_derive.proofs.Tries.{tries-first}
-use Rattle.sx_derive.proofs.Turned.{piled_grows, piled_fits, piled_later, events_stay}
+use Rattle.sx_derive.proofs.Turned.{fits_more, piled_grows, piled_fits, piled_later, events_stay}
 
 -- a rule waits at a judgement premise, and what is left is quiet
-pub record JudgementWaits (modes : Modes) (rules : List Rule) (pairs : List Pair) (js : List Judgement) (n budget : ℕ) (c : Waiting) (rule : Rule) (j : Judgement) (s : Store) (before : List TaskOf) : Type 0 where
+pub record JudgementWaits (modes : Modes) (rules : List Rule) (pairs : List Pair) (js : List Judgement) (budget : ℕ) (c : Waiting) (rule : Rule) (j : Judgement) (s : Store) : Type 0 where
   pub store : IsStore modes rules s
   pub pairs_there : ArePairs (length (store_trees s)) pairs
   pub env_there : c.env ≤ length s.binds.cells.items
@@ -51,11 +51,9 @@ pub record JudgementWaits (modes : Modes) (rules : List Rule) (pairs : List Pair
   pub until : c.before ≡ s.until
   pub found : slice_get rules c.rule ≡ Some rule
   pub premise : slice_get rule.premises c.premise ≡ Some (holds j)
-  pub fit : TasksFit modes rules s n before
-  pub quiet : IsQuiet budget (premises_left modes rules pairs js s c.rule rule c.levels (holds j ∷ drop (c.premise + 1) rule.premises) c.env c.kids before)
+  pub quiet : IsQuiet budget (premises_left modes rules pairs js s c.rule rule c.levels (holds j ∷ drop (c.premise + 1) rule.premises) c.env c.kids [])
 
-module _ (modes : Modes) (rules : List Rule) (pairs : List Pair) (js : List Judgement) (n budget : ℕ) (c : Waiting) (rule : Rule) (j : Judgement) (s : Store) (before : List TaskOf)
-    (w : JudgementWaits modes rules pairs js n budget c rule j s before) where
+module _ (modes : Modes) (rules : List Rule) (pairs : List Pair) (js : List Judgement) (budget : ℕ) (c : Waiting) (rule : Rule) (j : Judgement) (s : Store) (w : JudgementWaits modes rules pairs js budget c rule j s) where
   abbrev ps : List Premise
   ps = drop (c.premise + 1) rule.premises
 
@@ -71,11 +69,11 @@ module _ (modes : Modes) (rules : List Rule) (pairs : List Pair) (js : List Judg
   abbrev asked : Goal
   asked = goal_of modes (judgement_instance (filled env) j)
 
-  abbrev left_before : List (Event Answer)
-  left_before = events_left modes rules pairs js s before
+  abbrev left_in : List TaskOf → List (Event Answer)
+  left_in tasks = events_left modes rules pairs js s tasks
 
   asked_quiet : (limit_passed (inputs_of modes (judgement_instance (filled env) j)) ≡ None) × IsQuiet budget (goal_events modes rules hyps c.levels asked)
-  asked_quiet = quiet_asked modes rules hyps c.rule rule c.levels budget j ps env kids (quiet_left budget (premises_after modes rules hyps c.rule rule c.levels (holds j ∷ ps) env kids) left_before w.quiet)
+  asked_quiet = quiet_asked modes rules hyps c.rule rule c.levels budget j ps env kids (quiet_left budget (premises_after modes rules hyps c.rule rule c.levels (holds j ∷ ps) env kids) (left_in []) w.quiet)
 
   pub asked_level : 0 < c.levels
   asked_level = quiet_level modes rules hyps budget c.levels asked asked_quiet.1
@@ -122,7 +120,7 @@ module _ (modes : Modes) (rules : List Rule) (pairs : List Pair) (js : List Judg
     mid_before = w.until ∙ sym made.until
 
     -- its goal has no answer
-    module _ (u : Store) (noted notes : Vec ℕ Global) (e : notes.items ≡ noted.items ++ c.premise ∷ []) (x : IsTracedUnder modes rules pairs js n mid u c (c.levels - 1) j.form terms (Failed noted)) where
+    module _ (n : ℕ) (u : Store) (noted notes : Vec ℕ Global) (e : notes.items ≡ noted.items ++ c.premise ∷ []) (left : List TaskOf) (x : IsTracedUnder modes rules pairs js n mid u c (c.levels - 1) j.form terms left (Failed noted)) where
       failed_grows : StoreGrows modes rules s u
       failed_grows = grows_then modes rules s mid u mid_grows x.0
 
@@ -135,30 +133,32 @@ module _ (modes : Modes) (rules : List Rule) (pairs : List Pair) (js : List Judg
           (subst (λ (g : Goal). FailsAlong modes rules hyps (suc (c.levels - 1)) g (reverse noted.items)) (λ i. record { form = j.form; terms = made.held.are i })
           (subst (λ (y : Hypotheses). FailsAlong modes rules y (suc (c.levels - 1)) (goal_in mid j.form terms) (reverse noted.items)) (hyps_same mid mid_grows) x.2))
 
-      pub judgement_failed : PremiseTraced modes rules pairs js n s u c rule (holds j) ps before before (Fails notes)
-      judgement_failed =
+      pub judgement_failed : (before : List TaskOf) → TasksFit modes rules s n before → PremiseTraced modes rules pairs js n s u c rule (holds j) ps before (before ++ left) (Fails notes)
+      judgement_failed before fit =
           let turned : c.premise ∷ reverse noted.items ≡ reverse notes.items = sym (ap reverse e ∙ reverse-append noted.items (c.premise ∷ [])) in
-          record {
+          let none_left : before ≡ before ++ left = sym (ap (λ (ts : List TaskOf). before ++ ts) x.3 ∙ append-nil before) in
+          subst (λ (after : List TaskOf). PremiseTraced modes rules pairs js n s u c rule (holds j) ps before after (Fails notes)) none_left (record {
             piled = λ first p. piled_later modes rules n first s u before p failed_grows;
             grows = failed_grows;
+            fits = fits_more modes rules n s u before failed_grows fit;
             is = (
               (
                 x.1.0,
-                holds_failed modes rules hyps c.rule rule c.levels j ps env kids asked_quiet.0 x.1.0 left_before goal_fails
-                    ∙ ap (tries_then x.1.0) (sym (events_stay modes rules n pairs js s u before w.pairs_there failed_grows w.fit)),
+                holds_failed modes rules hyps c.rule rule c.levels j ps env kids asked_quiet.0 x.1.0 (left_in before) goal_fails
+                    ∙ ap (tries_then x.1.0) (sym (events_stay modes rules n pairs js s u before w.pairs_there failed_grows fit)),
               ),
               subst (λ (ks : List ℕ). NotedFrom modes rules pairs js s c.levels c.premise (holds j ∷ ps) env ks) turned
                   ((omega arith), ((λ i. (ap first_given goal_fails ∙ tries-first x.1.0 [], along)), (λ d. absurd (d refl)))),
             );
-          }
+          })
 
     -- its goal has an answer
-    module _ (u : Store) (head : Head) (outs : Vec ℕ Global) (more : Vec TaskOf Global) (x : IsTracedUnder modes rules pairs js n mid u c (c.levels - 1) j.form terms (Answered head outs more)) where
-      mid_piled : Piled modes rules n mid more.items u
+    module _ (n : ℕ) (u : Store) (head : Head) (outs : Vec ℕ Global) (more : List TaskOf) (x : IsTracedUnder modes rules pairs js n mid u c (c.levels - 1) j.form terms more (Answered head outs)) where
+      mid_piled : Piled modes rules n mid more u
       mid_piled = x.2
 
       pub taken_grows : StoreGrows modes rules s u
-      taken_grows = grows_then modes rules s mid u mid_grows (piled_grows modes rules n mid u more.items mid_piled)
+      taken_grows = grows_then modes rules s mid u mid_grows (piled_grows modes rules n mid u more mid_piled)
 
       abbrev answer : Answer
       answer = answer_in u head outs.items
@@ -174,24 +174,28 @@ module _ (modes : Modes) (rules : List Rule) (pairs : List Pair) (js : List Judg
           let t = stays modes rules s mid c.env c.kids 0 mid_grows w.env_there w.kids_there (omega arith) in
           frame_is modes rules (store_envs s) (store_envs mid) (store_kids s) (store_kids mid) j c rule w.found w.premise t.envs t.kids_are
 
-      more_is : then_each (after_frame modes rules hyps waits_there) x.3.1 ≡ events_left modes rules pairs js u more.items
+      more_is : then_each (after_frame modes rules hyps waits_there) x.3.1 ≡ events_left modes rules pairs js u more
       more_is = (λ i. then_each (after_frame modes rules (sym (hyps_same mid mid_grows) i) (sym frame_same i)) x.3.1) ∙ x.3.3
 
-      module _ (v : Store) (g : StoreGrows modes rules u v) (after : List TaskOf) (ea : after ≡ before ++ more.items) where
+      module _ (before : List TaskOf) (fit : TasksFit modes rules s n before) (v : Store) (g : StoreGrows modes rules u v) where
+        abbrev after : List TaskOf
+        after = before ++ more
+
         all_grows : StoreGrows modes rules s v
         all_grows = grows_then modes rules s u v taken_grows g
 
-        left_is : events_left modes rules pairs js u more.items ++ left_before ≡ events_left modes rules pairs js v after
+        left_is : events_left modes rules pairs js u more ++ left_in before ≡ events_left modes rules pairs js v after
         left_is =
             let gp = pairs_more_terms (length (store_trees s)) (length (store_trees u)) (extends-length (store_trees s) (store_trees u) taken_grows.trees) pairs w.pairs_there in
-            sym (ap (events_left modes rules pairs js v) ea
-            ∙ events_behind modes rules pairs js v before more.items
-            ∙ (λ i. events_stay modes rules n pairs js u v more.items gp g (piled_fits modes rules n mid u more.items mid_piled) i ++ events_stay modes rules n pairs js s v before w.pairs_there all_grows w.fit i))
+            sym (events_behind modes rules pairs js v before more
+            ∙ (λ i. events_stay modes rules n pairs js u v more gp g (piled_fits modes rules n mid u more mid_piled) i ++ events_stay modes rules n pairs js s v before w.pairs_there all_grows fit i))
 
         piled_all : (first : Store) → Piled modes rules n first before s → Piled modes rules n first after v
         piled_all first p =
-            subst (λ (ts : List TaskOf). Piled modes rules n first ts v) (sym ea)
-            (piled_later modes rules n first u v (before ++ more.items) (piled_behind modes rules n first mid u before more.items (piled_later modes rules n first s mid before p mid_grows) mid_piled) g)
+            piled_later modes rules n first u v after (piled_behind modes rules n first mid u before more (piled_later modes rules n first s mid before p mid_grows) mid_piled) g
+
+        fits_all : TasksFit modes rules v n after
+        fits_all = fits_behind modes rules n v before more (fits_more modes rules n s v before all_grows fit) (fits_more modes rules n u v more g (piled_fits modes rules n mid u more mid_piled))
 
         env_same : env_at (store_envs u) c.env ≡ env
         env_same = (stays modes rules s u c.env c.kids 0 taken_grows w.env_there w.kids_there (omega arith)).envs
@@ -206,11 +210,12 @@ module _ (modes : Modes) (rules : List Rule) (pairs : List Pair) (js : List Judg
             record {
               piled = piled_all;
               grows = all_grows;
+              fits = fits_all;
               is = (
                 (
                   x.3.0,
-                  holds_answered modes rules hyps c.rule rule c.levels j ps env kids asked_quiet.0 x.3.0 left_before answer x.3.1 (events_left modes rules pairs js u more.items) goal_answers more_is
-                      ∙ (λ i. tries_then x.3.0 (frame_differs modes rules hyps c.rule rule c.levels j ps env kids asked_quiet.0 x.3.0 left_before answer m i ++ left_is i)),
+                  holds_answered modes rules hyps c.rule rule c.levels j ps env kids asked_quiet.0 x.3.0 (left_in before) answer x.3.1 (events_left modes rules pairs js u more) goal_answers more_is
+                      ∙ (λ i. tries_then x.3.0 (frame_differs modes rules hyps c.rule rule c.levels j ps env kids asked_quiet.0 x.3.0 (left_in before) answer m i ++ left_is i)),
                 ),
                 subst (λ (ks : List ℕ). NotedFrom modes rules pairs js s c.levels c.premise (holds j ∷ ps) env ks) none_noted tt,
               );
@@ -221,13 +226,14 @@ module _ (modes : Modes) (rules : List Rule) (pairs : List Pair) (js : List Judg
             record {
               piled = piled_all;
               grows = all_grows;
+              fits = fits_all;
               is = (
                 k.0,
                 k.1,
                 (
                   x.3.0,
-                  holds_answered modes rules hyps c.rule rule c.levels j ps env kids asked_quiet.0 x.3.0 left_before answer x.3.1 (events_left modes rules pairs js u more.items) goal_answers more_is
-                      ∙ (λ i. tries_then x.3.0 (frame_matches modes rules hyps c.rule rule c.levels j ps env kids asked_quiet.0 x.3.0 left_before answer (env_at (store_envs v) next) m i ++ left_is i))
+                  holds_answered modes rules hyps c.rule rule c.levels j ps env kids asked_quiet.0 x.3.0 (left_in before) answer x.3.1 (events_left modes rules pairs js u more) goal_answers more_is
+                      ∙ (λ i. tries_then x.3.0 (frame_matches modes rules hyps c.rule rule c.levels j ps env kids asked_quiet.0 x.3.0 (left_in before) answer (env_at (store_envs v) next) m i ++ left_is i))
                       ∙ (λ i. tries_then x.3.0 (premises_after modes rules (sym (hyps_same v all_grows) i) c.rule rule c.levels ps (env_at (store_envs v) next) (joined i) ++ events_left modes rules pairs js v after)),
                 ),
                 noted,

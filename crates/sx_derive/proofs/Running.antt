@@ -74,7 +74,7 @@ module _ (modes : Modes) (rules : List Rule) (pairs : List Pair) (facts : List F
       pub running_end : (rest : List TaskOf) → ((js : List Judgement) → AreFacts modes (store_trees now) js facts → IsTaskPopped modes rules pairs js now (length facts + length rules) n tasks rest None) →
           (js : List Judgement) → AreFacts modes (store_trees first) js facts →
           IsTaskRun modes rules pairs js (length facts + length rules) first now rest budget (events_left modes rules pairs js old start) Exhausted
-      running_end rest p js a = record { grows = w.grows; tries = budget - then_left; comes = over js a [] (p js (running_facts js a)) }
+      running_end rest p js a = record { grows = w.grows; tries = budget - then_left; comes = (let q = p js (running_facts js a) in (over js a [] q.0, q.1)) }
 
   module _ (now : Store) (left : ℕ) (task : TaskOf) (rest : List TaskOf) (w : Running now left (rest ++ task ∷ [])) where
     facts_here : (js : List Judgement) → AreFacts modes (store_trees first) js facts → AreFacts modes (store_trees now) js facts

@@ -31,6 +31,7 @@ use Rattle.sx_derive.proofs.Stored.{grows_same, grows_then}
 -- what holds with that many levels left, at a goal in the store
 pub record Sinking (modes subjects : Modes) (rules : List Rule) (hyps : Hypotheses) (budget levels : ℕ) (old : Store) (facts : List Fact) (pairs : List Pair) (first : Spot) (now : Store) (left : ℕ) (notes : List ℕ) (here : Spot) : Type 0 where
   pub are : AreHyps modes old facts pairs hyps
+  pub few : left ≤ levels
   pub grows : StoreGrows modes rules old now
   pub below : AreBelow (length (store_trees now)) here.terms.items
   pub quiet : IsQuiet budget (goal_events modes rules hyps left (spot_goal now here))
@@ -49,6 +50,7 @@ module _ (modes subjects : Modes) (rules : List Rule) (hyps : Hypotheses) (budge
       IsQuiet budget (goal_events modes rules hyps levels (spot_goal old first)) → (notes : List ℕ) → notes ≡ [] → S old levels notes first
   sinking_first h b a q notes e = record {
     are = a;
+    few = (omega arith);
     grows = grows_same modes rules old h;
     below = b;
     quiet = q;
@@ -93,7 +95,7 @@ module _ (modes subjects : Modes) (rules : List Rule) (hyps : Hypotheses) (budge
       pub sink_goes : StoreGrows modes rules now new → (next : Spot) → From (Below next) → S new (left - 1) more next
       sink_goes g next f =
           let x = sink_descent (Below next) f in
-          record { are = d.are; grows = grows_then modes rules old now new d.grows g; below = x.0; quiet = x.2; fails = x.3; leads = x.4 }
+          record { are = d.are; few = (let l = d.few in omega arith); grows = grows_then modes rules old now new d.grows g; below = x.0; quiet = x.2; fails = x.3; leads = x.4 }
 
   -- with no level left there is a stop
   pub sunk : (now : Store) (left : ℕ) (notes : List ℕ) (here : Spot) → left ≤ 0 → S now left notes here → ⊥

@@ -9,12 +9,12 @@ use Rattle.sx_arena.proofs.Parted.{pairs_more_terms}
 use Rattle.sx_derive.specs.Givens.{HasFacts, GrowsIn}
 use Rattle.sx_derive.specs.Runs.{CanRun}
 use Rattle.sx_derive.specs.Store.{store_trees}
-use Rattle.sx_derive.specs.Tracing.{StandFrom, FitIn, candidates_of}
+use Rattle.sx_derive.specs.Tracing.{StandFrom, candidates_of}
 use Rattle.sx_derive.specs.declared.given.Given.{Given}
 use Rattle.sx_derive.specs.declared.store.Store.{Store}
 use Rattle.sx_derive.specs.declared.tasks.Task.{Task as TaskOf}
 use Rattle.sx_derive.proofs.Asked.{facts_unique}
-use Rattle.sx_derive.proofs.Turned.{piled_grows, piled_fits}
+use Rattle.sx_derive.proofs.Turned.{piled_grows}
 
 -- facts and pairs in a store that has grown
 pub facts_grown : (g : Given) (s t : Store) (js : List Judgement) → GrowsIn g s t → HasFacts g s js → HasFacts g t js
@@ -31,14 +31,8 @@ module _ (g : Given) (first : Store) (js : List Judgement) (tasks : List TaskOf)
   abbrev pub stands_runs : CanRun g first s tasks
   stands_runs = record { judgements = js; facts = x.facts; pairs = x.pairs; piled = x.piled }
 
-  pub stands_grows : GrowsIn g first s
+  stands_grows : GrowsIn g first s
   stands_grows = piled_grows (set_modes g.rules.now) (rules_of g.rules.now) (candidates_of g) first s tasks x.piled
-
-  pub stands_fit : FitIn g s tasks
-  stands_fit = piled_fits (set_modes g.rules.now) (rules_of g.rules.now) (candidates_of g) first s tasks x.piled
 
   pub stands_facts : HasFacts g s js
   stands_facts = facts_grown g first s js stands_grows x.facts
-
-  pub stands_pairs : ArePairs (length (store_trees s)) g.pairs.now
-  stands_pairs = pairs_grown g first s stands_grows x.pairs

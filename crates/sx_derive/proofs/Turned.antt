@@ -19,6 +19,7 @@ use Rattle.sx_derive.specs.declared.store.Mark.{Mark}
 use Rattle.sx_derive.specs.declared.store.Store.{Store}
 use Rattle.sx_derive.proofs.Stored.{grows_same, grows_then}
 use Rattle.sx_derive.specs.declared.tasks.Task.{Task as TaskOf}
+use Rattle.sx_derive.specs.declared.tasks.Ending.{Ending as EndingOf}
 use Rattle.sx_derive.specs.declared.tasks.Ending.TheVariants.{Found, Passed as WasPassed}
 use Rattle.sx_derive.specs.declared.tasks.Ending.TheVariants.{DepthSpent as WasSpent}
 use Rattle.sx_arena.specs.Arena.{tree_at, AreBelow}
@@ -303,6 +304,11 @@ module _ (modes : Modes) (rules : List Rule) (pairs : List Pair) (js : List Judg
                 ∙ ap (λ es. suc (tries_of (wanted_in old wanted) left es)) (sym left_is),
           );
         }
+
+-- a turn with the tasks that it leaves by another name
+pub turned_on : (modes : Modes) (rules : List Rule) (pairs : List Pair) (js : List Judgement) (wanted : Option (Vec ℕ Global)) (n : ℕ) (old new : Store) (t : TaskOf) (before more left_over : List TaskOf) (o : Option EndingOf) → left_over ≡ before ++ more →
+    IsTaskTurn modes rules pairs js wanted n old new t before (before ++ more) o → IsTaskTurn modes rules pairs js wanted n old new t before left_over o
+turned_on modes rules pairs js wanted n old new t before more left_over o e h = subst (λ (ts : List TaskOf). IsTaskTurn modes rules pairs js wanted n old new t before ts o) (sym e) h
 
 -- the outputs are wanted just where the numbers are the same
 pub wanted_true : (modes : Modes) (rules : List Rule) (old new : Store) (w : Vec ℕ Global) (outs : List ℕ) → StoreGrows modes rules old new → AreBelow (length (store_trees old)) w.items → outs ≡ w.items → are_wanted (wanted_in old (Some w)) (map (tree_at (store_trees new)) outs) ≡ true

@@ -88,27 +88,27 @@ module _ (modes : Modes) (rules : List Rule) (pairs : List Pair) (s : Store) (c 
       ∙ pushed.1
       ∙ ap (λ (fs : List Frame). frame_of modes rules (store_envs s) (store_kids s) c ∷ fs) (ap (frames_in modes rules s) b ∙ frames_until modes rules s h)
 
-  module _ (js : List Judgement) (hp : ArePairs (length (store_trees s)) pairs) (n : ℕ) (u : Store) (levels form : ℕ) (terms : List ℕ) where
+  module _ (js : List Judgement) (hp : ArePairs (length (store_trees s)) pairs) (n : ℕ) (u : Store) (levels form : ℕ) (terms : List ℕ) (left : List TaskOf) where
     one_frame : (hyps : Hypotheses) (fr : Frame) (es : List (Event Answer)) → then_each (after_frames modes rules hyps (fr ∷ [])) es ≡ then_each (after_frame modes rules hyps fr) es
     one_frame hyps fr es = then_each-same (after_frames modes rules hyps (fr ∷ [])) (after_frame modes rules hyps fr) (λ a. then_each-give (after_frame modes rules hyps fr a)) es
 
     grown : StoreGrows modes rules base u → StoreGrows modes rules s (until_at s.until u)
     grown g = grows_then modes rules s more (until_at s.until u) pushed.0 (grows_back modes rules base s.until pushed.0.store full base u (grows_same modes rules base under_store) g)
 
-    pub under_traced : (t : Traced) → IsTraced modes rules pairs js n base u levels form terms t → IsTracedUnder modes rules pairs js n s (until_at s.until u) c levels form terms t
-    under_traced (Failed notes) x = (grown x.0, x.1, x.2)
-    under_traced (Answered head outs tasks) x =
+    pub under_traced : (t : Traced) → IsTraced modes rules pairs js n base u levels form terms left t → IsTracedUnder modes rules pairs js n s (until_at s.until u) c levels form terms left t
+    under_traced (Failed notes) x = (grown x.0, x.1, x.2, x.3)
+    under_traced (Answered head outs) x =
         let p = x.2 in
-        let g = piled_grows modes rules n base u tasks.items p in (
+        let g = piled_grows modes rules n base u left p in (
           x.0,
           x.1,
-          piled_earlier modes rules n s more (until_at s.until u) tasks.items pushed.0 (piled_back modes rules base s.until pushed.0.store full n base u tasks.items (grows_same modes rules base under_store) p),
+          piled_earlier modes rules n s more (until_at s.until u) left pushed.0 (piled_back modes rules base s.until pushed.0.store full n base u left (grows_same modes rules base under_store) p),
           (
             x.3.0,
-            events_left modes rules pairs js u tasks.items,
+            events_left modes rules pairs js u left,
             x.3.1,
-            sym (events_back modes rules base s.until pushed.0.store full u g n pairs js tasks.items (piled_fits modes rules n base u tasks.items p)
-                ∙ (λ i. then_each (after_frames modes rules (record { judgements = js; pairs = pairs_stay (store_trees s) (store_trees u) g.trees pairs hp i }) (frame_there u g i)) (events_left modes rules pairs js u tasks.items))
-                ∙ one_frame (hyps_in pairs s js) (frame_of modes rules (store_envs s) (store_kids s) c) (events_left modes rules pairs js u tasks.items)),
+            sym (events_back modes rules base s.until pushed.0.store full u g n pairs js left (piled_fits modes rules n base u left p)
+                ∙ (λ i. then_each (after_frames modes rules (record { judgements = js; pairs = pairs_stay (store_trees s) (store_trees u) g.trees pairs hp i }) (frame_there u g i)) (events_left modes rules pairs js u left))
+                ∙ one_frame (hyps_in pairs s js) (frame_of modes rules (store_envs s) (store_kids s) c) (events_left modes rules pairs js u left)),
           ),
         )

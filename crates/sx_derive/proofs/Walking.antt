@@ -122,10 +122,10 @@ module _ (modes : Modes) (rules : List Rule) (pairs : List Pair) (facts : List F
       walking_end rest p js a =
           let z : left ≡ n + then_left = omega arith in
           let t : tries_of (wanted_in old wanted) budget (events_first js) ≡ (budget - left) + (n + 0) =
-          w.tries js a ∙ ap (λ es. (budget - left) + tries_of (wanted_in old wanted) left es) (p js (facts_now js a)) ∙ ap (λ (m : ℕ). (budget - left) + m) (tries_tries (wanted_in old wanted) n then_left left [] z) in
+          w.tries js a ∙ ap (λ es. (budget - left) + tries_of (wanted_in old wanted) left es) (p js (facts_now js a)).0 ∙ ap (λ (m : ℕ). (budget - left) + m) (tries_tries (wanted_in old wanted) n then_left left [] z) in
           let s = w.steps in (
             w.grows,
-            w.walks js a ∙ ap (walk (wanted_in old wanted) left) (p js (facts_now js a)) ∙ walk_tries (wanted_in old wanted) n then_left left [] z,
+            w.walks js a ∙ ap (walk (wanted_in old wanted) left) (p js (facts_now js a)).0 ∙ walk_tries (wanted_in old wanted) n then_left left [] z,
             (omega arith),
           )
 

@@ -12,26 +12,26 @@ module _ (modes : Modes) (rules : List Rule) (hyps : Hypotheses) where
   -- before it, and the further notes hold of its goal
   abbrev pub PremisesFail : (Goal → List ℕ → Type 0) → (Goal → List (Event Answer)) → ℕ → ℕ →
       List ℕ → List Premise → Assignment → Type 0
-  PremisesFail Below below i k ks [] env = Unit {0}
-  PremisesFail Below below i k ks (apart t u ∷ ps) env =
-      PremisesFail Below below (suc i) k ks ps env
-  PremisesFail Below below i k ks (holds j ∷ ps) env =
+  PremisesFail Below events_of i k ks [] env = Unit {0}
+  PremisesFail Below events_of i k ks (apart t u ∷ ps) env =
+      PremisesFail Below events_of (suc i) k ks ps env
+  PremisesFail Below events_of i k ks (holds j ∷ ps) env =
       (i ≡ k →
-      (first_given (below (goal_of modes (judgement_instance (filled env) j))) ≡ None)
+      (first_given (events_of (goal_of modes (judgement_instance (filled env) j))) ≡ None)
       × Below (goal_of modes (judgement_instance (filled env) j)) ks)
       × ((i ≡ k → ⊥) → (a : Answer) (more : Assignment) →
-      first_given (below (goal_of modes (judgement_instance (filled env) j))) ≡ Some a →
+      first_given (events_of (goal_of modes (judgement_instance (filled env) j))) ≡ Some a →
       match_all (outputs_of modes j) a.1 env ≡ Some more →
-      PremisesFail Below below (suc i) k ks ps more)
+      PremisesFail Below events_of (suc i) k ks ps more)
 
   -- the first of the rules whose inputs match
   abbrev pub RulesFail : (Goal → List ℕ → Type 0) → (Goal → List (Event Answer)) → ℕ → List ℕ →
       List Rule → Goal → Type 0
-  RulesFail Below below k ks [] goal = Unit {0}
-  RulesFail Below below k ks (rule ∷ rest) goal =
+  RulesFail Below events_of k ks [] goal = Unit {0}
+  RulesFail Below events_of k ks (rule ∷ rest) goal =
       ((env : Assignment) → rule_match modes rule goal ≡ Some env →
-      PremisesFail Below below 0 k ks rule.premises env)
-      × (rule_match modes rule goal ≡ None → RulesFail Below below k ks rest goal)
+      PremisesFail Below events_of 0 k ks rule.premises env)
+      × (rule_match modes rule goal ≡ None → RulesFail Below events_of k ks rest goal)
 
   -- the notes of a goal with that many levels, its own counted: where it leads without an answer
   unfoldable pub FailsAlong : ℕ → Goal → List ℕ → Type 0

@@ -51,7 +51,7 @@ IsTaskRunTo modes rules pairs js candidates first new tasks budget es n DepthSpe
 IsTaskRunTo modes rules pairs js candidates first new tasks budget es n Spent =
     (rest : List (Event Answer)) × (n ≡ budget) × (es ≡ tries_then n (try ∷ rest))
 IsTaskRunTo modes rules pairs js candidates first new tasks budget es n Exhausted =
-    es ≡ tries_then n []
+    (es ≡ tries_then n []) × (tasks ≡ [])
 
 -- the store goes on from the first one, and the ending is what the events come to
 pub record IsTaskRun (modes : Modes) (rules : List Rule) (pairs : List Pair) (js : List Judgement)
@@ -66,7 +66,7 @@ pub record IsTaskRun (modes : Modes) (rules : List Rule) (pairs : List Pair) (js
 abbrev pub IsNextAnswer : Modes → List Rule → List Pair → List Judgement → ℕ → Store → Store →
     List TaskOf → List (Event Answer) → Option NumberedAnswer → Type 0
 IsNextAnswer modes rules pairs js candidates first new tasks es None =
-    StoreGrows modes rules first new × ((n : ℕ) × (es ≡ tries_then n []))
+    StoreGrows modes rules first new × ((n : ℕ) × (es ≡ tries_then n [])) × (tasks ≡ [])
 IsNextAnswer modes rules pairs js candidates first new tasks es (Some a) =
     StoreGrows modes rules first new × Piled modes rules candidates first tasks new
     × HeadFits (length (store_envs new)) (length (store_kids new)) a.head

@@ -21,7 +21,7 @@ use Rattle.sx_derive.specs.Store.{
   store_envs,
   store_kids,
 }
-use Rattle.sx_derive.specs.Tasks.{events_left, Piled}
+use Rattle.sx_derive.specs.Tasks.{events_left, Piled, TasksFit}
 use Rattle.sx_derive.specs.Walk.{Event, give, Answer, tries_then, then_each, goal_events}
 use Rattle.sx_derive.specs.Walked.{events_in}
 use Rattle.sx_derive.specs.declared.chains.Waiting.{Waiting}
@@ -40,22 +40,22 @@ IsFirstCandidate modes rules facts s form terms goal (Some found) =
     IsFirstFact form terms facts None × IsFirstRule modes s goal 0 rules (Some found)
 
 -- after some tries the events give the answer and are those of the tasks that are left; or nothing
--- is given among them, and the notes are as told
+-- is given among them, no task is left, and the notes are as told
 abbrev pub GoalComesTo : Modes → List Rule → List Pair → List Judgement → ℕ → Store → Store →
-    List (Event Answer) → (List ℕ → Type 0) → Traced → Type 0
-GoalComesTo modes rules pairs js candidates first new es Noted (Answered head outputs tasks) =
+    List (Event Answer) → (List ℕ → Type 0) → List TaskOf → Traced → Type 0
+GoalComesTo modes rules pairs js candidates first new es Noted left (Answered head outputs) =
     HeadFits (length (store_envs new)) (length (store_kids new)) head
     × AreBelow (length (store_trees new)) outputs.items
-    × Piled modes rules candidates first tasks.items new
+    × Piled modes rules candidates first left new
     × ((n : ℕ) × (es ≡ tries_then n (give (answer_in new head outputs.items)
-    ∷ events_left modes rules pairs js new tasks.items)))
-GoalComesTo modes rules pairs js candidates first new es Noted (Failed notes) =
+    ∷ events_left modes rules pairs js new left)))
+GoalComesTo modes rules pairs js candidates first new es Noted left (Failed notes) =
     StoreGrows modes rules first new × ((n : ℕ) × (es ≡ tries_then n []))
-    × Noted (reverse notes.items)
+    × Noted (reverse notes.items) × (left ≡ [])
 
 -- the goal comes to this
 abbrev pub IsTraced : Modes → List Rule → List Pair → List Judgement → ℕ → Store → Store → ℕ → ℕ →
-    List ℕ → Traced → Type 0
+    List ℕ → List TaskOf → Traced → Type 0
 IsTraced modes rules pairs js candidates old new levels form terms =
     GoalComesTo modes rules pairs js candidates old new
     (events_in modes rules pairs js old levels form terms)
@@ -63,20 +63,20 @@ IsTraced modes rules pairs js candidates old new levels form terms =
 
 -- the goal comes to this, and the frame is what follows each of its further answers
 abbrev pub IsTracedUnder : Modes → List Rule → List Pair → List Judgement → ℕ → Store → Store →
-    Waiting → ℕ → ℕ → List ℕ → Traced → Type 0
-IsTracedUnder modes rules pairs js candidates old new c levels form terms
-    (Answered head outputs tasks) =
+    Waiting → ℕ → ℕ → List ℕ → List TaskOf → Traced → Type 0
+IsTracedUnder modes rules pairs js candidates old new c levels form terms left
+    (Answered head outputs) =
     HeadFits (length (store_envs new)) (length (store_kids new)) head
     × AreBelow (length (store_trees new)) outputs.items
-    × Piled modes rules candidates old tasks.items new
+    × Piled modes rules candidates old left new
     × ((n : ℕ) × (more : List (Event Answer))
     × (events_in modes rules pairs js old levels form terms
     ≡ tries_then n (give (answer_in new head outputs.items) ∷ more))
     × (then_each (after_frame modes rules (hyps_in pairs old js)
     (frame_of modes rules (store_envs old) (store_kids old) c)) more
-    ≡ events_left modes rules pairs js new tasks.items))
-IsTracedUnder modes rules pairs js candidates old new c levels form terms (Failed notes) =
-    IsTraced modes rules pairs js candidates old new levels form terms (Failed notes)
+    ≡ events_left modes rules pairs js new left))
+IsTracedUnder modes rules pairs js candidates old new c levels form terms left (Failed notes) =
+    IsTraced modes rules pairs js candidates old new levels form terms left (Failed notes)
 
 -- the outputs of an answer match, and its proof is one kid more; or they do not match
 abbrev pub IsAnswerTaken : Modes → Store → Store → Waiting → Judgement → Answer → Premised → Type 0
@@ -124,11 +124,35 @@ module _ (modes : Modes) (rules : List Rule) (pairs : List Pair) (js : List Judg
       × NotedFrom old c.levels c.premise (p ∷ ps) (env_at (store_envs old) c.env)
       (reverse notes.items)
 
-  -- the premise is gone through, and the tasks stay piled
+  -- the premise is gone through, and the tasks stay piled and fit
   pub record PremiseTraced (candidates : ℕ) (old new : Store) (c : Waiting) (rule : Rule)
       (p : Premise) (ps : List Premise) (before after : List TaskOf)
       (premised : Premised) : Type 0 where
     pub piled : (first : Store) → Piled modes rules candidates first before old →
         Piled modes rules candidates first after new
     pub grows : StoreGrows modes rules old new
+    pub fits : TasksFit modes rules new candidates after
     pub is : IsPremised old new c rule p ps before after premised
+
+  -- what is left of a candidate's premises and of the tasks gives the answer first, after which the
+  -- tasks are left; or it comes to them, and the notes say why
+  abbrev pub IsCandidateTraced : Store → Store → ℕ → Rule → ℕ → ℕ → List TaskOf → List TaskOf →
+      Traced → Type 0
+  IsCandidateTraced old new number rule levels env before after (Answered head outputs) =
+      HeadFits (length (store_envs new)) (length (store_kids new)) head
+      × AreBelow (length (store_trees new)) outputs.items
+      × ((n : ℕ) × (premises_left old number rule levels rule.premises env 0 before
+      ≡ tries_then n (give (answer_in new head outputs.items)
+      ∷ events_left modes rules pairs js new after)))
+  IsCandidateTraced old new number rule levels env before after (Failed notes) =
+      ((n : ℕ) × (premises_left old number rule levels rule.premises env 0 before
+      ≡ tries_then n (events_left modes rules pairs js new after)))
+      × NotedFrom old levels 0 rule.premises (env_at (store_envs old) env) (reverse notes.items)
+
+  -- the candidate's premises are gone through, and the tasks stay piled
+  pub record CandidateTraced (candidates : ℕ) (old new : Store) (number : ℕ) (rule : Rule)
+      (levels env : ℕ) (before after : List TaskOf) (t : Traced) : Type 0 where
+    pub piled : (first : Store) → Piled modes rules candidates first before old →
+        Piled modes rules candidates first after new
+    pub grows : StoreGrows modes rules old new
+    pub is : IsCandidateTraced old new number rule levels env before after t

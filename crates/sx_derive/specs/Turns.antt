@@ -1,5 +1,6 @@
 -- What a turn of a walk makes of the tasks, and what a walk answers.
-use Rattle.std.specs.Prelude.{◌≡◌, ℕ, ◌<◌, List, [], ◌∷◌, ◌++◌, length, Option, Some, None, Vec}
+use Rattle.std.specs.Prelude.{◌≡◌, ℕ, ◌<◌, ◌≤◌, List, [], ◌∷◌, ◌++◌, length, take, drop}
+use Rattle.std.specs.Prelude.{Option, Some, None, Vec}
 use Rattle.std.specs.declared.alloc.Global.{Global}
 use Rattle.sx_rules.specs.Rules.{Judgement, Rule}
 use Rattle.sx_rules.specs.Modes.{Modes}
@@ -22,12 +23,26 @@ use Rattle.sx_derive.specs.Handing.{answer_in}
 use Rattle.sx_derive.specs.Store.{StoreGrows, IsMark, store_trees, store_envs, store_kids}
 use Rattle.sx_derive.specs.Tasks.{events_left, TaskFits, TasksFit, Piled, wanted_in, IsTryOutcome}
 
+-- others come behind the tasks, of which this holds
+abbrev pub PutsBehind : List TaskOf → List TaskOf → (List TaskOf → Type 0) → Type 0
+PutsBehind old new Holds = (more : List TaskOf) × (new ≡ old ++ more) × Holds more
+
+-- those below the base are as before
+pub record AreKeptBelow (base : ℕ) (old new : List TaskOf) : Type 0 where
+  pub reaches : base ≤ length new
+  pub below : take base new ≡ take base old
+
+-- the last task above the base, which is taken off, where one is
+abbrev pub IsPoppedAbove : ℕ → List TaskOf → List TaskOf → Option TaskOf → Type 0
+IsPoppedAbove base old new None = (drop base old ≡ []) × (drop base new ≡ [])
+IsPoppedAbove base old new (Some t) = drop base old ≡ drop base new ++ t ∷ []
+
 -- after that many tries that come to nothing, the last task that has a candidate left, and those
 -- before it; or none has one
 abbrev pub IsTaskPopped : Modes → List Rule → List Pair → List Judgement → Store → ℕ → ℕ →
     List TaskOf → List TaskOf → Option TaskOf → Type 0
 IsTaskPopped modes rules pairs js s candidates n old new None =
-    events_left modes rules pairs js s old ≡ tries_then n []
+    (events_left modes rules pairs js s old ≡ tries_then n []) × (new ≡ [])
 IsTaskPopped modes rules pairs js s candidates n old new (Some t) =
     (t.next < candidates)
     × (events_left modes rules pairs js s old

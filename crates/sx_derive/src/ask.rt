@@ -3,6 +3,7 @@
 ghost use Rattle.std.specs.Prelude.{◌^◌, ◌≤◌, ◌<◌, List, IfOk, length, map};
 ghost use Rattle.sx_term.specs.Term.{tree};
 ghost use Rattle.sx_rules.specs.Deep.{AreShallow};
+ghost use Rattle.sx_rules.specs.Limits.{most_levels};
 ghost use Rattle.sx_rules.specs.Rules.{Judgement as JudgementOf};
 ghost use Rattle.sx_derive.specs.Asking.{IsAnswered};
 ghost use Rattle.sx_arena.specs.Pairs.{ArePairs};
@@ -50,6 +51,7 @@ pub(crate) fn ask(
     requires pairs { ArePairs (length (store_trees store.old)) given.now.pairs.now }
     requires shallow { AreShallow (map tree judgement.now.places.items) }
     requires env { env ≤ length store.old.binds.cells.items }
+    requires levels { bounds.levels < most_levels }
     requires quiet { (js : List JudgementOf) → HasFacts given.now store.old js →
         IsQuiet bounds.budget (asked_by given.now js store.old env bounds.levels judgement.now) }
     ensures grows { IfOk result (λ r. GrowsIn given.now store.old store.new) }

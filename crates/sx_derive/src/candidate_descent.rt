@@ -3,6 +3,7 @@
 ghost use Rattle.std.specs.Prelude.{suc, ◌^◌, ◌<◌, ◌↔◌, IsTrue, IfOk, length};
 ghost use Rattle.std.specs.Option.{option_map};
 ghost use Rattle.sx_rules.specs.Deep.{RuleIsShallow};
+ghost use Rattle.sx_rules.specs.Limits.{most_levels};
 ghost use Rattle.sx_rules.specs.Rules.{Hypotheses};
 ghost use Rattle.sx_arena.specs.Arena.{AreBelow};
 ghost use Rattle.sx_arena.specs.Binds.{IsChainFit};
@@ -120,6 +121,7 @@ fn descend_rules(
     requires few { length given.now.facts.now < 2 ^ 32 }
     requires store { IsStoreOf given.now store.old }
     requires terms { AreBelow (length (store_trees store.old)) spot.terms.items }
+    requires levels { bounds.levels < most_levels }
     requires quiet { (hyps : Hypotheses) × HasHyps given.now store.old hyps
         × IsQuiet bounds.budget (rules_events_by given.now hyps bounds.levels store.old spot)
         × RulesFailBy given.now hyps bounds.levels store.old spot notes.old.items }
@@ -155,6 +157,7 @@ pub(crate) fn descend(
     requires few { length given.now.facts.now < 2 ^ 32 }
     requires store { IsStoreOf given.now store.old }
     requires terms { AreBelow (length (store_trees store.old)) spot.terms.items }
+    requires levels { bounds.levels < most_levels }
     requires quiet { (hyps : Hypotheses) × HasHyps given.now store.old hyps
         × IsQuiet bounds.budget (events_by given.now hyps (suc bounds.levels) store.old spot)
         × GoalFails given.now hyps (suc bounds.levels) store.old spot notes.old.items }

@@ -1,6 +1,7 @@
 //! First answers.
 
 ghost use Rattle.std.specs.Prelude.{◌^◌, ◌<◌, List, IfOk, length};
+ghost use Rattle.sx_rules.specs.Limits.{most_levels};
 ghost use Rattle.sx_rules.specs.Rules.{Judgement};
 ghost use Rattle.sx_arena.specs.Arena.{AreBelow};
 ghost use Rattle.sx_arena.specs.Pairs.{ArePairs};
@@ -37,6 +38,7 @@ pub(crate) fn first_noted(
     requires facts { (js : List Judgement) × HasFacts given.now store.old js }
     requires store { IsStoreOf given.now store.old }
     requires pairs { ArePairs (length (store_trees store.old)) given.now.pairs.now }
+    requires levels { goal.levels < most_levels }
     requires terms { AreBelow (length (store_trees store.old)) goal.terms.items }
     requires quiet { (js : List Judgement) → HasFacts given.now store.old js → IsQuiet budget
         (events_in (set_modes given.now.rules.now) (rules_of given.now.rules.now)
@@ -48,13 +50,11 @@ pub(crate) fn first_noted(
         js store.old store.new goal r) }
 {
     let mark = store.mark();
-    match trace(given, store, goal, budget)? {
-        Traced::Answered {
-            head: _,
-            outputs,
-            tasks,
-        } => {
-            drop(tasks);
+    let mut tasks = Vec::new(given.alloc);
+    let traced = trace(given, store, goal, &mut tasks, budget)?;
+    drop(tasks);
+    match traced {
+        Traced::Answered { head: _, outputs } => {
             store.cut_chains(mark);
             Ok(First::Answer(outputs))
         }

@@ -3,6 +3,7 @@
 ghost use Rattle.std.specs.Prelude.{◌≡◌, ◌↔◌, IsTrue, ◌^◌, ◌≤◌, ◌<◌, IfOk, Some, length, map};
 ghost use Rattle.sx_term.specs.Term.{tree};
 ghost use Rattle.sx_rules.specs.Deep.{AreShallow, RuleIsShallow};
+ghost use Rattle.sx_rules.specs.Limits.{most_levels};
 ghost use Rattle.sx_rules.specs.Rules.{Hypotheses};
 ghost use Rattle.sx_arena.specs.Arena.{AreBelow};
 ghost use Rattle.sx_arena.specs.Views.{rule_of, judgement_of};
@@ -115,6 +116,7 @@ pub(crate) fn descend_premises(
     requires shallow { RuleIsShallow (rule_of candidate.now.rule.now) }
     requires env { candidate.now.env ≤ length store.old.binds.cells.items }
     requires terms { AreBelow (length (store_trees store.old)) spot.terms.items }
+    requires levels { bounds.levels < most_levels }
     requires quiet { (hyps : Hypotheses) × HasHyps given.now store.old hyps
         × IsQuiet bounds.budget
         (candidate_events given.now hyps bounds.levels store.old candidate.now)

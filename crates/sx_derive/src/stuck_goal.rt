@@ -1,6 +1,6 @@
 //! The stuck goal of a goal without an answer.
 
-ghost use Rattle.std.specs.Prelude.{◌≡◌, ◌^◌, ◌<◌, [], IfOk, length, None};
+ghost use Rattle.std.specs.Prelude.{◌≡◌, ◌^◌, ◌<◌, ◌≤◌, [], IfOk, length, None};
 ghost use Rattle.sx_rules.specs.Deep.{AreShallow};
 ghost use Rattle.sx_rules.specs.Derivations.{ShallowJudgements};
 ghost use Rattle.sx_rules.specs.Rules.{Hypotheses};
@@ -84,6 +84,7 @@ fn stuck_below(
     requires few { length given.now.facts.now < 2 ^ 32 }
     requires store { IsStoreOf given.now store.old }
     requires terms { AreBelow (length (store_trees store.old)) first.terms.items }
+    requires levels { bounds.levels ≤ most_levels }
     requires quiet { (hyps : Hypotheses) × HasHyps given.now store.old hyps
         × IsQuiet bounds.budget (events_by given.now hyps bounds.levels store.old first) }
     ensures { IfOk result (λ b. (hyps : Hypotheses) → HasHyps given.now store.old hyps →

@@ -1,9 +1,10 @@
 //! What a goal comes to along first candidates.
 
-ghost use Rattle.std.specs.Prelude.{◌≡◌, ◌^◌, ◌<◌, ◌≤◌, ◌∷◌, [], IfOk, List, Some};
-ghost use Rattle.std.specs.Prelude.{length, map, reverse, slice_get};
+ghost use Rattle.std.specs.Prelude.{◌≡◌, ◌^◌, ◌<◌, ◌≤◌, IfOk, List, Some};
+ghost use Rattle.std.specs.Prelude.{drop, length, map, reverse, slice_get};
 ghost use Rattle.sx_term.specs.Term.{tree};
 ghost use Rattle.sx_rules.specs.Deep.{AreShallow, PremiseIsShallow, RuleIsShallow};
+ghost use Rattle.sx_rules.specs.Limits.{most_levels};
 ghost use Rattle.sx_rules.specs.Rules.{Judgement as JudgementOf, holds};
 ghost use Rattle.sx_arena.specs.Arena.{AreBelow};
 ghost use Rattle.sx_arena.specs.Pairs.{ArePairs};
@@ -14,14 +15,14 @@ ghost use Rattle.sx_derive.specs.Givens.{IsStoreOf, GrowsIn, HasFacts};
 ghost use Rattle.sx_derive.specs.Handing.{IsWaitingCell, answer_in};
 ghost use Rattle.sx_derive.specs.Store.{store_trees, store_envs, store_kids};
 ghost use Rattle.sx_derive.specs.Traced.{IsAnswerTaken, IsFirstCandidate};
+ghost use Rattle.sx_derive.specs.Turns.{AreKeptBelow, PutsBehind};
 ghost use Rattle.sx_derive.specs.Tracing.{
   AreQuiet,
   ComesToBy,
-  FitIn,
+  IsCandidateTracedBy,
   IsPremiseTracedBy,
   IsTracedBy,
   IsTracedUnderBy,
-  NotedOf,
   StandFrom,
   StandsSomewhere,
   WaitsQuietly,
@@ -38,23 +39,18 @@ use crate::given::Given;
 use crate::made_places::{made_inputs, made_outputs};
 use crate::numbered_goal::NumberedGoal;
 use crate::run::next_answer;
-use crate::store::{Mark, Store};
+use crate::store::Store;
 use crate::tasks::Task;
-use crate::walk::first_task;
-use std::alloc::Global;
+use crate::walk::goal_task;
 use sx_arena::{Chain, Side, fit_places, instances_apart, rule_at};
 use sx_rules::{Judgement, Premise};
 use sx_term::NoMemory;
 
-/// The first answer of a goal, and the tasks that are left after it; or that there is none, and the
-/// premises without an answer that first candidates lead to, the innermost first.
+/// The first answer of a goal; or that there is none, and the premises without an answer that first
+/// candidates lead to, the innermost first.
 #[derive(Drop)]
 pub enum Traced {
-    Answered {
-        head: Head,
-        outputs: Vec<usize>,
-        tasks: Vec<Task>,
-    },
+    Answered { head: Head, outputs: Vec<usize> },
     Failed(Vec<usize>),
 }
 
@@ -87,47 +83,37 @@ fn first_candidate(
     }
 }
 
-/// The task alone.
-fn one_task(alloc: Global, task: Task) -> Result<Vec<Task>, NoMemory>
-    ensures { IfOk result (λ r. r.items ≡ task ∷ []) }
-{
-    let mut tasks = Vec::new(alloc);
-    tasks.push(task)?;
-    Ok(tasks)
-}
-
-/// What the tasks that are left come to, where the first candidate comes to nothing.
+/// What the tasks above the base come to, where the first candidate comes to nothing.
 #[inline(never)]
 fn try_others(
     given: &Given,
     store: &mut Store,
-    tasks: Vec<Task>,
+    tasks: &mut Vec<Task>,
+    base: usize,
     notes: Vec<usize>,
     budget: u64,
 ) -> Result<Traced, NoMemory>
     requires few { length given.now.facts.now < 2 ^ 32 }
-    requires stands { StandsSomewhere given.now tasks.items store.old }
+    requires base { base ≤ length tasks.old.items }
+    requires stands { StandsSomewhere given.now (drop base tasks.old.items) store.old }
     requires quiet { AreQuiet given.now budget store.old
-        (λ js. left_by given.now js store.old tasks.items) }
-    ensures { IfOk result (λ t. (first : StoreOf) (js : List JudgementOf) →
-        StandFrom given.now first js tasks.items store.old →
-        ComesToBy given.now js first store.new (left_by given.now js store.old tasks.items)
-        (λ noted. noted ≡ reverse notes.items) t) }
+        (λ js. left_by given.now js store.old (drop base tasks.old.items)) }
+    ensures below { IfOk result (λ _. AreKeptBelow base tasks.old.items tasks.new.items) }
+    ensures comes { IfOk result (λ t. (first : StoreOf) (js : List JudgementOf) →
+        StandFrom given.now first js (drop base tasks.old.items) store.old →
+        ComesToBy given.now js first store.new
+        (left_by given.now js store.old (drop base tasks.old.items))
+        (λ noted. noted ≡ reverse notes.items) (drop base tasks.new.items) t) }
 {
-    let mut tasks = tasks;
-    match next_answer(given, store, &mut tasks, budget)? {
+    match next_answer(given, store, tasks, base, budget)? {
         Some(answer) => {
             drop(notes);
             Ok(Traced::Answered {
                 head: answer.head,
                 outputs: answer.outputs,
-                tasks,
             })
         }
-        None => {
-            drop(tasks);
-            Ok(Traced::Failed(notes))
-        }
+        None => Ok(Traced::Failed(notes)),
     }
 }
 
@@ -169,6 +155,7 @@ fn trace_under(
     store: &mut Store,
     from: Waiting,
     goal: NumberedGoal,
+    tasks: &mut Vec<Task>,
     budget: u64,
 ) -> Result<Traced, NoMemory>
     requires few { length given.now.facts.now < 2 ^ 32 }
@@ -178,15 +165,16 @@ fn trace_under(
     requires waits { IsWaitingCell (set_modes given.now.rules.now) (rules_of given.now.rules.now)
         store.old from }
     requires before { from.before ≡ store.old.until }
+    requires levels { goal.levels < most_levels }
     requires terms { AreBelow (length (store_trees store.old)) goal.terms.items }
     requires quiet { AreQuiet given.now budget store.old
         (λ js. goal_events_by given.now js store.old goal) }
-    ensures { IfOk result (λ t. (js : List JudgementOf) → HasFacts given.now store.old js →
-        IsTracedUnderBy given.now js store.old store.new from goal t) }
+    ensures { IfOk result (λ t. PutsBehind tasks.old.items tasks.new.items
+        (IsTracedUnderBy given.now store.old store.new from goal t)) }
 {
     let outer = store.until;
     store.until = push_waiting(&mut store.frames, from)?;
-    let traced = trace(given, store, goal, budget);
+    let traced = trace(given, store, goal, tasks, budget);
     store.until = outer;
     traced
 }
@@ -209,11 +197,12 @@ fn trace_judgement(
     requires before { from.before ≡ store.old.until }
     requires env { from.env ≤ length store.old.binds.cells.items }
     requires kids { from.kids ≤ length store.old.kids.items }
+    requires levels { from.levels < most_levels }
     requires waits { WaitsQuietly given.now budget store.old (holds (judgement_of judgement.now))
-        from tasks.old.items }
-    requires tasks { FitIn given.now store.old tasks.old.items }
-    ensures { IfOk result (λ p. IsPremiseTracedBy given.now store.old store.new from
-        (holds (judgement_of judgement.now)) tasks.old.items tasks.new.items p) }
+        from }
+    ensures { IfOk result (λ p. PutsBehind tasks.old.items tasks.new.items
+        (IsPremiseTracedBy given.now store.old store.new from (holds (judgement_of judgement.now))
+        p)) }
 {
     let terms = made_inputs(given, store, judgement, from.env)?;
     let goal = NumberedGoal {
@@ -221,19 +210,13 @@ fn trace_judgement(
         terms,
         levels: from.levels - 1,
     };
-    match trace_under(given, store, from, goal, budget)? {
+    match trace_under(given, store, from, goal, tasks, budget)? {
         Traced::Failed(noted) => {
             let mut notes = noted;
             notes.push(from.premise)?;
             Ok(Premised::Fails(notes))
         }
-        Traced::Answered {
-            head,
-            outputs,
-            tasks: more,
-        } => {
-            let mut more = more;
-            tasks.append(&mut more)?;
+        Traced::Answered { head, outputs } => {
             take_answer(given, store, judgement, from, head, &outputs)
         }
     }
@@ -257,11 +240,10 @@ fn trace_premise(
     requires before { from.before ≡ store.old.until }
     requires env { from.env ≤ length store.old.binds.cells.items }
     requires kids { from.kids ≤ length store.old.kids.items }
-    requires waits { WaitsQuietly given.now budget store.old (premise_of premise.now) from
-        tasks.old.items }
-    requires tasks { FitIn given.now store.old tasks.old.items }
-    ensures { IfOk result (λ p. IsPremiseTracedBy given.now store.old store.new from
-        (premise_of premise.now) tasks.old.items tasks.new.items p) }
+    requires levels { from.levels < most_levels }
+    requires waits { WaitsQuietly given.now budget store.old (premise_of premise.now) from }
+    ensures { IfOk result (λ p. PutsBehind tasks.old.items tasks.new.items
+        (IsPremiseTracedBy given.now store.old store.new from (premise_of premise.now) p)) }
 {
     match premise {
         Premise::Holds(judgement) => trace_judgement(given, store, judgement, from, tasks, budget),
@@ -282,32 +264,31 @@ fn trace_premise(
     }
 }
 
-/// What a goal's first candidate comes to, and where it comes to nothing, the tasks that are left.
+/// What a goal's first candidate comes to. Where it gives nothing, what is left are the tasks.
 #[cycle(trace)]
 fn trace_rule(
     given: &Given,
     store: &mut Store,
     candidate: &Candidate,
     levels: usize,
-    tasks: Vec<Task>,
+    tasks: &mut Vec<Task>,
     budget: u64,
 ) -> Result<Traced, NoMemory>
     requires few { length given.now.facts.now < 2 ^ 32 }
+    requires facts { (js : List JudgementOf) × HasFacts given.now store.old js }
+    requires store { IsStoreOf given.now store.old }
+    requires pairs { ArePairs (length (store_trees store.old)) given.now.pairs.now }
     requires found { slice_get (rules_of given.now.rules.now) candidate.now.number
         ≡ Some (rule_of candidate.now.rule.now) }
     requires shallow { RuleIsShallow (rule_of candidate.now.rule.now) }
     requires env { candidate.now.env ≤ length store.old.binds.cells.items }
-    requires stands { StandsSomewhere given.now tasks.items store.old }
+    requires levels { levels < most_levels }
     requires quiet { AreQuiet given.now budget store.old
-        (λ js. candidate_left given.now js store.old candidate.now levels tasks.items) }
-    ensures { IfOk result (λ t. (first : StoreOf) (js : List JudgementOf) →
-        StandFrom given.now first js tasks.items store.old →
-        ComesToBy given.now js first store.new
-        (candidate_left given.now js store.old candidate.now levels tasks.items)
-        (NotedOf given.now js store.old candidate.now levels) t) }
+        (λ js. candidate_left given.now js store.old candidate.now levels) }
+    ensures { IfOk result (λ t. PutsBehind tasks.old.items tasks.new.items
+        (IsCandidateTracedBy given.now store.old store.new candidate.now levels t)) }
 {
     let rule = candidate.rule;
-    let mut tasks = tasks;
     let mut env = candidate.env;
     let mut kids = 0;
     let outer = store.until;
@@ -320,7 +301,7 @@ fn trace_rule(
             levels,
             before: outer,
         };
-        match trace_premise(given, store, &rule.premises[k], from, &mut tasks, budget)? {
+        match trace_premise(given, store, &rule.premises[k], from, tasks, budget)? {
             Premised::Holds {
                 env: next,
                 kids: more,
@@ -328,7 +309,7 @@ fn trace_rule(
                 env = next;
                 kids = more;
             }
-            Premised::Fails(notes) => return try_others(given, store, tasks, notes, budget),
+            Premised::Fails(notes) => return Ok(Traced::Failed(notes)),
         }
     }
     let outputs = made_outputs(given, store, &rule.conclusion, env)?;
@@ -340,34 +321,37 @@ fn trace_rule(
             kids,
         },
         outputs,
-        tasks,
     })
 }
 
-/// What the goal comes to, its first candidate and those of its premises before all others.
+/// What the goal comes to, its first candidate and those of its premises before all others. The
+/// tasks that are left of it come behind the others, whatever those are.
 #[cycle(trace)]
 pub(crate) fn trace(
     given: &Given,
     store: &mut Store,
     goal: NumberedGoal,
+    tasks: &mut Vec<Task>,
     budget: u64,
 ) -> Result<Traced, NoMemory>
     requires few { length given.now.facts.now < 2 ^ 32 }
     requires facts { (js : List JudgementOf) × HasFacts given.now store.old js }
     requires store { IsStoreOf given.now store.old }
     requires pairs { ArePairs (length (store_trees store.old)) given.now.pairs.now }
+    requires levels { goal.levels < most_levels }
     requires terms { AreBelow (length (store_trees store.old)) goal.terms.items }
     requires quiet { AreQuiet given.now budget store.old
         (λ js. goal_events_by given.now js store.old goal) }
-    ensures { IfOk result (λ t. (js : List JudgementOf) → HasFacts given.now store.old js →
-        IsTracedBy given.now js store.old store.new goal t) }
+    ensures { IfOk result (λ t. PutsBehind tasks.old.items tasks.new.items
+        (IsTracedBy given.now store.old store.new goal t)) }
 {
     let mark = store.mark();
     let outer = store.until;
+    let base = tasks.len();
     match first_candidate(given, store, goal.form, &goal.terms)? {
         None => {
-            let tasks = first_task(given.alloc, goal, outer, mark)?;
-            try_others(given, store, tasks, Vec::new(given.alloc), budget)
+            tasks.push(goal_task(goal, outer, mark))?;
+            try_others(given, store, tasks, base, Vec::new(given.alloc), budget)
         }
         Some((number, env)) => {
             given.rules.facts();
@@ -378,18 +362,18 @@ pub(crate) fn trace(
                 terms,
                 levels,
             } = goal;
-            let tasks = one_task(
-                given.alloc,
-                Task {
-                    next: given.facts.len() + number as usize + 1,
-                    form,
-                    terms,
-                    levels,
-                    frames: outer,
-                    mark,
-                },
-            )?;
-            trace_rule(given, store, &candidate, levels, tasks, budget)
+            tasks.push(Task {
+                next: given.facts.len() + number as usize + 1,
+                form,
+                terms,
+                levels,
+                frames: outer,
+                mark,
+            })?;
+            match trace_rule(given, store, &candidate, levels, tasks, budget)? {
+                Traced::Failed(notes) => try_others(given, store, tasks, base, notes, budget),
+                answered => Ok(answered),
+            }
         }
     }
 }

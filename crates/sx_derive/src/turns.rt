@@ -8,8 +8,10 @@ ghost use Rattle.std.specs.Prelude.{
   ◌≤◌,
   ◌<◌,
   ◌↔◌,
+  ◌++◌,
   IsTrue,
   IfOk,
+  drop,
   length,
   List,
   MatchOption,
@@ -20,7 +22,14 @@ ghost use Rattle.sx_arena.specs.Pairs.{ArePairs};
 ghost use Rattle.sx_derive.specs.Givens.{IsStoreOf, HasFacts};
 ghost use Rattle.sx_derive.specs.Store.{store_trees};
 ghost use Rattle.sx_derive.specs.Tasks.{TaskFits, TasksFit, WantedBelow, IsNextCandidate};
-ghost use Rattle.sx_derive.specs.Turns.{IsTaskPopped, IsTaskTurn};
+ghost use Rattle.sx_derive.specs.Turns.{
+  AreKeptBelow,
+  IsPoppedAbove,
+  IsTaskPopped,
+  IsTaskTurn,
+  PutsBehind,
+};
+ghost use Rattle.sx_derive.specs.declared.tasks.Task.{Task as TaskOf};
 ghost use Rattle.sx_arena.specs.Views.{rules_of, set_modes};
 
 use crate::given::Given;
@@ -42,26 +51,41 @@ fn is_wanted(wanted: &Option<Vec<usize>>, outputs: &[usize]) -> bool
     }
 }
 
-/// The last task that has a candidate left which does not come to nothing at a look, or where no
-/// try is left. Each candidate that is passed over takes one of the tries.
+/// Takes off the last task above the base, which counts the tasks below it.
+fn pop_above(tasks: &mut Vec<Task>, base: usize) -> Option<Task>
+    requires base { base ≤ length tasks.old.items }
+    ensures below { AreKeptBelow base tasks.old.items tasks.new.items }
+    ensures popped { IsPoppedAbove base tasks.old.items tasks.new.items result }
+{
+    if tasks.len() == base {
+        return None;
+    }
+    tasks.pop()
+}
+
+/// The last task above the base that has a candidate left which does not come to nothing at a look,
+/// or where no try is left. Each candidate that is passed over takes one of the tries.
 pub(crate) fn next_task(
     given: &Given,
     store: &Store,
     tasks: &mut Vec<Task>,
+    base: usize,
     left: &mut u64,
 ) -> Option<Task>
     requires store { IsStoreOf given.now store.now }
+    requires base { base ≤ length tasks.old.items }
     requires tasks { TasksFit (set_modes given.now.rules.now) (rules_of given.now.rules.now)
-        store.now
-        (length given.now.facts.now + length (rules_of given.now.rules.now)) tasks.old.items }
+        store.now (length given.now.facts.now + length (rules_of given.now.rules.now))
+        (drop base tasks.old.items) }
     ensures less { left.new ≤ left.old }
+    ensures below { AreKeptBelow base tasks.old.items tasks.new.items }
     ensures popped { (js : List Judgement) → HasFacts given.now store.now js →
         IsTaskPopped (set_modes given.now.rules.now) (rules_of given.now.rules.now)
         given.now.pairs.now js store.now
         (length given.now.facts.now + length (rules_of given.now.rules.now))
-        (left.old - left.new) tasks.old.items tasks.new.items result }
+        (left.old - left.new) (drop base tasks.old.items) (drop base tasks.new.items) result }
 {
-    while let Some(popped) = tasks.pop() {
+    while let Some(popped) = pop_above(tasks, base) {
         let mut task = popped;
         task.next = pass_over(given, store, &task, left);
         if is_candidate(given, task.next) {
@@ -98,7 +122,8 @@ fn try_task(given: &Given, store: &mut Store, task: &Task) -> Result<Step, NoMem
     }
 }
 
-/// A try of the task, and how the walk ends where it ends with it.
+/// A try of the task, and how the walk ends where it ends with it. The tasks that are left of it
+/// come behind the others, whatever those are.
 pub(crate) fn turn(
     given: &Given,
     store: &mut Store,
@@ -115,14 +140,14 @@ pub(crate) fn turn(
         (rules_of given.now.rules.now) store.old
         (length given.now.facts.now + length (rules_of given.now.rules.now)) task }
     requires next { task.next < length given.now.facts.now + length (rules_of given.now.rules.now) }
-    requires tasks { TasksFit (set_modes given.now.rules.now) (rules_of given.now.rules.now)
-        store.old
-        (length given.now.facts.now + length (rules_of given.now.rules.now)) tasks.old.items }
-    ensures { IfOk result (λ o. (js : List Judgement) → HasFacts given.now store.old js →
+    ensures { IfOk result (λ o. PutsBehind tasks.old.items tasks.new.items (λ more.
+        (js : List Judgement) → HasFacts given.now store.old js → (before : List TaskOf) →
+        TasksFit (set_modes given.now.rules.now) (rules_of given.now.rules.now) store.old
+        (length given.now.facts.now + length (rules_of given.now.rules.now)) before →
         IsTaskTurn (set_modes given.now.rules.now) (rules_of given.now.rules.now)
-        given.now.pairs.now js
-        wanted.now (length given.now.facts.now + length (rules_of given.now.rules.now)) store.old
-        store.new task tasks.old.items tasks.new.items o) }
+        given.now.pairs.now js wanted.now
+        (length given.now.facts.now + length (rules_of given.now.rules.now)) store.old store.new
+        task before (before ++ more) o)) }
 {
     let step = try_task(given, store, &task)?;
     tasks.push(Task {

@@ -42,7 +42,7 @@ fn next_counted<L: Ledger>(
         (left.old - left.new) tasks.old.items tasks.new.items result }
 {
     let before = *left;
-    let next = next_task(given, store, tasks, left);
+    let next = next_task(given, store, tasks, 0, left);
     count(steps, before - *left);
     next
 }
@@ -89,6 +89,25 @@ fn walk_tasks<L: Ledger>(
 }
 
 /// The task of a goal for whose answers those frames wait, no candidate of which is tried.
+pub(crate) fn goal_task(goal: NumberedGoal, frames: usize, mark: Mark) -> Task
+    ensures { result ≡ record {
+      next = 0;
+      form = goal.form;
+      terms = goal.terms;
+      levels = goal.levels;
+      frames = frames;
+      mark = mark;
+    } }
+{
+    let NumberedGoal {
+        form,
+        terms,
+        levels,
+    } = goal;
+    new_task(form, terms, levels, frames, mark)
+}
+
+/// The task of a goal alone, no candidate of which is tried.
 pub(crate) fn first_task(
     alloc: Global,
     goal: NumberedGoal,
@@ -104,13 +123,8 @@ pub(crate) fn first_task(
       mark = mark;
     } ∷ []) }
 {
-    let NumberedGoal {
-        form,
-        terms,
-        levels,
-    } = goal;
     let mut tasks = Vec::new(alloc);
-    tasks.push(new_task(form, terms, levels, frames, mark))?;
+    tasks.push(goal_task(goal, frames, mark))?;
     Ok(tasks)
 }
 

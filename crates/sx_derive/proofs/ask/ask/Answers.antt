@@ -53,6 +53,9 @@ pub first_noted-requires-clause-pairs : goal.first_noted-requires-clause-pairs
 first_noted-requires-clause-pairs c =
     pairs_more_terms _ _ (extends-length _ _ c.in_ok-terms.ensures.held.extends) _ c.requires.pairs
 
+pub first_noted-requires-clause-levels : goal.first_noted-requires-clause-levels
+first_noted-requires-clause-levels c = let l = c.requires.levels in omega arith
+
 pub first_noted-requires-clause-quiet : goal.first_noted-requires-clause-quiet
 first_noted-requires-clause-quiet c =
     let w = goal.at.first_noted-requires-clause-quiet c in

@@ -5,10 +5,10 @@ use Rattle.sx_derive.proofs.first.first_noted.Goals as goal
 
 pub returns-in-Answered : goal.returns-in-Answered
 returns-in-Answered c = λ js a.
-    noted_answer (set_modes c.args.given.now.rules.now) (rules_of c.args.given.now.rules.now) c.args.given.now.pairs.now js (candidates_of c.args.given.now) c.args.store.now c.trace.new.store c.cut_chains.new.self c.args.goal c.mark-mark.result c.requires.store c.mark-mark.ensures c.in-Answered.head c.in-Answered.outputs c.in-Answered.tasks
-    (rw c.in-Answered.is at (c.in_ok-outputs.ensures js a)) c.cut_chains.ensures
+    noted_answer (set_modes c.args.given.now.rules.now) (rules_of c.args.given.now.rules.now) c.args.given.now.pairs.now js (candidates_of c.args.given.now) c.args.store.now c.trace.new.store c.cut_chains.new.self c.args.goal c.mark-mark.result c.requires.store c.mark-mark.ensures c.in-Answered.head c.in-Answered.outputs c.in_ok-traced.ensures.0
+    (rw c.in-Answered.is at (c.in_ok-traced.ensures.2 js a)) c.cut_chains.ensures
 
 pub returns-in-Failed : goal.returns-in-Failed
 returns-in-Failed c = λ js a.
-    noted_nothing (set_modes c.args.given.now.rules.now) (rules_of c.args.given.now.rules.now) c.args.given.now.pairs.now js (candidates_of c.args.given.now) c.args.store.now c.trace.new.store c.cut.new.self c.args.goal c.mark-mark.result c.requires.store c.mark-mark.ensures c.in-Failed.notes
-    (rw c.in-Failed.is at (c.in_ok-outputs.ensures js a)) c.cut.ensures
+    noted_nothing (set_modes c.args.given.now.rules.now) (rules_of c.args.given.now.rules.now) c.args.given.now.pairs.now js (candidates_of c.args.given.now) c.args.store.now c.trace.new.store c.cut.new.self c.args.goal c.mark-mark.result c.requires.store c.mark-mark.ensures c.in-Failed.notes c.in_ok-traced.ensures.0
+    (rw c.in-Failed.is at (c.in_ok-traced.ensures.2 js a)) c.cut.ensures

@@ -1,11 +1,12 @@
 use Rattle.std.proofs.Common.{◌≡◌, ◌+◌, ◌-◌, ◌<◌, length, arith, subst}
-use Rattle.std.specs.Prelude.{Ok}
+use Rattle.std.specs.Prelude.{Ok, Some, None}
 use Rattle.sx_arena.specs.Views.{rules_of, set_modes}
 use Rattle.sx_arena.proofs.Growing.{extends-length}
 use Rattle.sx_arena.proofs.Parted.{pairs_more_terms}
 use Rattle.sx_derive.specs.Resumable.{IsReached}
 use Rattle.sx_derive.specs.Tasks.{events_left}
 use Rattle.sx_derive.specs.declared.tasks.Ending.TheVariants.{Spent}
+use Rattle.sx_derive.proofs.Turned.{turned_on}
 use Rattle.sx_derive.proofs.Resuming.{Reaching, reaching_first, last_less, facts_then, reaching_settled, reaching_end, reaching_spent, rest_fits, task_fits, reaching_failed, reaching_more, reaching_ends}
 use Rattle.sx_derive.proofs.reach.reach.Goals as goal
 use Rattle.sx_derive.proofs.reach.reach.Goals.{After-settle, In-Some, Else-left-eq0}
@@ -54,13 +55,6 @@ turn-requires-clause-task g c =
     let l = there g (goal.at.turn-requires-clause-task g c).In-Some in
     task_fits (set_modes c.args.given.now.rules.now) (rules_of c.args.given.now.rules.now) c.args.given.now.pairs.now c.args.given.now.facts.now c.args.store.now c.args.budget c.args.tasks.now.items c.args.steps.now c.loop-budget.store (c.args.budget - c.settle.new.left) c.settle.new.steps c.settle.new.tasks.items w c.pop.new.self.items c.in-Some.task e l
 
-pub turn-requires-clause-tasks : goal.turn-requires-clause-tasks
-turn-requires-clause-tasks g c =
-    let w = settled g (goal.at.turn-requires-clause-tasks g c).After-settle in
-    let e = c.in-Some.ensures.items in
-    let l = there g (goal.at.turn-requires-clause-tasks g c).In-Some in
-    rest_fits (set_modes c.args.given.now.rules.now) (rules_of c.args.given.now.rules.now) c.args.given.now.pairs.now c.args.given.now.facts.now c.args.store.now c.args.budget c.args.tasks.now.items c.args.steps.now c.loop-budget.store (c.args.budget - c.settle.new.left) c.settle.new.steps c.settle.new.tasks.items w c.pop.new.self.items c.in-Some.task e l
-
 pub returns-in-Err : goal.returns-in-Err
 returns-in-Err g c = λ js a.
     let w = settled g (goal.at.returns-in-Err g c).After-settle in
@@ -74,7 +68,9 @@ loop-budget-preserved g c =
     let w = settled g (goal.at.loop-budget-preserved g c).After-settle in
     let e = c.in-Some.ensures.items in
     let l = there g (goal.at.loop-budget-preserved g c).In-Some in
-    let x = reaching_more (set_modes c.args.given.now.rules.now) (rules_of c.args.given.now.rules.now) c.args.given.now.pairs.now c.args.given.now.facts.now c.args.store.now c.args.budget c.args.tasks.now.items c.args.steps.now c.loop-budget.store (c.args.budget - c.settle.new.left) c.settle.new.steps c.settle.new.tasks.items w c.pop.new.self.items c.in-Some.task e l (open_yet g (goal.at.loop-budget-preserved g c).Else-left-eq0) c.tick.new.self c.tick.ensures c.turn.new.store c.turn.new.tasks.items b.0 b.1 (λ js a. rw c.in-Ok-None.field-0-is at (c.in-Ok-None.ensures js a)) in
+    let f = (rest_fits (set_modes c.args.given.now.rules.now) (rules_of c.args.given.now.rules.now) c.args.given.now.pairs.now c.args.given.now.facts.now c.args.store.now c.args.budget c.args.tasks.now.items c.args.steps.now c.loop-budget.store (c.args.budget - c.settle.new.left) c.settle.new.steps c.settle.new.tasks.items w c.pop.new.self.items c.in-Some.task e l) in
+    let q = rw c.in-Ok-None.field-0-is at c.in-Ok-None.ensures in
+    let x = reaching_more (set_modes c.args.given.now.rules.now) (rules_of c.args.given.now.rules.now) c.args.given.now.pairs.now c.args.given.now.facts.now c.args.store.now c.args.budget c.args.tasks.now.items c.args.steps.now c.loop-budget.store (c.args.budget - c.settle.new.left) c.settle.new.steps c.settle.new.tasks.items w c.pop.new.self.items c.in-Some.task e l (open_yet g (goal.at.loop-budget-preserved g c).Else-left-eq0) c.tick.new.self c.tick.ensures c.turn.new.store c.turn.new.tasks.items b.0 b.1 (λ js a. turned_on (set_modes c.args.given.now.rules.now) (rules_of c.args.given.now.rules.now) c.args.given.now.pairs.now js None (length c.args.given.now.facts.now + length (rules_of c.args.given.now.rules.now)) c.loop-budget.store c.turn.new.store c.in-Some.task c.pop.new.self.items q.0 c.turn.new.tasks.items None q.1 (q.2 js a c.pop.new.self.items f)) in
     let i = c.loop-budget.invariant.less in
     let y = c.settle.ensures.less in
     let v = c.if-left-eq0.false in
@@ -89,7 +85,9 @@ returns-in-Ok-Some g c = λ js a.
     let w = settled g (goal.at.returns-in-Ok-Some g c).After-settle in
     let e = c.in-Some.ensures.items in
     let l = there g (goal.at.returns-in-Ok-Some g c).In-Some in
-    let x = reaching_ends (set_modes c.args.given.now.rules.now) (rules_of c.args.given.now.rules.now) c.args.given.now.pairs.now c.args.given.now.facts.now c.args.store.now c.args.budget c.args.tasks.now.items c.args.steps.now c.loop-budget.store (c.args.budget - c.settle.new.left) c.settle.new.steps c.settle.new.tasks.items w c.pop.new.self.items c.in-Some.task e l (open_yet g (goal.at.returns-in-Ok-Some g c).Else-left-eq0) c.tick.new.self c.tick.ensures c.turn.new.store c.turn.new.tasks.items c.in-Ok-Some.ending (λ ks d. rw c.in-Ok-Some.field-0-is at (c.in-Ok-Some.ensures ks d)) js a in
+    let f = (rest_fits (set_modes c.args.given.now.rules.now) (rules_of c.args.given.now.rules.now) c.args.given.now.pairs.now c.args.given.now.facts.now c.args.store.now c.args.budget c.args.tasks.now.items c.args.steps.now c.loop-budget.store (c.args.budget - c.settle.new.left) c.settle.new.steps c.settle.new.tasks.items w c.pop.new.self.items c.in-Some.task e l) in
+    let q = rw c.in-Ok-Some.field-0-is at c.in-Ok-Some.ensures in
+    let x = reaching_ends (set_modes c.args.given.now.rules.now) (rules_of c.args.given.now.rules.now) c.args.given.now.pairs.now c.args.given.now.facts.now c.args.store.now c.args.budget c.args.tasks.now.items c.args.steps.now c.loop-budget.store (c.args.budget - c.settle.new.left) c.settle.new.steps c.settle.new.tasks.items w c.pop.new.self.items c.in-Some.task e l (open_yet g (goal.at.returns-in-Ok-Some g c).Else-left-eq0) c.tick.new.self c.tick.ensures c.turn.new.store c.turn.new.tasks.items c.in-Ok-Some.ending (λ ks d. turned_on (set_modes c.args.given.now.rules.now) (rules_of c.args.given.now.rules.now) c.args.given.now.pairs.now ks None (length c.args.given.now.facts.now + length (rules_of c.args.given.now.rules.now)) c.loop-budget.store c.turn.new.store c.in-Some.task c.pop.new.self.items q.0 c.turn.new.tasks.items (Some c.in-Ok-Some.ending) q.1 (q.2 ks d c.pop.new.self.items f)) js a in
     let i = c.loop-budget.invariant.less in
     let y = c.settle.ensures.less in
     let v = c.if-left-eq0.false in

@@ -1,4 +1,4 @@
-use Rattle.std.proofs.Common.{subst}
+use Rattle.std.proofs.Common.{arith, subst}
 use Rattle.sx_arena.specs.Views.{rules_of, set_modes}
 use Rattle.sx_arena.proofs.Patterns.{ok_weaker}
 use Rattle.sx_derive.specs.Ways.{subject_modes}
@@ -15,6 +15,13 @@ pub loop-left-init : goal.loop-left-init
 loop-left-init c =
     let q = c.requires.quiet in
     (q.0, sinking_first (set_modes c.args.given.now.rules.now) (subject_modes c.args.given.now.rules.now) (rules_of c.args.given.now.rules.now) q.0 c.args.bounds.budget c.args.bounds.levels c.args.store.now c.args.given.now.facts.now c.args.given.now.pairs.now c.args.first c.requires.store c.requires.terms q.1 q.2 c.new-notes.result.items c.new-notes.ensures.items)
+
+pub descend-requires-clause-levels : goal.descend-requires-clause-levels
+descend-requires-clause-levels c =
+    let l = c.loop-left.invariant.1.few in
+    let m = c.requires.levels in
+    let p = c.loop-left-test.true in
+    omega arith
 
 pub descend-requires-clause-quiet : goal.descend-requires-clause-quiet
 descend-requires-clause-quiet c =

@@ -1,6 +1,6 @@
-use Rattle.std.proofs.Common.{◌+◌, ◌∷◌, [], ◌++◌, List, length, Some, None, refl, sym, ap, ◌∙◌, subst}
+use Rattle.std.proofs.Common.{◌+◌, ◌∷◌, [], ◌++◌, List, length, None, refl, sym, ap, ◌∙◌, subst}
+use Rattle.std.proofs.lemmas.List.{append_assoc}
 use Rattle.sx_derive.specs.declared.tasks.Task.{Task}
-use Rattle.sx_derive.specs.declared.tasks.Ending.TheVariants.{Found, Passed, DepthSpent}
 use Rattle.std.proofs.Common.{map}
 use Rattle.sx_arena.specs.Arena.{tree_at, AreBelow}
 use Rattle.sx_derive.specs.Search.{are_wanted}
@@ -16,75 +16,94 @@ abbrev after : Task → Task
 after t = record { next = t.next + 1; form = t.form; terms = t.terms; levels = t.levels; frames = t.frames; mark = t.mark }
 
 pub returns-in-Nothing : goal.returns-in-Nothing
-returns-in-Nothing c = λ js a.
-    let m = set_modes c.args.given.now.rules.now in
-    let rs = rules_of c.args.given.now.rules.now in
-    let n = length c.args.given.now.facts.now + length rs in
-    let s = c.args.store.now in
-    let w = c.try_task.new.store in
-    let t = c.args.task in
-    let x = c.in_ok-step.ensures js a in
-    subst (λ (ts : List Task). IsTaskTurn m rs c.args.given.now.pairs.now js c.args.wanted.now n s w t c.args.tasks.now.items ts None) (sym c.in_ok-push.ensures.items)
-    (turn_nothing m rs c.args.given.now.pairs.now js c.args.wanted.now n s w t (after t) c.args.tasks.now.items c.in_ok-step.step c.requires.store c.requires.pairs c.requires.wanted c.requires.task c.requires.tasks c.requires.next x refl refl refl refl refl refl c.in-Nothing.is)
+returns-in-Nothing c = (
+  after c.args.task ∷ [],
+  c.in_ok-push.ensures.items,
+  λ js a before f.
+      let m = set_modes c.args.given.now.rules.now in
+      let rs = rules_of c.args.given.now.rules.now in
+      let n = length c.args.given.now.facts.now + length rs in
+      let s = c.args.store.now in
+      let w = c.try_task.new.store in
+      let t = c.args.task in
+      let x = c.in_ok-step.ensures js a in
+      (turn_nothing m rs c.args.given.now.pairs.now js c.args.wanted.now n s w t (after t) before c.in_ok-step.step c.requires.store c.requires.pairs c.requires.wanted c.requires.task f c.requires.next x refl refl refl refl refl refl c.in-Nothing.is),
+)
 
 pub returns-in-Passed : goal.returns-in-Passed
-returns-in-Passed c = λ js a.
-    let m = set_modes c.args.given.now.rules.now in
-    let rs = rules_of c.args.given.now.rules.now in
-    let n = length c.args.given.now.facts.now + length rs in
-    let s = c.args.store.now in
-    let w = c.try_task.new.store in
-    let t = c.args.task in
-    let x = c.in_ok-step.ensures js a in
-    subst (λ (ts : List Task). IsTaskTurn m rs c.args.given.now.pairs.now js c.args.wanted.now n s w t c.args.tasks.now.items ts (Some (Passed c.in-Passed.limit))) (sym c.in_ok-push.ensures.items)
-    (turn_passed m rs c.args.given.now.pairs.now js c.args.wanted.now n s w t (after t) c.args.tasks.now.items c.in_ok-step.step c.requires.store c.requires.pairs c.requires.wanted c.requires.task c.requires.tasks c.requires.next x refl refl refl refl refl refl c.in-Passed.limit c.in-Passed.is)
+returns-in-Passed c = (
+  after c.args.task ∷ [],
+  c.in_ok-push.ensures.items,
+  λ js a before f.
+      let m = set_modes c.args.given.now.rules.now in
+      let rs = rules_of c.args.given.now.rules.now in
+      let n = length c.args.given.now.facts.now + length rs in
+      let s = c.args.store.now in
+      let w = c.try_task.new.store in
+      let t = c.args.task in
+      let x = c.in_ok-step.ensures js a in
+      (turn_passed m rs c.args.given.now.pairs.now js c.args.wanted.now n s w t (after t) before c.in_ok-step.step c.requires.store c.requires.pairs c.requires.wanted c.requires.task f c.requires.next x refl refl refl refl refl refl c.in-Passed.limit c.in-Passed.is),
+)
 
 pub returns-in-DepthSpent : goal.returns-in-DepthSpent
-returns-in-DepthSpent c = λ js a.
-    let m = set_modes c.args.given.now.rules.now in
-    let rs = rules_of c.args.given.now.rules.now in
-    let n = length c.args.given.now.facts.now + length rs in
-    let s = c.args.store.now in
-    let w = c.try_task.new.store in
-    let t = c.args.task in
-    let x = c.in_ok-step.ensures js a in
-    subst (λ (ts : List Task). IsTaskTurn m rs c.args.given.now.pairs.now js c.args.wanted.now n s w t c.args.tasks.now.items ts (Some DepthSpent)) (sym c.in_ok-push.ensures.items)
-    (turn_spent m rs c.args.given.now.pairs.now js c.args.wanted.now n s w t (after t) c.args.tasks.now.items c.in_ok-step.step c.requires.store c.requires.pairs c.requires.wanted c.requires.task c.requires.tasks c.requires.next x refl refl refl refl refl refl c.in-DepthSpent.is)
+returns-in-DepthSpent c = (
+  after c.args.task ∷ [],
+  c.in_ok-push.ensures.items,
+  λ js a before f.
+      let m = set_modes c.args.given.now.rules.now in
+      let rs = rules_of c.args.given.now.rules.now in
+      let n = length c.args.given.now.facts.now + length rs in
+      let s = c.args.store.now in
+      let w = c.try_task.new.store in
+      let t = c.args.task in
+      let x = c.in_ok-step.ensures js a in
+      (turn_spent m rs c.args.given.now.pairs.now js c.args.wanted.now n s w t (after t) before c.in_ok-step.step c.requires.store c.requires.pairs c.requires.wanted c.requires.task f c.requires.next x refl refl refl refl refl refl c.in-DepthSpent.is),
+)
 
 pub returns-in_ok-push-in-Goes : goal.returns-in_ok-push-in-Goes
-returns-in_ok-push-in-Goes c = λ js a.
-    let m = set_modes c.args.given.now.rules.now in
-    let rs = rules_of c.args.given.now.rules.now in
-    let n = length c.args.given.now.facts.now + length rs in
-    let s = c.args.store.now in
-    let w = c.try_task.new.store in
-    let t = c.args.task in
-    let x = c.in_ok-step.ensures js a in
-    let more = c.new_task.result in
-    subst (λ (ts : List Task). IsTaskTurn m rs c.args.given.now.pairs.now js c.args.wanted.now n s w t c.args.tasks.now.items ts None) (sym (c.in_ok-push-in-Goes.ensures.items ∙ ap (λ (ts : List Task). ts ++ more ∷ []) c.in_ok-push.ensures.items))
-    (turn_goes m rs c.args.given.now.pairs.now js c.args.wanted.now n s w t (after t) c.args.tasks.now.items c.in_ok-step.step c.requires.store c.requires.pairs c.requires.wanted c.requires.task c.requires.tasks c.requires.next x refl refl refl refl refl refl c.in-Goes.form c.in-Goes.terms c.in-Goes.levels c.in-Goes.frames c.mark-mark.result more c.mark-mark.ensures c.in-Goes.is c.new_task.ensures)
+returns-in_ok-push-in-Goes c = (
+  after c.args.task ∷ c.new_task.result ∷ [],
+  c.in_ok-push-in-Goes.ensures.items ∙ ap (λ (ts : List Task). ts ++ c.new_task.result ∷ []) c.in_ok-push.ensures.items ∙ append_assoc c.args.tasks.now.items (after c.args.task ∷ []) (c.new_task.result ∷ []),
+  λ js a before f.
+      let m = set_modes c.args.given.now.rules.now in
+      let rs = rules_of c.args.given.now.rules.now in
+      let n = length c.args.given.now.facts.now + length rs in
+      let s = c.args.store.now in
+      let w = c.try_task.new.store in
+      let t = c.args.task in
+      let x = c.in_ok-step.ensures js a in
+      let more = c.new_task.result in
+      subst (λ (ts : List Task). IsTaskTurn m rs c.args.given.now.pairs.now js c.args.wanted.now n s w t before ts None) (append_assoc before (after t ∷ []) (more ∷ []))
+      (turn_goes m rs c.args.given.now.pairs.now js c.args.wanted.now n s w t (after t) before c.in_ok-step.step c.requires.store c.requires.pairs c.requires.wanted c.requires.task f c.requires.next x refl refl refl refl refl refl c.in-Goes.form c.in-Goes.terms c.in-Goes.levels c.in-Goes.frames c.mark-mark.result more c.mark-mark.ensures c.in-Goes.is c.new_task.ensures),
+)
 
 pub returns-then-is_wanted : goal.returns-then-is_wanted
-returns-then-is_wanted c = λ js a.
-    let m = set_modes c.args.given.now.rules.now in
-    let rs = rules_of c.args.given.now.rules.now in
-    let n = length c.args.given.now.facts.now + length rs in
-    let s = c.args.store.now in
-    let w = c.try_task.new.store in
-    let t = c.args.task in
-    let x = c.in_ok-step.ensures js a in
-    subst (λ (ts : List Task). IsTaskTurn m rs c.args.given.now.pairs.now js c.args.wanted.now n s w t c.args.tasks.now.items ts (Some (Found c.in-Done.head c.in-Done.outputs))) (sym c.in_ok-push.ensures.items)
-    (turn_found m rs c.args.given.now.pairs.now js c.args.wanted.now n s w t (after t) c.args.tasks.now.items c.in_ok-step.step c.requires.store c.requires.pairs c.requires.wanted c.requires.task c.requires.tasks c.requires.next x refl refl refl refl refl refl c.in-Done.head c.in-Done.outputs c.in-Done.is (ap (λ os. are_wanted (wanted_in s c.args.wanted.now) (map (tree_at (store_trees w)) os)) (sym c.deref.ensures.value) ∙ tested_true m rs s w c.args.wanted.now c.deref.result.now c.is_wanted.result x.grows c.requires.wanted c.is_wanted.ensures c.if-is_wanted.true))
+returns-then-is_wanted c = (
+  after c.args.task ∷ [],
+  c.in_ok-push.ensures.items,
+  λ js a before f.
+      let m = set_modes c.args.given.now.rules.now in
+      let rs = rules_of c.args.given.now.rules.now in
+      let n = length c.args.given.now.facts.now + length rs in
+      let s = c.args.store.now in
+      let w = c.try_task.new.store in
+      let t = c.args.task in
+      let x = c.in_ok-step.ensures js a in
+      (turn_found m rs c.args.given.now.pairs.now js c.args.wanted.now n s w t (after t) before c.in_ok-step.step c.requires.store c.requires.pairs c.requires.wanted c.requires.task f c.requires.next x refl refl refl refl refl refl c.in-Done.head c.in-Done.outputs c.in-Done.is (ap (λ os. are_wanted (wanted_in s c.args.wanted.now) (map (tree_at (store_trees w)) os)) (sym c.deref.ensures.value) ∙ tested_true m rs s w c.args.wanted.now c.deref.result.now c.is_wanted.result x.grows c.requires.wanted c.is_wanted.ensures c.if-is_wanted.true)),
+)
 
 pub returns-else-is_wanted : goal.returns-else-is_wanted
-returns-else-is_wanted c = λ js a.
-    let m = set_modes c.args.given.now.rules.now in
-    let rs = rules_of c.args.given.now.rules.now in
-    let n = length c.args.given.now.facts.now + length rs in
-    let s = c.args.store.now in
-    let w = c.try_task.new.store in
-    let t = c.args.task in
-    let x = c.in_ok-step.ensures js a in
-    subst (λ (ts : List Task). IsTaskTurn m rs c.args.given.now.pairs.now js c.args.wanted.now n s w t c.args.tasks.now.items ts None) (sym c.in_ok-push.ensures.items)
-    (turn_other m rs c.args.given.now.pairs.now js c.args.wanted.now n s w t (after t) c.args.tasks.now.items c.in_ok-step.step c.requires.store c.requires.pairs c.requires.wanted c.requires.task c.requires.tasks c.requires.next x refl refl refl refl refl refl c.in-Done.head c.in-Done.outputs c.in-Done.is (ap (λ os. are_wanted (wanted_in s c.args.wanted.now) (map (tree_at (store_trees w)) os)) (sym c.deref.ensures.value) ∙ tested_false m rs s w c.args.wanted.now c.deref.result.now c.is_wanted.result x.grows c.requires.wanted
-    (subst (λ os. AreBelow (length (store_trees w)) os) (sym c.deref.ensures.value) (done_below m rs c.args.given.now.pairs.now js c.args.wanted.now n s w t (after t) c.args.tasks.now.items c.in_ok-step.step c.requires.store c.requires.pairs c.requires.wanted c.requires.task c.requires.tasks c.requires.next x refl refl refl refl refl refl c.in-Done.head c.in-Done.outputs c.in-Done.is)) c.is_wanted.ensures c.if-is_wanted.false))
+returns-else-is_wanted c = (
+  after c.args.task ∷ [],
+  c.in_ok-push.ensures.items,
+  λ js a before f.
+      let m = set_modes c.args.given.now.rules.now in
+      let rs = rules_of c.args.given.now.rules.now in
+      let n = length c.args.given.now.facts.now + length rs in
+      let s = c.args.store.now in
+      let w = c.try_task.new.store in
+      let t = c.args.task in
+      let x = c.in_ok-step.ensures js a in
+      (turn_other m rs c.args.given.now.pairs.now js c.args.wanted.now n s w t (after t) before c.in_ok-step.step c.requires.store c.requires.pairs c.requires.wanted c.requires.task f c.requires.next x refl refl refl refl refl refl c.in-Done.head c.in-Done.outputs c.in-Done.is (ap (λ os. are_wanted (wanted_in s c.args.wanted.now) (map (tree_at (store_trees w)) os)) (sym c.deref.ensures.value) ∙ tested_false m rs s w c.args.wanted.now c.deref.result.now c.is_wanted.result x.grows c.requires.wanted
+      (subst (λ os. AreBelow (length (store_trees w)) os) (sym c.deref.ensures.value) (done_below m rs c.args.given.now.pairs.now js c.args.wanted.now n s w t (after t) before c.in_ok-step.step c.requires.store c.requires.pairs c.requires.wanted c.requires.task f c.requires.next x refl refl refl refl refl refl c.in-Done.head c.in-Done.outputs c.in-Done.is)) c.is_wanted.ensures c.if-is_wanted.false)),
+)

@@ -1,8 +1,8 @@
-use Rattle.std.proofs.Common.{ℕ, ◌≡◌, ◌+◌, ◌-◌, ◌<◌, ◌++◌, ◌∷◌, [], length, arith}
+use Rattle.std.proofs.Common.{ℕ, ◌≡◌, ◌+◌, ◌-◌, ◌<◌, ◌++◌, ◌∷◌, [], length, Some, None, arith}
 use Rattle.sx_arena.specs.Views.{rules_of, set_modes}
 use Rattle.sx_arena.proofs.Growing.{extends-length}
 use Rattle.sx_arena.proofs.Parted.{pairs_more_terms}
-use Rattle.sx_derive.proofs.Turned.{fits_pop}
+use Rattle.sx_derive.proofs.Turned.{fits_pop, turned_on}
 use Rattle.sx_derive.proofs.Walking.{Walking, walking_first, facts_now, wanted_below, walking_popped, walking_end, walking_spent, walking_failed, walking_more, walking_ends, walking_cut}
 use Rattle.sx_derive.proofs.walk.walk_tasks.Goals as goal
 use Rattle.sx_derive.proofs.walk.walk_tasks.Goals.{In-Some, After-cut}
@@ -65,11 +65,6 @@ turn-requires-clause-task g c =
 pub turn-requires-clause-next : goal.turn-requires-clause-next
 turn-requires-clause-next g c = there g (goal.at.turn-requires-clause-next g c).In-Some
 
-pub turn-requires-clause-tasks : goal.turn-requires-clause-tasks
-turn-requires-clause-tasks g c =
-    let w = cut_walk g (goal.at.turn-requires-clause-tasks g c).After-cut (popped g (goal.at.turn-requires-clause-tasks g c).In-Some) in
-    (fits_pop _ _ _ c.cut.new.self c.next_counted.new.tasks.items c.in-Some.task w.fits).0
-
 pub returns-in-Err : goal.returns-in-Err
 returns-in-Err g c = λ js a.
     let p = (goal.at.returns-in-Err g c).In-Some in
@@ -81,13 +76,15 @@ loop-task-preserved g c =
     let b = c.requires.facts in
     let w = cut_walk g (goal.at.loop-task-preserved g c).After-cut (popped g (goal.at.loop-task-preserved g c).In-Some) in
     let l = some_left _ c.if-left-eq0.false in
-    walking_more (set_modes c.args.given.now.rules.now) (rules_of c.args.given.now.rules.now) c.args.given.now.pairs.now c.args.given.now.facts.now c.args.wanted.now c.args.store.now c.args.budget c.args.tasks.items c.args.steps.now c.cut.new.self c.next_counted.new.left c.next_counted.new.steps c.in-Some.task c.next_counted.new.tasks.items w l c.requires.wanted c.turn.new.store c.turn.new.tasks.items (λ js a. rw c.in-Ok-None.field-0-is at (c.in-Ok-None.ensures js a)) b.0 b.1 c.tick.new.self c.tick.ensures
+    let q = rw c.in-Ok-None.field-0-is at c.in-Ok-None.ensures in
+    walking_more (set_modes c.args.given.now.rules.now) (rules_of c.args.given.now.rules.now) c.args.given.now.pairs.now c.args.given.now.facts.now c.args.wanted.now c.args.store.now c.args.budget c.args.tasks.items c.args.steps.now c.cut.new.self c.next_counted.new.left c.next_counted.new.steps c.in-Some.task c.next_counted.new.tasks.items w l c.requires.wanted c.turn.new.store c.turn.new.tasks.items (λ js a. turned_on (set_modes c.args.given.now.rules.now) (rules_of c.args.given.now.rules.now) c.args.given.now.pairs.now js c.args.wanted.now (length c.args.given.now.facts.now + length (rules_of c.args.given.now.rules.now)) c.cut.new.self c.turn.new.store c.in-Some.task c.next_counted.new.tasks.items q.0 c.turn.new.tasks.items None q.1 (q.2 js a c.next_counted.new.tasks.items (fits_pop _ _ _ c.cut.new.self c.next_counted.new.tasks.items c.in-Some.task w.fits).0)) b.0 b.1 c.tick.new.self c.tick.ensures
 
 pub returns-in-Ok-Some : goal.returns-in-Ok-Some
 returns-in-Ok-Some g c = λ js a.
     let w = cut_walk g (goal.at.returns-in-Ok-Some g c).After-cut (popped g (goal.at.returns-in-Ok-Some g c).In-Some) in
     let l = some_left _ c.if-left-eq0.false in
-    walking_ends (set_modes c.args.given.now.rules.now) (rules_of c.args.given.now.rules.now) c.args.given.now.pairs.now c.args.given.now.facts.now c.args.wanted.now c.args.store.now c.args.budget c.args.tasks.items c.args.steps.now c.cut.new.self c.next_counted.new.left c.next_counted.new.steps c.in-Some.task c.next_counted.new.tasks.items w l c.requires.wanted c.turn.new.store c.turn.new.tasks.items c.in-Ok-Some.ending (λ ks b. rw c.in-Ok-Some.field-0-is at (c.in-Ok-Some.ensures ks b)) c.tick.new.self c.tick.ensures js a
+    let q = rw c.in-Ok-Some.field-0-is at c.in-Ok-Some.ensures in
+    walking_ends (set_modes c.args.given.now.rules.now) (rules_of c.args.given.now.rules.now) c.args.given.now.pairs.now c.args.given.now.facts.now c.args.wanted.now c.args.store.now c.args.budget c.args.tasks.items c.args.steps.now c.cut.new.self c.next_counted.new.left c.next_counted.new.steps c.in-Some.task c.next_counted.new.tasks.items w l c.requires.wanted c.turn.new.store c.turn.new.tasks.items c.in-Ok-Some.ending (λ ks b. turned_on (set_modes c.args.given.now.rules.now) (rules_of c.args.given.now.rules.now) c.args.given.now.pairs.now ks c.args.wanted.now (length c.args.given.now.facts.now + length (rules_of c.args.given.now.rules.now)) c.cut.new.self c.turn.new.store c.in-Some.task c.next_counted.new.tasks.items q.0 c.turn.new.tasks.items (Some c.in-Ok-Some.ending) q.1 (q.2 ks b c.next_counted.new.tasks.items (fits_pop _ _ _ c.cut.new.self c.next_counted.new.tasks.items c.in-Some.task w.fits).0)) c.tick.new.self c.tick.ensures js a
 
 pub returns : goal.returns
 returns g c = λ js a.
