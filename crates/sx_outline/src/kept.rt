@@ -26,8 +26,8 @@ fn is_dropped(text: &[u8]) -> bool
 
 /// The first line that a language file or an extension file keeps, and what is left after it. It
 /// goes by the line's parts, so blanks may stand before the `//` of a comment, where
-/// `Rest::next_kept` asks for it at the line's first byte. `NoLine` comes exactly where no such line
-/// is left.
+/// `Rest::next_kept` asks for it at the line's first byte. `NoLine` comes exactly where no such
+/// line is left.
 pub(crate) fn next_line_of_parts<'a>(rest: Rest<'a>) -> Result<(Line<'a>, Rest<'a>), NoLine>
     ensures first { MatchResult result
         (λ x. kept_lines (left rest.entry) ≡ line x.0.number x.0.text.now x.1.bytes.now

@@ -177,8 +177,8 @@ impl Slots {
     }
 
     /// One more number, the last, which has this hash. Where memory is lacking, or the numbers
-    /// would not fit into 32 bits, they are as before. The error is that of `std`, as this crate uses
-    /// no other.
+    /// would not fit into 32 bits, they are as before. The error is that of `std`, as this crate
+    /// uses no other.
     #[inline(always)]
     pub fn push(&mut self, hash: u32) -> Result<(), AllocError>
         ensures ok { OnOk result (self.new ≡ self.old ++ hash ∷ []) }
