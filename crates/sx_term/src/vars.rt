@@ -39,8 +39,8 @@ impl Vars {
         }
     }
 
-    /// The number of the name, which is added last where it is not there. Where memory is lacking,
-    /// the names are as before.
+    /// The number of the name, which is added last where it is not there. There are fewer than
+    /// 2^32 - 1 names. The one refusal is out of memory, after which the names are as before.
     pub fn add(&mut self, name: Text) -> Result<u32, NoMemory>
         requires { length self.old < 2 ^ 32 - 1 }
         ensures ok { IfOk result (λ number. IsAdded self.old self.new name number) }
@@ -52,19 +52,20 @@ impl Vars {
         Ok(number as u32)
     }
 
-    /// The number of a copy of the name, which is added last where it is not there. Where memory is
-    /// lacking, the names are as before.
+    /// The number of a copy of the name, which is added last where it is not there. There are fewer
+    /// than 2^32 - 1 names. The one refusal is out of memory, after which the names are as before.
     pub fn add_copy(&mut self, alloc: Global, name: &Text) -> Result<u32, NoMemory>
         requires { length self.old < 2 ^ 32 - 1 }
         ensures ok { IfOk result (λ number. IsAdded self.old self.new name.now number) }
         ensures err { OnErr result (self.new ≡ self.old) }
         ensures grows { length self.new ≤ length self.old + 1 }
-        ensures distinct { IfOk result (λ _. AreDistinct self.new) }
+        ensures distinct { AreDistinct self.new }
     {
+        self.facts();
         self.add(name.copy(alloc)?)
     }
 
-    /// The same names.
+    /// The same names, fewer than 2^32. The one refusal is out of memory.
     pub fn copy(&self, alloc: Global) -> Result<Vars, NoMemory>
         requires { length self.now < 2 ^ 32 }
         ensures { IfOk result (λ names. names ≡ self.now) }
@@ -103,5 +104,12 @@ impl Vars {
         ensures { self.new ≡ take count self.old }
     {
         self.names.truncate(count);
+    }
+
+    /// What holds of every list of names: no name stands twice.
+    fn facts(&self)
+        ensures { AreDistinct self.now }
+    {
+        let _ = &self.names;
     }
 }
