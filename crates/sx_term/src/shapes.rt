@@ -28,7 +28,7 @@ fn same_sort(left: Sort, right: Sort) -> bool
 }
 
 /// The sort of the variable with this number, or None where there is no such number.
-fn sort_at(vars: &[Sort], variable: u32) -> Option<Sort>
+pub fn sort_at(vars: &[Sort], variable: u32) -> Option<Sort>
     ensures { result ≡ slice_get vars.now variable }
 {
     let i = variable as usize;

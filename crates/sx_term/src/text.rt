@@ -123,3 +123,14 @@ impl Text {
         self.bytes() == other.bytes()
     }
 }
+
+/// Equal texts. The one refusal is out of memory.
+pub fn copy_texts(alloc: Global, texts: &[Text]) -> Result<Vec<Text>, NoMemory>
+    ensures { IfOk result (λ copies. copies.items ≡ texts.now) }
+{
+    let mut copies = Vec::with_capacity(alloc, texts.len())?;
+    for text in texts {
+        copies.push(text.copy(alloc)?)?;
+    }
+    Ok(copies)
+}
