@@ -1,6 +1,6 @@
 //! What a rule set has.
 
-ghost use Rattle.std.specs.Prelude.{◌≡◌, ◌<◌, map, IfOk, MatchOption, slice_get};
+ghost use Rattle.std.specs.Prelude.{◌≡◌, ◌<◌, map, IfOk, MatchOption, length, slice_get};
 ghost use Rattle.std.specs.Prelude.{Some, None};
 ghost use Rattle.sx_term.specs.Shapes.{shapes};
 ghost use Rattle.sx_rules.specs.Views.{forms, named, rule_name, modes_of, sorts_of};
@@ -41,6 +41,14 @@ impl RuleSet {
             return Some(&self.rules[i]);
         }
         None
+    }
+
+    /// How many rules there are, at most 4,096.
+    pub fn rule_count(&self) -> u32
+        ensures { result ≡ length (bare_rules_in self.now) }
+    {
+        self.facts();
+        self.rules.len() as u32
     }
 
     /// An equal name to that of the rule with this number; empty where there is no such rule.
