@@ -10,12 +10,11 @@ ghost use Rattle.sx_rules.specs.Chosen.{chosen};
 ghost use Rattle.sx_rules.specs.Subjects as spec;
 
 use crate::chosen::{Part, is_part, place_at, places_of};
-use crate::fitting::sort_at;
 use crate::modes::part_variables;
 use crate::rule::{Form, Place, Premise, Rule};
 use crate::subject::Subject;
 use std::alloc::Global;
-use sx_term::{NoMemory, Sort, Term};
+use sx_term::{NoMemory, Sort, Term, sort_at};
 
 fn bare_or_other(term: &Term) -> Subject
     ensures { result ≡ spec.bare_or_other (tree term.now) }

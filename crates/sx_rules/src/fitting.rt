@@ -16,17 +16,6 @@ ghost use Rattle.sx_term.specs.Limits.{most_depth};
 use crate::rule::{Form, Judgement, Place, Premise, Rule};
 use sx_term::{LexKind, Shapes, Sort, Term};
 
-/// The sort of a variable.
-pub fn sort_at(vars: &[Sort], variable: u32) -> Option<Sort>
-    ensures { result ≡ slice_get vars.now variable }
-{
-    let i = variable as usize;
-    if i < vars.len() {
-        return Some(vars[i]);
-    }
-    None
-}
-
 /// Whether the terms have the sorts of the places, each its own.
 fn row_fits(all: &Shapes, terms: &[Term], vars: &[Sort], places: &[Place]) -> bool
     requires { AreShallow (map tree terms.now) }
