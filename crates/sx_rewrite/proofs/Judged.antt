@@ -47,10 +47,6 @@ module _ (f : Tree → Tree) (ts : List Term) where
   pub all-made : (i : ℕ) (made : List Term) → MadeSoFar f ts i made → length ts ≤ i → map tree made ≡ map f (map tree ts)
   all-made i made so l = so.made_are ∙ made-end ts i l
 
-pub map-own : (ts : List Tree) → map (λ t. t) ts ≡ ts
-map-own [] = refl
-map-own (t ∷ ts) = ap (λ (xs : List Tree). t ∷ xs) (map-own ts)
-
 -- the judgement that a derivation derives
 module _ (rs : List RuleOf) (hyps : Hypotheses) (p : ProofOf) (k : Judgement) (d : Derives (map rule rs) hyps k (proof p)) where
   module _ (r : ℕ) (binds : Vec Term Global) (kids : Vec (Box ProofOf Global) Global) (is : p ≡ By r binds kids) where

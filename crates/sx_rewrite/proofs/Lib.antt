@@ -20,7 +20,6 @@ pub mod RuleSets
 pub mod SameRules
 pub mod KeptAccepted
 pub mod StoredAt
-pub mod RuleCounts
 pub mod KindLaws
 pub mod Begun
 pub mod Added

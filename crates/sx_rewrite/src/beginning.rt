@@ -10,7 +10,7 @@ ghost use Rattle.sx_rewrite.specs.AcceptedView.{accepted};
 
 use crate::accepted::Accepted;
 use crate::grown::Grown;
-use crate::rule_sets::{copied, count};
+use crate::rule_sets::copied;
 use std::alloc::Global;
 use sx_plain::PlainTable;
 use sx_rules::RuleSet;
@@ -32,7 +32,7 @@ impl Accepted {
         ensures forms { IfOk result (λ a. forms_in a.base ≡ forms_in base.now) }
     {
         base.facts();
-        let first = count(base);
+        let first = base.rule_count();
         let labels = base.shapes().cons.len() as u32;
         let own = copied(alloc, base)?;
         own.facts();

@@ -45,7 +45,7 @@ pub(crate) fn lowered_judgement(
             None => unreachable!(),
         },
         Proof::Given(number) => match hypothesis(given, *number) {
-            Some(found) => own_judgement(alloc, found),
+            Some(found) => found.copy(alloc),
             None => unreachable!(),
         },
     }
@@ -78,29 +78,6 @@ fn instances(alloc: Global, terms: &[Term], binds: &[Term]) -> Result<Vec<Term>,
     let mut made = Vec::with_capacity(alloc, terms.len())?;
     for i in 0..terms.len() {
         made.push(instance_made(alloc, &terms[i], binds)?)?;
-    }
-    Ok(made)
-}
-
-/// An equal judgement. The one refusal is out of memory.
-fn own_judgement(alloc: Global, from: &Judgement) -> Result<Judgement, NoMemory>
-    requires { AreShallow (judgement from.now).places }
-    ensures { IfOk result (λ j. judgement j ≡ judgement from.now) }
-{
-    Ok(Judgement {
-        form: from.form,
-        places: copies(alloc, &from.places)?,
-    })
-}
-
-/// Equal terms. The one refusal is out of memory.
-fn copies(alloc: Global, terms: &[Term]) -> Result<Vec<Term>, NoMemory>
-    requires { greatest_depth (forest (map tree terms.now)) ≤ most_depth }
-    ensures { IfOk result (λ x. map tree x.items ≡ map tree terms.now) }
-{
-    let mut made = Vec::with_capacity(alloc, terms.len())?;
-    for i in 0..terms.len() {
-        made.push(terms[i].copy(alloc)?)?;
     }
     Ok(made)
 }

@@ -67,20 +67,10 @@ pub fn rewrite(
     ensures { IsRewriting (accepted set.now) (signature set.now).subjects known.no_hypotheses
         (view.proof proof.now) budget result }
 {
-    let none = no_hypotheses(alloc);
+    let none = Hyps::none(alloc);
     let answer = rewrite_from(alloc, set, proof, &none, budget);
     drop(none);
     answer
-}
-
-/// There are none.
-fn no_hypotheses(alloc: Global) -> Hyps
-    ensures { hypotheses result ≡ known.no_hypotheses }
-{
-    Hyps {
-        holds: Vec::new(alloc),
-        apart: Vec::new(alloc),
-    }
 }
 
 /// What a derivation by the extended rules of the set, from base hypotheses, is lowered to,

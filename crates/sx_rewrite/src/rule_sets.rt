@@ -1,18 +1,15 @@
 //! Rule sets with more rules.
 
-ghost use Rattle.std.specs.Prelude.{◌≡◌, ◌++◌, ◌<◌, IfOk, map, length};
+ghost use Rattle.std.specs.Prelude.{◌≡◌, ◌++◌, IfOk, map};
 ghost use Rattle.sx_term.specs.Shapes.{shapes};
 ghost use Rattle.sx_rules.specs.Deep.{RulesAreShallow};
 ghost use Rattle.sx_rules.specs.Good.{IsRuleSet};
-ghost use Rattle.sx_rules.specs.Sets.{shapes_in, forms_in, rules_in, bare_rules_in};
+ghost use Rattle.sx_rules.specs.Sets.{shapes_in, forms_in, rules_in};
 ghost use Rattle.sx_rules.specs.Views.{named, rule};
 
 use std::alloc::Global;
 use sx_rules::{Rule, RuleError, RuleSet};
 use sx_term::{NoMemory, Shapes};
-
-/// The most rules that a set has.
-const MOST_RULES: u32 = sx_rules::MOST_RULES as u32;
 
 /// The rules of the set and then more, which are good with these shapes.
 /// The one refusal is out of memory.
@@ -47,17 +44,4 @@ pub(crate) fn copied(alloc: Global, set: &RuleSet) -> Result<RuleSet, NoMemory>
 {
     set.facts();
     with_more(alloc, set, set.shapes(), Vec::new(alloc))
-}
-
-/// How many rules the set has.
-pub(crate) fn count(set: &RuleSet) -> u32
-    ensures { result ≡ length (bare_rules_in set.now) }
-{
-    set.facts();
-    for number in 0..MOST_RULES {
-        if set.rule(number).is_none() {
-            return number;
-        }
-    }
-    MOST_RULES
 }

@@ -12,8 +12,8 @@ instance_judgement-requires-clause-places c = conclusion-shallow c.args.base.now
 pub instance_judgement-requires-clause-binds : goal.instance_judgement-requires-clause-binds
 instance_judgement-requires-clause-binds c = node-binds _ _ _ _ c.in-By.is _ c.in-By.kids.items c.deref.ensures.value refl c.requires.binds
 
-pub own_judgement-requires : goal.own_judgement-requires
-own_judgement-requires c = given-places (map judgement c.args.given.now.holds.items) c.in-Given.number _ c.requires.near c.in-Some-hypothesis.ensures
+pub copy-requires : goal.copy-requires
+copy-requires c = given-places (map judgement c.args.given.now.holds.items) c.in-Given.number _ c.requires.near c.in-Some-hypothesis.ensures
 
 pub unreachable-requires : goal.unreachable-requires
 unreachable-requires c =
@@ -27,6 +27,6 @@ returns-in-Some c =
 
 pub returns-in-Some-hypothesis : goal.returns-in-Some-hypothesis
 returns-in-Some-hypothesis c =
-    ok-as c.own_judgement.result _ _
+    ok-as c.copy.result _ _
     (λ j h k d. h ∙ given-judges c.args.base.now.rules.items (hypotheses c.args.given.now) c.args.proof.now k d c.in-Given.number c.in-Given.is
-    (judgement c.in-Some-hypothesis.found.now) c.in-Some-hypothesis.ensures) c.own_judgement.ensures
+    (judgement c.in-Some-hypothesis.found.now) c.in-Some-hypothesis.ensures) c.copy.ensures

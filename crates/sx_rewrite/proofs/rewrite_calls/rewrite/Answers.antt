@@ -10,12 +10,12 @@ use Rattle.sx_rewrite.proofs.rewrite_calls.rewrite.Goals as goal
 
 pub rewrite_from-answer-requires-clause-given : goal.rewrite_from-answer-requires-clause-given
 rewrite_from-answer-requires-clause-given c =
-    subst (AreGood (length (shapes_in c.args.set.now.base))) (sym c.no_hypotheses-none.ensures) (none-good (length (shapes_in c.args.set.now.base)))
+    subst (AreGood (length (shapes_in c.args.set.now.base))) (sym c.none-none.ensures.none) (none-good (length (shapes_in c.args.set.now.base)))
 
 pub rewrite_from-answer-requires-clause-derived : goal.rewrite_from-answer-requires-clause-derived
 rewrite_from-answer-requires-clause-derived c =
-    subst (λ (h : Hypotheses). CanRewrite (accepted c.args.set.now) h (proof c.args.proof.now)) (sym c.no_hypotheses-none.ensures) c.requires
+    subst (λ (h : Hypotheses). CanRewrite (accepted c.args.set.now) h (proof c.args.proof.now)) (sym c.none-none.ensures.none) c.requires
 
 pub returns : goal.returns
 returns c =
-    subst (λ (h : Hypotheses). IsRewriting (accepted c.args.set.now) (signature c.args.set.now).subjects h (proof c.args.proof.now) c.args.budget c.rewrite_from-answer.result) c.no_hypotheses-none.ensures c.rewrite_from-answer.ensures
+    subst (λ (h : Hypotheses). IsRewriting (accepted c.args.set.now) (signature c.args.set.now).subjects h (proof c.args.proof.now) c.args.budget c.rewrite_from-answer.result) c.none-none.ensures.none c.rewrite_from-answer.ensures
