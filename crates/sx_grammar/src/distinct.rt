@@ -6,7 +6,7 @@ ghost use Rattle.sx_grammar.specs.Parts.{texts};
 ghost use Rattle.sx_grammar.specs.Distinct.{distinct};
 
 use std::alloc::Global;
-use sx_term::{Names, NoMemory, Text};
+use sx_term::{Names, NoMemory, Text, copy_texts};
 
 /// Adds a text that is none of the names, and the same as a name.
 fn add(alloc: Global, text: &Text, out: &mut Vec<Text>, names: &mut Names) -> Result<(), NoMemory>
@@ -71,31 +71,6 @@ pub(crate) fn distinct(alloc: Global, list: &[&Text]) -> Result<(Vec<Text>, Name
     ensures names { IfOk result (λ r. r.1 ≡ distinct (texts list.now)) }
 {
     filled(alloc, list, Vec::new(alloc), Names::new(alloc))
-}
-
-/// Fills a list that has no texts with equal ones.
-fn fill_texts(alloc: Global, texts: &[Text], copies: &mut Vec<Text>) -> Result<(), NoMemory>
-    requires { copies.old.items ≡ [] }
-    ensures { OnOk result (copies.new.items ≡ texts.now) }
-{
-    for i in 0..texts.len() {
-        copies.push(texts[i].copy(alloc)?)?;
-    }
-    Ok(())
-}
-
-/// Equal texts.
-fn copy_texts(alloc: Global, texts: &[Text]) -> Result<Vec<Text>, NoMemory>
-    ensures { IfOk result (λ v. v.items ≡ texts.now) }
-{
-    let mut copies = Vec::with_capacity(alloc, texts.len())?;
-    match fill_texts(alloc, texts, &mut copies) {
-        Ok(()) => Ok(copies),
-        Err(e) => {
-            drop(copies);
-            Err(e)
-        }
-    }
 }
 
 /// The distinct texts of a list and their names, copied, with those of more texts behind.

@@ -26,8 +26,8 @@ fn fill_sorts(alloc: Global, sorts: &[SortLine], copies: &mut Vec<SortLine>) -> 
     Ok(())
 }
 
-/// Equal sorts.
-fn copy_sorts(alloc: Global, sorts: &[SortLine]) -> Result<Vec<SortLine>, NoMemory>
+/// Equal sorts. The one refusal is out of memory.
+pub fn copy_sorts(alloc: Global, sorts: &[SortLine]) -> Result<Vec<SortLine>, NoMemory>
     ensures { IfOk result (λ v. v.items ≡ sorts.now) }
 {
     let mut copies = Vec::with_capacity(alloc, sorts.len())?;
@@ -55,8 +55,11 @@ fn fill_productions(
     Ok(())
 }
 
-/// Equal productions.
-fn copy_productions(alloc: Global, productions: &[Production]) -> Result<Vec<Production>, NoMemory>
+/// Equal productions. The one refusal is out of memory.
+pub fn copy_productions(
+    alloc: Global,
+    productions: &[Production],
+) -> Result<Vec<Production>, NoMemory>
     ensures { IfOk result (λ v. map line v.items ≡ map line productions.now) }
 {
     let mut copies = Vec::with_capacity(alloc, productions.len())?;

@@ -46,7 +46,7 @@ mod tokens;
 
 pub use grammar::Grammar;
 pub use grammar_error::GrammarError;
-pub use grammar_parts::GrammarParts;
+pub use grammar_parts::{GrammarParts, copy_productions, copy_sorts};
 pub use head::Head;
 pub use item::Item;
 pub use laws::{
