@@ -10,10 +10,7 @@ use sx_rules::{Place, Rule, RuleSet};
 pub fn roles(set: &RuleSet, form: u32) -> &[Place]
     ensures { output_mask result.now ≡ set_modes set.now form }
 {
-    match set.forms().get(form as usize) {
-        Some(it) => it.places.as_slice(),
-        None => &[],
-    }
+    set.places_of(form)
 }
 
 /// The rule with this number.
