@@ -1,6 +1,6 @@
 //! Derivations that are expanded.
 
-ghost use Rattle.std.specs.Prelude.{◌≡◌, length, map};
+ghost use Rattle.std.specs.Prelude.{length, map};
 ghost use Rattle.sx_rules.specs.Deep.{AreShallow};
 ghost use Rattle.sx_rules.specs.Derivations as spec;
 ghost use Rattle.sx_rules.specs.EntryView.{entries};
@@ -151,7 +151,7 @@ fn expand_listing(
         answer.0 budget result }
 {
     listing.set.facts();
-    let none = no_hypotheses(alloc);
+    let none = Hyps::none(alloc);
     let reading = Reading {
         listing: *listing,
         rules: listing.set.rules(),
@@ -160,16 +160,6 @@ fn expand_listing(
     let answer = expand_reading(alloc, &reading, goal, budget);
     drop(none);
     answer
-}
-
-/// There are none.
-fn no_hypotheses(alloc: Global) -> Hyps
-    ensures { hypotheses result ≡ known.no_hypotheses }
-{
-    Hyps {
-        holds: Vec::new(alloc),
-        apart: Vec::new(alloc),
-    }
 }
 
 /// What the derivation of the goal is lowered to that the list begins with.

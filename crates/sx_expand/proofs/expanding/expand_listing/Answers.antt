@@ -17,7 +17,7 @@ expand_reading-answer-requires-clause-reading c =
       rules =
           extended-rules set c.rules.result.now c.rules.ensures facts.accepted facts.rules
           facts.forms;
-      given = subst (AreGiven set) (sym c.no_hypotheses-none.ensures) (none-given set);
+      given = subst (AreGiven set) (sym c.none-none.ensures.none) (none-given set);
     }
 
 pub expand_reading-answer-requires-clause-listed :
@@ -25,7 +25,7 @@ pub expand_reading-answer-requires-clause-listed :
 expand_reading-answer-requires-clause-listed c =
     let l = c.args.listing.now in
     let same = extended-set l.set.now c.rules.result.now c.rules.ensures in
-    let none = c.no_hypotheses-none.ensures in
+    let none = c.none-none.ensures.none in
     let r = c.requires.listed in
     (r.0, listed-as (sym same) (sym none) (goal_of c.args.goal.now) (entries_in l) r.0 r.1)
 
@@ -33,7 +33,7 @@ pub returns : goal.returns
 returns c = λ answer is.
     let l = c.args.listing.now in
     let same = extended-set l.set.now c.rules.result.now c.rules.ensures in
-    let none = c.no_hypotheses-none.ensures in
+    let none = c.none-none.ensures.none in
     let g = goal_of c.args.goal.now in
     let own = listed-as (sym same) (sym none) g (entries_in l) answer is in
     expanding-as same none (signature_in l).subjects answer.0 c.args.budget
