@@ -12,7 +12,7 @@ use Rattle.sx_directives.specs.declared.rows.FormLine.{FormLine}
 use Rattle.sx_notation.specs.declared.notation_error.NotationError.{NotationError}
 use Rattle.sx_notation.specs.RuleParts.{rule_parts}
 use Rattle.sx_notation.specs.RuleLaws.{form_of}
-use Rattle.sx_language.specs.Prepared.{IsGrammarRefusal}
+use Rattle.sx_notation.specs.Refusals.{IsGrammarRefusal}
 use Rattle.sx_language.specs.States.{IsNoGrammar}
 use Rattle.sx_extension.specs.Grounds.{Ground, IsGroundBefore}
 use Rattle.sx_extension.specs.Readings.{with_own, AreGrammars, AreNoGrammars}

@@ -2,31 +2,20 @@
 
 ghost use Rattle.std.specs.Prelude.{map, IfOk, IfErr};
 ghost use Rattle.sx_grammar.specs.Parts.{line};
-ghost use Rattle.sx_language.specs.Prepared.{IsGrammarRefusal};
 ghost use Rattle.sx_extension.specs.Grounds.{ground, IsGroundBefore};
 ghost use Rattle.sx_extension.specs.Readings.{AreGrammars};
 ghost use Rattle.sx_extension.specs.Stages.{HasRoom, IsUngrammatical};
 
 use crate::before::Before;
 use std::alloc::Global;
-use sx_grammar::{Grammar, GrammarError, Production};
-use sx_notation::{NotationError, extended_rule_grammar};
+use sx_grammar::{Grammar, Production};
+use sx_notation::{NotationError, extended_rule_grammar, grammar_error};
 
 /// The grammar with the productions of an extension, and that by which its rules are read.
 #[derive(Drop)]
 pub(crate) struct Grammars {
     pub(crate) grammar: Grammar,
     pub(crate) rule_grammar: Grammar,
-}
-
-/// The refusal of productions that make no grammar.
-fn grammar_error(error: GrammarError) -> NotationError
-    ensures { IsGrammarRefusal error result }
-{
-    match error {
-        GrammarError::Memory => NotationError::Memory,
-        error => NotationError::Grammar(error),
-    }
 }
 
 /// The grammar with these productions after those before the extension, and then the grammar by

@@ -46,13 +46,14 @@ use Rattle.sx_notation.specs.Language.{FormFits, RuleHasLexemes, IsMain, IsLangu
 use Rattle.sx_notation.proofs.Numbers.{number_is}
 use Rattle.sx_language.specs.declared.preparing.Prepared.{Prepared}
 use Rattle.sx_language.specs.RuleLine.{Reader, judgements, subject_sort, IsBadRuleLine}
+use Rattle.sx_notation.specs.Refusals.{IsGrammarRefusal}
 use Rattle.sx_language.specs.RuleTexts.{AreBareRules, IsBadPremise, IsBadConclusion, IsBadBody}
 use Rattle.sx_language.specs.RuleTexts.{IsBadEnd, IsBadRule, IsFirstBadRule, OrMemory}
 use Rattle.sx_language.specs.States.{IsNameOfSort, IsSortNamed, AreStems, IsLanguageIn, IsNoRules}
 use Rattle.sx_language.specs.States.{HasBadRule, HasNoRuleSet, IsLanguageTextRefused, forms_of}
 use Rattle.sx_language.specs.States.{name_unbound}
 use Rattle.sx_language.specs.Prepared.{whole, reader_in, IsPreparedLanguage, IsUsableOutline}
-use Rattle.sx_language.specs.Prepared.{IsReason, IsRuleRefusal, IsGrammarRefusal, IsNoGrammars}
+use Rattle.sx_language.specs.Prepared.{IsReason, IsRuleRefusal, IsNoGrammars}
 use Rattle.sx_language.proofs.Judgements.{can_read}
 use Rattle.sx_language.proofs.KnownForms.{within_limits, rule_limits, have_sorts}
 use Rattle.sx_language.proofs.UsableRules.{rules_shallow, rules_lexical, rule_names}

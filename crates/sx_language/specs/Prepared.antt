@@ -2,8 +2,6 @@
 use Rattle.sx_outline.specs.Sized.{HasShortLines}
 use Rattle.std.specs.Prelude.{◌≡◌, Option, None, List, length, map, Ok, ◌⊎◌}
 use Rattle.std.specs.List.{AllByRecursion}
-use Rattle.sx_grammar.specs.declared.grammar_error.GrammarError.{GrammarError}
-use Rattle.sx_grammar.specs.declared.grammar_error.GrammarError.TheVariants as grammar
 use Rattle.sx_grammar.specs.Grammar.{Text}
 use Rattle.sx_grammar.specs.Parts.{Parts, parts}
 use Rattle.sx_grammar.specs.Tables.{GrammarData, IsWithinLimits}
@@ -73,11 +71,6 @@ IsRuleRefusal known names e x =
     (x ≡ Memory)
     ⊎ (IsReason e × ((unbound : Option Text) × (x ≡ Rules e unbound) ×
     (unbound ≡ name_unbound known names e)))
-
--- this is the refusal of parts that are no grammar, or memory is lacking
-abbrev pub IsGrammarRefusal : GrammarError → NotationError → Type 0
-IsGrammarRefusal grammar.Memory e = e ≡ Memory
-IsGrammarRefusal x e = e ≡ Grammar x
 
 -- the parts are no grammar, or with the forms no grammar of rules, or memory is lacking
 abbrev pub IsNoGrammars : Parts → List FormLine → NotationError → Type 0

@@ -7,7 +7,6 @@ ghost use Rattle.sx_grammar.specs.Made.{IsGrammar};
 ghost use Rattle.sx_notation.specs.RuleParts.{rule_parts};
 ghost use Rattle.sx_language.specs.States.{IsLanguageTextRefused};
 ghost use Rattle.sx_language.specs.Prepared.{whole, IsUsableOutline, IsPreparedLanguage};
-ghost use Rattle.sx_language.specs.Prepared.{IsGrammarRefusal};
 ghost use Rattle.sx_language.specs.Prepared.{IsNoGrammars};
 ghost use Rattle.sx_term.specs.Limits.{most_bytes};
 
@@ -15,8 +14,8 @@ use crate::stems::metas_of;
 use std::alloc::Global;
 use sx_directives::FormLine;
 use sx_earley::Metas;
-use sx_grammar::{Grammar, GrammarError, GrammarParts};
-use sx_notation::{NotationError, forms_of, rule_grammar};
+use sx_grammar::{Grammar, GrammarParts};
+use sx_notation::{NotationError, forms_of, grammar_error, rule_grammar};
 use sx_outline::{MainForm, Outline, OutlineError, RuleLines, read_outline};
 use sx_rules::Form;
 use sx_term::Text;
@@ -51,16 +50,6 @@ fn outline_of(alloc: Global, name: &Text, bytes: &[u8]) -> Result<Outline, Notat
         Err(OutlineError::Memory) => Err(NotationError::Memory),
         Err(OutlineError::NotUtf8(place)) => Err(NotationError::NotUtf8(place)),
         Err(OutlineError::Notation { line, kind }) => Err(NotationError::Notation { line, kind }),
-    }
-}
-
-/// The refusal of a text whose parts are no grammar.
-fn grammar_error(error: GrammarError) -> NotationError
-    ensures { IsGrammarRefusal error result }
-{
-    match error {
-        GrammarError::Memory => NotationError::Memory,
-        error => NotationError::Grammar(error),
     }
 }
 

@@ -10,3 +10,4 @@ pub mod ReadText
 pub mod ReadAmong
 pub mod ReadLaws
 pub mod Directives
+pub mod Refusals

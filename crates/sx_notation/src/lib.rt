@@ -14,6 +14,7 @@
 //!   readings. `read_terms_are_usable`: lexemes and depth of what is read.
 //! - `read_directive`: the production or the stem that a line states, by which it extends a
 //!   language.
+//! - `grammar_error`: the refusal of parts that make no grammar.
 #![tactic(auto)]
 
 mod content;
@@ -38,7 +39,7 @@ pub use laws::{
     one_reason, read_among_is_read, read_terms_are_usable, rule_grammars_go_on, sorted_goals_fit,
 };
 pub use line_reader::LineReader;
-pub use notation_error::NotationError;
+pub use notation_error::{NotationError, grammar_error};
 pub use resolving::{forms_of, sort_with};
 pub use rule_productions::{extended_rule_grammar, rule_grammar};
 pub use sx_directives::Directive;

@@ -1,5 +1,7 @@
 //! Why the notation of languages is refused.
 
+ghost use Rattle.sx_notation.specs.Refusals.{IsGrammarRefusal};
+
 use crate::unread::Unread;
 use std::alloc::{AllocError, AllocFailed};
 use std::fmt;
@@ -49,6 +51,16 @@ pub enum NotationError {
         error: RuleError,
         variable: Option<Text>,
     },
+}
+
+/// The refusal of parts that make no grammar.
+pub fn grammar_error(error: GrammarError) -> NotationError
+    ensures { IsGrammarRefusal error result }
+{
+    match error {
+        GrammarError::Memory => NotationError::Memory,
+        error => NotationError::Grammar(error),
+    }
 }
 
 impl fmt::Debug for NotationError {

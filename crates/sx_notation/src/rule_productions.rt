@@ -12,7 +12,9 @@ ghost use Rattle.sx_notation.specs.RuleParts.{apart_lines, rule_parts};
 
 use std::alloc::Global;
 use sx_directives::{FormLine, FormSymbol, SpelledSort};
-use sx_grammar::{Grammar, GrammarError, GrammarParts, Production, SortLine, Symbol};
+use sx_grammar::{
+    Grammar, GrammarError, GrammarParts, Production, SortLine, Symbol, copy_productions,
+};
 use sx_term::{LexKind, NoMemory, Text};
 
 /// The text `form ` with the name behind it.
@@ -164,18 +166,6 @@ pub fn rule_grammar(
     with_judgements(alloc, grammar, more)
 }
 
-/// Equal productions.
-fn copies(alloc: Global, productions: &[Production]) -> Result<Vec<Production>, NoMemory>
-    ensures { IfOk result (λ v. map line v.items ≡ map line productions.now) }
-{
-    let mut all = Vec::with_capacity(alloc, productions.len())?;
-    for i in 0..productions.len() {
-        let production = &productions[i];
-        all.push(production.copy(alloc)?)?;
-    }
-    Ok(all)
-}
-
 /// The last productions of a grammar by which rules are read: those of so many forms, and three for
 /// `!=`.
 fn last_productions(
@@ -191,7 +181,7 @@ fn last_productions(
 {
     let first = by_rules.productions.len() - (forms + 3);
     let last = by_rules.productions.split_at(first).1;
-    copies(alloc, last)
+    copy_productions(alloc, last)
 }
 
 /// The grammar by which the rules of an extension are read: that of `rule_grammar`, where the

@@ -10,6 +10,6 @@ returns c =
     let many_there : c.len.result ≡ length c.args.by_rules.now.productions.items = omega (arith, c.len.ensures) in
     let here : first ≡ length c.args.by_rules.now.productions.items - (c.args.forms + 3) = omega (arith, many_there) in
     let behind : c.split_at.result.1.now ≡ drop first c.args.by_rules.now.productions.items = c.split_at.ensures.back ∙ ap (drop first) c.deref.ensures.value in
-    IfOk-weaker c.copies.result _ _
+    IfOk-weaker c.copy_productions.result _ _
     (λ v same lines p is many. same ∙ ap (map line) behind ∙ further c.args.by_rules.now lines p c.args.forms is many first here)
-    c.copies.ensures
+    c.copy_productions.ensures
