@@ -6,7 +6,7 @@ ghost use Rattle.sx_outline.specs.Tables.{declared_in};
 
 use std::alloc::Global;
 use sx_directives::{FormLine, MainLine, Row, VarLine};
-use sx_grammar::{Production, SortLine};
+use sx_grammar::{Production, SortLine, copy_sorts};
 use sx_term::{NoMemory, Text};
 
 /// Sorts, productions, stems, forms and main lines, each in the order of their lines, and the names
@@ -26,17 +26,6 @@ fn add<T: Drop>(list: &mut Vec<T>, item: T) -> Result<(), NoMemory>
     ensures { OnOk result (list.new.items ≡ list.old.items ++ item ∷ []) }
 {
     Ok(list.push(item)?)
-}
-
-/// Fills a list that has no sorts with equal ones.
-fn fill_sorts(alloc: Global, sorts: &[SortLine], copies: &mut Vec<SortLine>) -> Result<(), NoMemory>
-    requires { copies.old.items ≡ [] }
-    ensures { OnOk result (copies.new.items ≡ sorts.now) }
-{
-    for i in 0..sorts.len() {
-        copies.push(sorts[i].copy(alloc)?)?;
-    }
-    Ok(())
 }
 
 /// An equal stem with an equal sort.
@@ -88,7 +77,7 @@ impl DeclaredRows {
     {
         let mut rows = DeclaredRows::new(alloc);
         rows.uses = uses;
-        fill_sorts(alloc, sorts, &mut rows.sorts)?;
+        rows.sorts = copy_sorts(alloc, sorts)?;
         fill_vars(alloc, vars, &mut rows.vars)?;
         Ok(rows)
     }
