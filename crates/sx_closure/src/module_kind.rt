@@ -11,8 +11,8 @@ use std::alloc::Global;
 use sx_headers::ModuleFile;
 use sx_outside::Shelf;
 use sx_steps::{StepError, Stop, about, with_suffix};
-use sx_term::{NoMemory, Text};
-use sx_walking::{WalkedKind, copies};
+use sx_term::{NoMemory, Text, copy_texts};
+use sx_walking::WalkedKind;
 use sx_words::{ClosureDefect, Defect};
 
 /// The modules with a language.
@@ -68,7 +68,7 @@ impl WalkedKind for ModuleKind<'_> {
         file: &ModuleFile,
     ) -> Result<Vec<Text>, StepError> {
         if file.header.language.same(self.language) {
-            return Ok(copies(alloc, &file.header.imports)?);
+            return Ok(copy_texts(alloc, &file.header.imports)?);
         }
         Err(StepError::Stopped(language_differs(alloc, name, &file.header.language)?))
     }

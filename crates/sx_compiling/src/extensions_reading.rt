@@ -15,9 +15,9 @@ use crate::kept_extensions::KeptExtensions;
 use std::alloc::Global;
 use sx_outside::{CleanShelf, Shelf};
 use sx_steps::{StepError, with_suffix};
-use sx_term::NoMemory;
+use sx_term::{NoMemory, copy_texts};
 use sx_uses::ExtensionFile;
-use sx_walking::{copies, read_reached};
+use sx_walking::read_reached;
 
 /// The extensions that are reached from those that the module uses. Files that are kept are not
 /// read from the shelf.
@@ -42,7 +42,7 @@ fn reach_extensions<S: Shelf>(
         language: written_for,
         kept,
     };
-    match copies(alloc, &given.source.header.uses) {
+    match copy_texts(alloc, &given.source.header.uses) {
         Ok(roots) => read_reached(alloc, &kind, given.file, None, roots, shelf),
         Err(_) => Err(StepError::Memory),
     }

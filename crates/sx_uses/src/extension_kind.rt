@@ -10,8 +10,8 @@ use crate::read_extension::read_extension_file;
 use std::alloc::Global;
 use sx_outside::Shelf;
 use sx_steps::{StepError, Stop, about, with_suffix};
-use sx_term::{NoMemory, Text};
-use sx_walking::{WalkedKind, copies};
+use sx_term::{NoMemory, Text, copy_texts};
+use sx_walking::WalkedKind;
 use sx_words::{Defect, ExtensionDefect};
 
 /// The extensions that are written for a language.
@@ -67,7 +67,7 @@ impl WalkedKind for ExtensionKind<'_> {
         file: &ExtensionFile,
     ) -> Result<Vec<Text>, StepError> {
         if file.header.language.same(self.language) {
-            return Ok(copies(alloc, &file.header.uses)?);
+            return Ok(copy_texts(alloc, &file.header.uses)?);
         }
         Err(StepError::Stopped(wrong_language(alloc, name, &file.header.language)?))
     }

@@ -4,12 +4,10 @@
 //! - `WalkedKind`: a kind of files, by what a walk takes from it.
 //! - `read_reached`: the files that are reached from some names, each once and after those that it
 //!   stands on; or the first refusal that the walk comes to.
-//! - `copies`: equal names.
 //! - `walks_agree`: where reading a file has one result, the walk has one. `those_come_first`,
 //!   `root_is_last`, `few_are_reached`: in which order the files come, and how many.
 #![tactic(auto)]
 
-mod copying;
 mod file_table;
 mod laws;
 mod reading;
@@ -18,7 +16,6 @@ mod visiting;
 mod walked_kind;
 mod walking;
 
-pub use copying::copies;
 pub use laws::{few_are_reached, root_is_last, those_come_first, walks_agree};
 pub use reading::read_reached;
 pub use walked_kind::WalkedKind;
