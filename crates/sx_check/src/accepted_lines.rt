@@ -7,7 +7,6 @@ ghost use Rattle.sx_steps.specs.Work.{plan_of};
 ghost use Rattle.sx_accepting.specs.ExtendedLanguages.{set_data};
 ghost use Rattle.sx_check.specs.CheckExtension as spec;
 
-use crate::counting::rule_count;
 use crate::rule_lines::check_lines;
 use std::alloc::Global;
 use sx_accepting::Extended;
@@ -21,7 +20,7 @@ fn lines_of(alloc: Global, name: &Text, set: &Accepted, last: usize) -> Result<W
     ensures { IfOk result (λ work.
         plan_of work ≡ spec.plan_with name.now (set_data set.now) last) }
 {
-    let all = rule_count(set.rules());
+    let all = set.rules().rule_count();
     let count = last as u32;
     let lines = check_lines(alloc, set, name, all - count, count)?;
     Ok(Work {

@@ -10,7 +10,6 @@ mod accepted_lines;
 mod asked;
 mod certificate_text;
 mod check_extension;
-mod counting;
 mod laws;
 mod rule_lines;
 mod sought;
