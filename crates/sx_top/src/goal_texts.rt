@@ -7,10 +7,10 @@ ghost use Rattle.sx_rules.specs.Views.{is_out as role_is_out, forms, goal as goa
 ghost use Rattle.sx_top.specs.GoalTexts.{places_text, core_goal_text};
 ghost use Rattle.sx_top.specs.Terms.{AreTerms};
 
-use crate::forms::{name_of, places_of};
+use crate::forms::name_of;
 use crate::texts::is_out;
 use std::alloc::Global;
-use sx_rules::{Form, Goal, Place};
+use sx_rules::{Form, Goal, Place, places_of};
 use sx_term::{NoMemory, Term, Text, write_core};
 
 /// Appends the term after a blank.

@@ -11,9 +11,8 @@ ghost use Rattle.sx_top.specs.CoreTexts.{subjects, term_lines, subject_text};
 ghost use Rattle.sx_top.specs.CoreTexts.{list_text as text_of_list};
 ghost use Rattle.sx_top.specs.Terms.{AreTerms};
 
-use crate::forms::places_of;
 use std::alloc::Global;
-use sx_rules::{Entry, Form, Goal, Place, RuleSet, write_list};
+use sx_rules::{Entry, Form, Goal, Place, RuleSet, places_of, write_list};
 use sx_term::{NoMemory, Role, Term, Text, write_core};
 
 pub fn is_out(role: Role) -> bool
