@@ -46,10 +46,9 @@ pub(crate) fn lower_node(
     requires shallow { AreShallow (map (tree_at (terms_in reader.old)) binds.now) }
     requires fit { FitTable (set_by reading.now).table
         (forest (map (tree_at (terms_in reader.old)) binds.now)) }
-    requires kids { (hyps : known.Hypotheses) × (kids : spec.Proofs)
-        × AreKidSubjects (signature_by reading.now).subjects (set_by reading.now).base hyps
-        (needed (certificate_at (set_by reading.now) number)) (terms_in reader.old) kids
-        subjects.now }
+    requires kids { (hyps : known.Hypotheses) × (kids : spec.Proofs) × AreKidSubjects
+        (signature_by reading.now).subjects (set_by reading.now).base hyps (needed
+        (certificate_at (set_by reading.now) number)) (terms_in reader.old) kids subjects.now }
     ensures on { OnOk result (ReaderGoesOn (set_by reading.now).table reader.old reader.new) }
     ensures lowered { (x : stored.Known) →
         slice_get (stored.known_of (set_by reading.now)) number ≡ Some x →

@@ -40,9 +40,8 @@ pub fn run<S: Shelf, I: Source, K: Sink, L: Ledger>(
         steps.old steps.new }
     // When it is done, the command keeps its promise.
     ensures promise { Told (KeepsPromise
-        (call words.now (map (λ b. meaning b) auditors.items)) result
-        (K.content out.old) (K.content out.new))
-        (S.content shelf.old) (S.content shelf.new) }
+        (call words.now (map (λ b. meaning b) auditors.items)) result (K.content out.old)
+        (K.content out.new)) (S.content shelf.old) (S.content shelf.new) }
     // A fault has its cause.
     ensures read_fault { result ≡ Status.ReadFault →
         Rose (S.read_faults shelf.old) (S.read_faults shelf.new) }
