@@ -30,7 +30,7 @@ use Rattle.sx_derive.proofs.Stored.{grows_terms}
 use Rattle.sx_derive.proofs.Turned.{fits_more, piled_later, events_stay}
 
 module _ (modes : Modes) (rules : List Rule) (pairs : List Pair) (js : List Judgement) (n : ℕ) (c : Waiting) (rule : Rule) (t u : Tree) (ps : List Premise) (s new : Store) (before : List TaskOf)
-    (h : IsStore modes rules s) (hp : ArePairs (length (store_trees s)) pairs) (le : c.env ≤ length s.binds.cells.items) (lk : c.kids ≤ length s.kids.items) (fit : TasksFit modes rules s n before) (b : Bool)
+    (tries : ℕ) (h : IsStore modes rules s) (hp : ArePairs (length (store_trees s)) pairs) (le : c.env ≤ length s.binds.cells.items) (lk : c.kids ≤ length s.kids.items) (fit : TasksFit modes rules s n before) (b : Bool)
     (told : IsTruthTold s.arena new.arena b (are_apart (record { judgements = []; pairs = pairs_of (store_trees s) pairs }) (instance (filled (env_at (store_envs s) c.env)) t) (instance (filled (env_at (store_envs s) c.env)) u)))
     (eb : new.binds ≡ s.binds) (ek : new.kids.items ≡ s.kids.items) (ef : new.frames.items ≡ s.frames.items) (eu : new.until ≡ s.until) where
   abbrev hyps : Hypotheses
@@ -52,10 +52,10 @@ module _ (modes : Modes) (rules : List Rule) (pairs : List Pair) (js : List Judg
   apart_events = after_apart modes rules hyps c.rule rule c.levels b t u ps env kids (sym told.is)
 
   -- no tasks come behind those before
-  none_more : (premised : Premised) → PremiseTraced modes rules pairs js n s new c rule (apart t u) ps before before premised → PremiseTraced modes rules pairs js n s new c rule (apart t u) ps before (before ++ []) premised
-  none_more premised x = subst (λ (after : List TaskOf). PremiseTraced modes rules pairs js n s new c rule (apart t u) ps before after premised) (sym (append-nil before)) x
+  none_more : (premised : Premised) → PremiseTraced modes rules pairs js n s new tries tries c rule (apart t u) ps before before premised → PremiseTraced modes rules pairs js n s new tries tries c rule (apart t u) ps before (before ++ []) premised
+  none_more premised x = subst (λ (after : List TaskOf). PremiseTraced modes rules pairs js n s new tries tries c rule (apart t u) ps before after premised) (sym (append-nil before)) x
 
-  pub apart_failed : b ≡ false → (notes : Vec ℕ Global) → notes.items ≡ [] → PremiseTraced modes rules pairs js n s new c rule (apart t u) ps before (before ++ []) (Fails notes)
+  pub apart_failed : b ≡ false → (notes : Vec ℕ Global) → notes.items ≡ [] → PremiseTraced modes rules pairs js n s new tries tries c rule (apart t u) ps before (before ++ []) (Fails notes)
   apart_failed f notes e =
       let none_noted : [] ≡ reverse notes.items = sym (ap reverse e) in
       none_more (Fails notes) (record {
@@ -65,6 +65,7 @@ module _ (modes : Modes) (rules : List Rule) (pairs : List Pair) (js : List Judg
         is = (
           (
             0,
+            (omega arith),
             (λ i. apart_events i ++ events_left modes rules pairs js s before)
                 ∙ (λ i. when (f i) (premises_after modes rules hyps c.rule rule c.levels ps env kids) ++ left_stays i),
           ),
@@ -72,7 +73,7 @@ module _ (modes : Modes) (rules : List Rule) (pairs : List Pair) (js : List Judg
         );
       })
 
-  pub apart_passed : b ≡ true → PremiseTraced modes rules pairs js n s new c rule (apart t u) ps before (before ++ []) (Holds c.env c.kids)
+  pub apart_passed : b ≡ true → PremiseTraced modes rules pairs js n s new tries tries c rule (apart t u) ps before (before ++ []) (Holds c.env c.kids)
   apart_passed f =
       let x = stays modes rules s new c.env c.kids 0 grown le lk (omega arith) in
       none_more (Holds c.env c.kids) (record {
@@ -84,6 +85,7 @@ module _ (modes : Modes) (rules : List Rule) (pairs : List Pair) (js : List Judg
           x.kids_within,
           (
             0,
+            (omega arith),
             (λ i. apart_events i ++ events_left modes rules pairs js s before)
                 ∙ (λ i. when (f i) (premises_after modes rules hyps c.rule rule c.levels ps env kids) ++ left_stays i)
                 ∙ (λ i. premises_after modes rules (record { judgements = js; pairs = sym (pairs_stay (store_trees s) (store_trees new) grown.trees pairs hp) i }) c.rule rule c.levels ps (sym x.envs i) (sym x.kids_are i) ++ events_left modes rules pairs js new before),

@@ -1,5 +1,5 @@
 -- A goal, its first candidate and the task of all others.
-use Rattle.std.proofs.Common.{◌≡◌, ℕ, zero, suc, ◌+◌, ◌-◌, ◌<◌, ◌≤◌, List, [], ◌∷◌, ◌++◌, drop, length, Some, None, Vec, refl, sym, ap, ◌∙◌, arith, subst, reverse}
+use Rattle.std.proofs.Common.{◌≡◌, ℕ, zero, suc, ◌+◌, ◌-◌, ◌<◌, ◌≤◌, true, false, List, [], ◌∷◌, ◌++◌, drop, length, Some, None, Vec, refl, sym, ap, ◌∙◌, arith, subst, reverse}
 use Rattle.std.specs.Prelude.{slice_get}
 use Rattle.std.specs.declared.alloc.Global.{Global}
 use Rattle.std.proofs.lemmas.List.{append-nil}
@@ -17,29 +17,29 @@ use Rattle.sx_arena.proofs.Parted.{pairs_stay}
 use Rattle.sx_derive.specs.Candidates.{goal_in}
 use Rattle.sx_derive.specs.Descents.{IsFirstRule, IsFirstFact}
 use Rattle.sx_derive.specs.Failing.{PremisesFail, FailsAlong}
-use Rattle.sx_derive.specs.Handing.{hyps_in}
+use Rattle.sx_derive.specs.Halting.{AfterTries, HaltsAfter, AreTriesTaken}
+use Rattle.sx_derive.specs.Handing.{hyps_in, answer_in}
 use Rattle.sx_derive.specs.Machine.{Frame, premises_after, tasks_events}
-use Rattle.sx_derive.specs.Quiet.{IsQuiet}
 use Rattle.sx_derive.specs.Store.{IsStore, StoreGrows, IsMark, store_trees, store_envs}
 use Rattle.sx_derive.specs.Tasks.{task_from, events_left, TaskFits, Piled}
 use Rattle.sx_derive.specs.Traced.{GoalComesTo, IsTraced, premises_left, NotedFrom, CandidateTraced}
-use Rattle.sx_derive.specs.Walk.{Event, Answer, tries_then, after_match, rules_events, goal_events}
+use Rattle.sx_derive.specs.Walk.{Event, give, Answer, tries_then, after_match, rules_events, goal_events}
 use Rattle.sx_derive.specs.Walked.{events_in}
 use Rattle.sx_derive.specs.declared.store.Mark.{Mark}
 use Rattle.sx_derive.specs.declared.store.Store.{Store}
+use Rattle.sx_derive.specs.declared.tasks.Ending.TheVariants.{Spent}
 use Rattle.sx_derive.specs.declared.tasks.Task.{Task as TaskOf}
 use Rattle.sx_derive.specs.declared.trace.Traced.{Traced}
-use Rattle.sx_derive.specs.declared.trace.Traced.TheVariants.{Answered, Failed}
-use Rattle.sx_derive.proofs.CandidateTraces.{comes_after, quiet_alone}
+use Rattle.sx_derive.specs.declared.trace.Traced.TheVariants.{Answered, Failed, Halted}
+use Rattle.sx_derive.proofs.CandidateTraces.{comes_after}
 use Rattle.sx_derive.proofs.FirstRules.{FirstRule, first_rule, no_given_events, goal_from_rule}
+use Rattle.sx_derive.proofs.Halted.{after_then, halts_then, halts_spent}
 use Rattle.sx_derive.proofs.Handed.{frames_until}
 use Rattle.sx_derive.proofs.Led.{rule_within}
 use Rattle.sx_derive.proofs.Passed.{tries_both}
-use Rattle.sx_derive.proofs.Quiet.{quiet_left}
 use Rattle.sx_derive.proofs.Stepped.{then_each-give}
 use Rattle.sx_derive.proofs.Stored.{grows_same, grows_then}
 use Rattle.sx_derive.proofs.Tasked.{facts_length, task_rules}
-use Rattle.sx_derive.proofs.Tries.{tries-quiet}
 use Rattle.sx_derive.proofs.Turned.{events_stay}
 
 -- no notes hold of each goal
@@ -124,12 +124,23 @@ module _ (modes : Modes) (rules : List Rule) (pairs : List Pair) (js : List Judg
         ∙ (λ i. tries_then tries_before (after_match modes hyps below_events number (rule_same i) env_then ++ rules_events modes hyps below_events (suc number) (drop (p i) rules) goal))
         ∙ (λ i. tries_then tries_before (premises_after modes rules (record { judgements = js; pairs = sym (pairs_stay (store_trees s) (store_trees mid) g.trees pairs hp) i }) number rule levels rule.premises env_then no_more ++ sym later_events i))
 
-    -- what is left of the premises is quiet where the goal is
-    pub candidate_quiet : (budget : ℕ) → IsQuiet budget (events_in modes rules pairs js s levels form terms.items) → IsQuiet budget (premises_left modes rules pairs js mid number rule levels rule.premises env 0 [])
-    candidate_quiet budget q =
-        let es = premises_after modes rules (hyps_in pairs mid js) number rule levels rule.premises env_then no_more in
-        quiet_alone budget es (quiet_left budget es (events_left modes rules pairs js mid (task ∷ []))
-        (tries-quiet budget tries_before (premises_left modes rules pairs js mid number rule levels rule.premises env 0 (task ∷ [])) (subst (λ (xs : List (Event Answer)). IsQuiet budget xs) goal_comes q)))
+    -- what is left of the candidate's premises and of its task
+    abbrev premises_here : List (Event Answer)
+    premises_here = premises_left modes rules pairs js mid number rule levels rule.premises env 0 (task ∷ [])
+
+    abbrev goal_here : List (Event Answer)
+    goal_here = events_in modes rules pairs js s levels form terms.items
+
+    many_are : tries_before ≡ suc (length facts + number)
+    many_are =
+        let l = found.number_is in
+        let a_many = facts_length modes (store_trees s) js facts a in
+        omega arith
+
+    -- the tries of the candidates up to the first are more than are left
+    spent_before : (tries left : ℕ) → AreTriesTaken (length facts + number) tries left false → HaltsAfter tries left goal_here Spent
+    spent_before tries left k =
+        subst (λ (m : ℕ). HaltsAfter tries m goal_here Spent) (sym k.1) (halts_spent tries (length facts + number) goal_here premises_here k.0 (goal_comes ∙ (λ i. tries_then (many_are i) premises_here)))
 
     -- the notes of the candidate's premises are those of the goal
     notes_rise : (ks : List ℕ) → NotedFrom modes rules pairs js mid levels 0 rule.premises env_then ks → FailsAlong modes rules hyps (suc levels) goal ks
@@ -141,32 +152,39 @@ module _ (modes : Modes) (rules : List Rule) (pairs : List Pair) (js : List Judg
         (λ z. record { judgements = js; pairs = pairs_stay (store_trees s) (store_trees mid) g.trees pairs hp z }) x.1 in
         found.fails i ks (subst (λ (z : Rule). PremisesFail modes rules hyps notes_below below_events 0 i ks z.premises env_then) (sym rule_same) y)
 
-    -- the candidate gives the first answer
-    pub goal_answered : (new : Store) (left : List TaskOf) (t : Traced) → ((notes : Vec ℕ Global) → t ≡ Failed notes → ⊥) → CandidateTraced modes rules pairs js n mid new number rule levels env (task ∷ []) (task ∷ left) t →
-        IsTraced modes rules pairs js n s new levels form terms.items (task ∷ left) t
-    goal_answered new left (Failed notes) x y = absurd (x notes refl)
-    goal_answered new left (Answered head outs) x y =
-        (y.is.0, y.is.1, y.piled s later_piled, (tries_before + y.is.2.0, goal_comes ∙ ap (tries_then tries_before) y.is.2.1 ∙ tries_both tries_before y.is.2.0 (tries_before + y.is.2.0) _ refl))
+    -- the tries of the candidates up to the first are taken
+    module _ (tries mid_tries : ℕ) (taken : AreTriesTaken (length facts + number) tries mid_tries true) where
+      after_them : AfterTries tries mid_tries goal_here premises_here
+      after_them = let m = many_are in (tries_before, (omega arith), goal_comes)
 
-    -- the candidate gives nothing, and the tasks are left
-    module _ (new : Store) (left stack : List TaskOf) (e : stack ≡ task ∷ left) (notes : Vec ℕ Global) (x : CandidateTraced modes rules pairs js n mid new number rule levels env (task ∷ []) (task ∷ left) (Failed notes)) where
-      came : CandidateTraced modes rules pairs js n mid new number rule levels env (task ∷ []) stack (Failed notes)
-      came = subst (λ (ts : List TaskOf). CandidateTraced modes rules pairs js n mid new number rule levels env (task ∷ []) ts (Failed notes)) (sym e) x
+      -- the candidate gives the first answer, or halts the walk
+      pub goal_answered : (left : ℕ) (new : Store) (more : List TaskOf) (t : Traced) → ((notes : Vec ℕ Global) → t ≡ Failed notes → ⊥) → CandidateTraced modes rules pairs js n mid new mid_tries left number rule levels env (task ∷ []) (task ∷ more) t →
+          IsTraced modes rules pairs js n s new tries left levels form terms.items (task ∷ more) t
+      goal_answered left new more (Failed notes) x y = absurd (x notes refl)
+      goal_answered left new more (Halted ending) x y = (grows_then modes rules s mid new g y.grows, halts_then tries mid_tries left ending goal_here premises_here after_them y.is)
+      goal_answered left new more (Answered head outs) x y =
+          (grows_then modes rules s mid new g y.grows, y.piled s later_piled, y.is.0, y.is.1, after_then tries mid_tries left goal_here premises_here (give (answer_in new head outs.items) ∷ events_left modes rules pairs js new (task ∷ more)) after_them y.is.2)
 
-      pub failed_grows : StoreGrows modes rules s new
-      failed_grows = grows_then modes rules s mid new g x.grows
+      -- the candidate gives nothing, and the tasks are left
+      module _ (next_tries : ℕ) (new : Store) (more stack : List TaskOf) (e : stack ≡ task ∷ more) (notes : Vec ℕ Global) (x : CandidateTraced modes rules pairs js n mid new mid_tries next_tries number rule levels env (task ∷ []) (task ∷ more) (Failed notes)) where
+        came : CandidateTraced modes rules pairs js n mid new mid_tries next_tries number rule levels env (task ∷ []) stack (Failed notes)
+        came = subst (λ (ts : List TaskOf). CandidateTraced modes rules pairs js n mid new mid_tries next_tries number rule levels env (task ∷ []) ts (Failed notes)) (sym e) x
 
-      pub failed_piled : Piled modes rules n s stack new
-      failed_piled = came.piled s later_piled
+        pub failed_piled : Piled modes rules n s stack new
+        failed_piled = came.piled s later_piled
 
-      failed_events : events_in modes rules pairs js s levels form terms.items ≡ tries_then (tries_before + came.is.0.0) (events_left modes rules pairs js new stack)
-      failed_events = goal_comes ∙ ap (tries_then tries_before) came.is.0.1 ∙ tries_both tries_before came.is.0.0 (tries_before + came.is.0.0) _ refl
+        failed_events : AfterTries tries next_tries goal_here (events_left modes rules pairs js new stack)
+        failed_events = after_then tries mid_tries next_tries goal_here premises_here (events_left modes rules pairs js new stack) after_them came.is.0
 
-      pub failed_quiet : (budget : ℕ) → IsQuiet budget (events_in modes rules pairs js s levels form terms.items) → IsQuiet budget (events_left modes rules pairs js new stack)
-      failed_quiet budget q = tries-quiet budget (tries_before + came.is.0.0) (events_left modes rules pairs js new stack) (subst (λ (es : List (Event Answer)). IsQuiet budget es) failed_events q)
+        pub failed_comes : (left : ℕ) (last : Store) (rest : List TaskOf) (t : Traced) → GoalComesTo modes rules pairs js n s last next_tries left (events_left modes rules pairs js new stack) (λ noted. noted ≡ reverse notes.items) rest t →
+            IsTraced modes rules pairs js n s last tries left levels form terms.items rest t
+        failed_comes left last rest t y =
+            comes_after modes rules pairs js n s last tries next_tries left goal_here (events_left modes rules pairs js new stack) (λ noted. noted ≡ reverse notes.items) (FailsAlong modes rules hyps (suc levels) goal) rest t failed_events
+            (λ ks w. subst (λ (zs : List ℕ). FailsAlong modes rules hyps (suc levels) goal zs) (sym w) (notes_rise (reverse notes.items) came.is.1)) y
 
-      pub failed_comes : (last : Store) (rest : List TaskOf) (t : Traced) → GoalComesTo modes rules pairs js n s last (events_left modes rules pairs js new stack) (λ noted. noted ≡ reverse notes.items) rest t →
-          IsTraced modes rules pairs js n s last levels form terms.items rest t
-      failed_comes last rest t y =
-          comes_after modes rules pairs js n s last (events_in modes rules pairs js s levels form terms.items) (events_left modes rules pairs js new stack) (tries_before + came.is.0.0) (λ noted. noted ≡ reverse notes.items) (FailsAlong modes rules hyps (suc levels) goal) rest t failed_events
-          (λ ks w. subst (λ (zs : List ℕ). FailsAlong modes rules hyps (suc levels) goal zs) (sym w) (notes_rise (reverse notes.items) came.is.1)) y
+  -- the tries up to the first candidate are more than are left
+  pub goal_spent : (mark : Mark) → IsMark s mark → (tries left : ℕ) → AreTriesTaken (length facts + number) tries left false → (tasks : List TaskOf) → IsTraced modes rules pairs js n s mid tries left levels form terms.items tasks (Halted Spent)
+  goal_spent mark k tries left taken tasks =
+      let e = found.number_is in
+      let p : number ≡ found.place = omega arith in
+      (g, spent_before found.rule (ap (slice_get rules) p ∙ found.found) mark k tries left taken)

@@ -27,6 +27,7 @@ pub mod HeadLists
 pub mod Searching
 pub mod Quiet
 pub mod Tries
+pub mod Halted
 pub mod FirstRules
 pub mod RuleEvents
 pub mod MoreFrames
@@ -37,7 +38,7 @@ pub mod PremiseTraces
 pub mod ApartTraces
 pub mod CandidateTraces
 pub mod AnswerTaken
-pub mod TaskStands
+pub mod FactsGrown
 pub mod Noted
 pub mod FoundEach
 pub mod Descending

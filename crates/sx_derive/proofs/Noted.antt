@@ -43,13 +43,13 @@ module _ (modes : Modes) (rules : List Rule) (pairs : List Pair) (js : List Judg
   abbrev goal_first : Option AnswerOf
   goal_first = first_given (events_in modes rules pairs js old goal.levels goal.form goal.terms.items)
 
-  pub noted_answer : (head : Head) (outs : Vec ℕ Global) (left : List TaskOf) → IsTraced modes rules pairs js n old new goal.levels goal.form goal.terms.items left (Answered head outs) → IsChainsCut m new last →
+  pub noted_answer : (tries spare : ℕ) (head : Head) (outs : Vec ℕ Global) (left : List TaskOf) → IsTraced modes rules pairs js n old new tries spare goal.levels goal.form goal.terms.items left (Answered head outs) → IsChainsCut m new last →
       IsFirstNoted modes rules pairs js old last goal (Answer outs)
-  noted_answer head outs left x c =
-      let e : goal_first ≡ Some (answer_in new head outs.items) = ap first_given x.3.1 ∙ tries-first x.3.0 _ in (
-        chains_cut_grows modes rules old new last m h k (piled_grows modes rules n old new left x.2) c,
-        subst (λ (ts : List Tree). IsGivenIn ts goal_first outs) (sym (ap trees c.arena)) (x.1, (head_proof (store_envs new) (store_kids new) head, e)),
+  noted_answer tries spare head outs left x c =
+      let e : goal_first ≡ Some (answer_in new head outs.items) = ap first_given x.4.2 ∙ tries-first x.4.0 _ in (
+        chains_cut_grows modes rules old new last m h k (piled_grows modes rules n old new left x.1) c,
+        subst (λ (ts : List Tree). IsGivenIn ts goal_first outs) (sym (ap trees c.arena)) (x.3, (head_proof (store_envs new) (store_kids new) head, e)),
       )
 
-  pub noted_nothing : (notes : Vec ℕ Global) (left : List TaskOf) → IsTraced modes rules pairs js n old new goal.levels goal.form goal.terms.items left (Failed notes) → IsStoreCut m new last → IsFirstNoted modes rules pairs js old last goal (Nothing notes)
-  noted_nothing notes left x c = (cut_grows modes rules old new last m h k x.0 c, (ap first_given x.1.1 ∙ tries-first x.1.0 [], x.2))
+  pub noted_nothing : (tries spare : ℕ) (notes : Vec ℕ Global) (left : List TaskOf) → IsTraced modes rules pairs js n old new tries spare goal.levels goal.form goal.terms.items left (Failed notes) → IsStoreCut m new last → IsFirstNoted modes rules pairs js old last goal (Nothing notes)
+  noted_nothing tries spare notes left x c = (cut_grows modes rules old new last m h k x.0.0 c, (ap first_given x.0.1.2 ∙ tries-first x.0.1.0 [], x.1))

@@ -183,7 +183,7 @@ module _ (modes : Modes) (rules : List Rule) (pairs : List Pair) (facts : List F
 
         module _ (new : Store) (more : List TaskOf) where
           pub reaching_more : (one : List Judgement) → AreFacts modes (store_trees old) one facts →
-              ((js : List Judgement) → AreFacts modes (store_trees now) js facts → IsTaskTurn modes rules pairs js None (length facts + length rules) now new task rest more None) → Reaching new (tries + 1) after more
+              ((js : List Judgement) → AreFacts modes (store_trees now) js facts → IsTaskTurn modes rules pairs js (length facts + length rules) now new task rest more None) → Reaching new (tries + 1) after more
           reaching_more one b x =
               let y = x one (facts_then one b) in
               let m = w.less in
@@ -195,7 +195,7 @@ module _ (modes : Modes) (rules : List Rule) (pairs : List Pair) (facts : List F
                 less = (omega arith);
                 steps = (omega arith);
                 goes = λ js a.
-                    let t = (x js (facts_then js a)).meets refl in
+                    let t = (x js (facts_then js a)).meets in
                     (further js a t.0 (events_left modes rules pairs js new more) t.1 t.2).events ∙ ap (λ (c : ℕ). tries_then c (events_left modes rules pairs js new more)) s;
               }
 
@@ -207,12 +207,12 @@ module _ (modes : Modes) (rules : List Rule) (pairs : List Pair) (facts : List F
           met_at js a es q Spent m = absurd m
           met_at js a es q Exhausted m = absurd m
 
-          pub reaching_ends : (ending : EndingOf) → ((js : List Judgement) → AreFacts modes (store_trees now) js facts → IsTaskTurn modes rules pairs js None (length facts + length rules) now new task rest more (Some ending)) →
+          pub reaching_ends : (ending : EndingOf) → ((js : List Judgement) → AreFacts modes (store_trees now) js facts → IsTaskTurn modes rules pairs js (length facts + length rules) now new task rest more (Some ending)) →
               (js : List Judgement) → AreFacts modes (store_trees old) js facts →
               IsReached modes rules pairs js (length facts + length rules) old new more budget first after (events_first js) (Ok (record { ending = ending; tries = tries + 1 }))
           reaching_ends ending x js a =
               let y = x js (facts_then js a) in
-              let t = y.meets refl in
+              let t = y.meets in
               let s : suc tries ≡ tries + 1 = omega arith in (
                 grows_then modes rules old now new w.grows y.grows,
                 y.fits,

@@ -7,12 +7,13 @@ use Rattle.sx_rules.specs.Instances.{instance}
 use Rattle.sx_rules.specs.Rules.{Judgement, Premise, holds, apart, Rule, Hypotheses, judgement_instance}
 use Rattle.sx_rules.specs.Modes.{Modes, inputs_of, outputs_of, Goal, goal_of}
 use Rattle.sx_arena.specs.Matching.{Assignment, match_all, filled}
+use Rattle.sx_derive.specs.Halting.{HaltsAfter}
 use Rattle.sx_derive.specs.Machine.{Frame, joined_proofs, premises_after, after_frame}
-use Rattle.sx_derive.specs.Quiet.{IsQuiet}
-use Rattle.sx_derive.specs.Walk.{Cause, Event, give, Answer, tries_then, then_each, when, when_matched}
+use Rattle.sx_derive.specs.Walk.{Cause, depth_spent, Event, give, stop, Answer, tries_then, then_each, when, when_matched}
 use Rattle.sx_derive.specs.Walk.{limit_passed, unless_passed, are_apart, first_values, conclude}
 use Rattle.sx_derive.specs.Walk.{after_kid, premise_events, goal_events}
-use Rattle.sx_derive.proofs.Quiet.{quiet_each, quiet_goal, quiet_left, quiet_unless}
+use Rattle.sx_derive.specs.declared.tasks.Ending.{Ending as EndingOf}
+use Rattle.sx_derive.proofs.Halted.{halts_append, halts_each, halts_as}
 use Rattle.sx_derive.proofs.Stepped.{then_each-then_each, then_each-same, then_each-when, kid_after, joined_proofs-none}
 use Rattle.sx_derive.proofs.Tries.{tries-append, tries-each}
 
@@ -62,15 +63,30 @@ module _ (modes : Modes) (rules : List Rule) (hyps : Hypotheses) (r : ℕ) (rule
       ∙ unless_none (limit_passed made) (give (by r (first_values (length rule.sorts) (filled env)) (joined_proofs kids no_more), made) ∷ []) e
       ∙ (λ i. give (by r (first_values (length rule.sorts) (filled env)) (joined_proofs-none kids i), made) ∷ [])
 
-  pub quiet_end : (budget : ℕ) (env : Assignment) (kids : Proofs) → IsQuiet budget (P [] env kids) → limit_passed (outputs_of modes (judgement_instance (filled env) rule.conclusion)) ≡ None
-  quiet_end budget env kids q =
-      let made = outputs_of modes (judgement_instance (filled env) rule.conclusion) in
-      (quiet_unless budget (limit_passed made) (give (by r (first_values (length rule.sorts) (filled env)) (joined_proofs kids no_more), made) ∷ []) (quiet_left budget (close kids (env, no_more)) [] q)).0
+  -- its outputs pass a limit
+  pub end_passed : (env : Assignment) (kids : Proofs) (cause : Cause) → limit_passed (outputs_of modes (judgement_instance (filled env) rule.conclusion)) ≡ Some cause → P [] env kids ≡ stop cause ∷ []
+  end_passed env kids cause e =
+      ap (λ x. unless_passed x (give (by r (first_values (length rule.sorts) (filled env)) (joined_proofs kids no_more), outputs_of modes (judgement_instance (filled env) rule.conclusion)) ∷ []) ++ []) e
 
-  -- a premise's goal passes no limit, and its events are quiet
-  pub quiet_asked : (budget : ℕ) (j : Judgement) (ps : List Premise) (env : Assignment) (kids : Proofs) → IsQuiet budget (P (holds j ∷ ps) env kids) →
-      (limit_passed (inputs_of modes (judgement_instance (filled env) j)) ≡ None) × IsQuiet budget (below (asked_of j env))
-  quiet_asked budget j ps env kids q = quiet_goal modes hyps below budget j ps env (quiet_each budget (close kids) (premise_events modes hyps below (holds j ∷ ps) env) q)
+  -- the inputs of a premise's goal pass a limit
+  pub after_passed : (j : Judgement) (ps : List Premise) (env : Assignment) (kids : Proofs) (cause : Cause) → limit_passed (inputs_of modes (judgement_instance (filled env) j)) ≡ Some cause → P (holds j ∷ ps) env kids ≡ stop cause ∷ []
+  after_passed j ps env kids cause e =
+      ap (λ x. then_each (close kids) (unless_passed x (then_each (after_kid (premise_events modes hyps below ps) (outputs_of modes j) env) (below (asked_of j env))))) e
+
+  -- no level is left for a premise's goal
+  pub after_deep : (j : Judgement) (ps : List Premise) (env : Assignment) (kids : Proofs) → limit_passed (inputs_of modes (judgement_instance (filled env) j)) ≡ None → levels ≡ 0 → P (holds j ∷ ps) env kids ≡ stop depth_spent ∷ []
+  unfolding goal_events
+  after_deep j ps env kids e z =
+      after_holds j ps env kids e
+      ∙ ap (λ (n : ℕ). then_each (after_frame modes rules hyps (frame j ps env kids)) (goal_events modes rules hyps n (asked_of j env))) z
+
+  -- the walk halts at a premise's goal
+  pub holds_halted : (j : Judgement) (ps : List Premise) (env : Assignment) (kids : Proofs) → limit_passed (inputs_of modes (judgement_instance (filled env) j)) ≡ None → (old new : ℕ) (ending : EndingOf) (rest : List (Event Answer)) →
+      HaltsAfter old new (below (asked_of j env)) ending → HaltsAfter old new (P (holds j ∷ ps) env kids ++ rest) ending
+  holds_halted j ps env kids e old new ending rest h =
+      let next = after_frame modes rules hyps (frame j ps env kids) in
+      halts_append old new ending (P (holds j ∷ ps) env kids) rest
+      (halts_as old new ending (P (holds j ∷ ps) env kids) (then_each next (below (asked_of j env))) (after_holds j ps env kids e) (halts_each next old new ending (below (asked_of j env)) h))
 
   module _ (j : Judgement) (ps : List Premise) (env : Assignment) (kids : Proofs) (e : limit_passed (inputs_of modes (judgement_instance (filled env) j)) ≡ None) (n : ℕ) (rest : List (Event Answer)) where
     -- its goal has no answer

@@ -32,7 +32,7 @@ use Rattle.sx_arena.specs.Matching.{Assignment}
 use Rattle.sx_rules.specs.Derivations.{Proofs}
 use Rattle.sx_derive.proofs.Stored.{grows_terms, grows_frame, grows_then}
 
-limit_is : (c : Option Cause) (l : Limit) → IsLimit c (Some l) → (cause : Cause) × (c ≡ Some cause) × IsLimit (Some cause) (Some l)
+pub limit_is : (c : Option Cause) (l : Limit) → IsLimit c (Some l) → (cause : Cause) × (c ≡ Some cause) × IsLimit (Some cause) (Some l)
 limit_is c (TooDeep n) h = (too_deep h.0, h.1, (h.0, refl, h.2))
 limit_is c (TooBig n) h = (too_big h.0, h.1, (h.0, refl, h.2))
 

@@ -25,7 +25,6 @@ use Rattle.sx_derive.specs.declared.problem.Problem.{Problem}
 use Rattle.sx_derive.specs.declared.store.Store.{Store}
 use Rattle.sx_derive.proofs.Descended.{hyps_stay, for_hyps}
 use Rattle.sx_derive.proofs.Led.{descent_weaker}
-use Rattle.sx_derive.proofs.GoalTraces.{fails_none}
 use Rattle.sx_derive.proofs.Stored.{grows_same, grows_then}
 
 -- what holds with that many levels left, at a goal in the store
@@ -47,14 +46,15 @@ module _ (modes subjects : Modes) (rules : List Rule) (hyps : Hypotheses) (budge
   Leads blame = IsStuck modes subjects rules hyps levels (spot_goal old first) first.path.items blame
 
   pub sinking_first : IsStore modes rules old → AreBelow (length (store_trees old)) first.terms.items → AreHyps modes old facts pairs hyps →
-      IsQuiet budget (goal_events modes rules hyps levels (spot_goal old first)) → (notes : List ℕ) → notes ≡ [] → S old levels notes first
-  sinking_first h b a q notes e = record {
+      IsQuiet budget (goal_events modes rules hyps levels (spot_goal old first)) → (notes : List ℕ) →
+      FailsAlong modes rules hyps levels (spot_goal old first) (reverse notes) → S old levels notes first
+  sinking_first h b a q notes f = record {
     are = a;
     few = (omega arith);
     grows = grows_same modes rules old h;
     below = b;
     quiet = q;
-    fails = fails_none modes rules hyps levels (spot_goal old first) (reverse notes) (ap reverse e);
+    fails = f;
     leads = λ blame x. x;
   }
 
@@ -124,10 +124,15 @@ module _ (modes : Modes) (rules : List Rule) (hyps : Hypotheses) (form : ℕ) (t
       pairs_are = ap (pairs_of (store_trees p.store)) f ∙ h.pairs_are;
     }
 
-    pub problem_quiet : (budget levels : ℕ) → IsQuiet budget (goal_events modes rules hyps levels goal_here) →
+    pub problem_quiet : (budget levels : ℕ) (notes : List ℕ) → IsQuiet budget (goal_events modes rules hyps levels goal_here) → FailsAlong modes rules hyps levels goal_here (reverse notes) →
         (x : Hypotheses) × AreHyps modes p.store facts pairs x × IsQuiet budget (goal_events modes rules x levels (goal_in p.store form p.terms.items))
-    problem_quiet budget levels q =
-        (hyps, problem_hyps, subst (λ (g : Goal). IsQuiet budget (goal_events modes rules hyps levels g)) (sym goal_same) q)
+        × FailsAlong modes rules x levels (goal_in p.store form p.terms.items) (reverse notes)
+    problem_quiet budget levels notes q f = (
+      hyps,
+      problem_hyps,
+      subst (λ (g : Goal). IsQuiet budget (goal_events modes rules hyps levels g)) (sym goal_same) q,
+      subst (λ (g : Goal). FailsAlong modes rules hyps levels g (reverse notes)) (sym goal_same) f,
+    )
 
     pub problem_stuck : (subjects : Modes) (levels : ℕ) (path : List ℕ) (blame : Blame) →
         ((x : Hypotheses) → AreHyps modes p.store facts pairs x → IsStuck modes subjects rules x levels (goal_in p.store form p.terms.items) path blame) →

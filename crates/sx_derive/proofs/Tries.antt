@@ -1,7 +1,7 @@
 -- Events that begin with tries.
-use Rattle.std.proofs.Common.{◌≡◌, ℕ, zero, suc, List, ◌∷◌, ◌++◌, refl, ap, arith}
+use Rattle.std.proofs.Common.{◌≡◌, ℕ, zero, suc, List, ◌∷◌, ◌++◌, refl, ap}
 use Rattle.sx_derive.specs.Walk.{Event, try, tries_then, then_each}
-use Rattle.sx_derive.specs.Quiet.{IsQuiet, first_given}
+use Rattle.sx_derive.specs.Quiet.{first_given}
 
 pub tries-append : {A : Type 0} (n : ℕ) (es fs : List (Event A)) → tries_then n es ++ fs ≡ tries_then n (es ++ fs)
 tries-append zero es fs = refl
@@ -14,8 +14,3 @@ tries-each f (suc n) es = ap (λ xs. try ∷ xs) (tries-each f n es)
 pub tries-first : {A : Type 0} (n : ℕ) (es : List (Event A)) → first_given (tries_then n es) ≡ first_given es
 tries-first zero es = refl
 tries-first (suc n) es = tries-first n es
-
-pub tries-quiet : {A : Type 0} (budget n : ℕ) (es : List (Event A)) → IsQuiet budget (tries_then n es) → IsQuiet budget es
-tries-quiet budget zero es q = q
-tries-quiet budget (suc n) es q =
-    tries-quiet budget n es (record { no_stop = λ s. q.no_stop s; few = (let l = q.few in omega arith) })

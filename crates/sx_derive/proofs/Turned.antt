@@ -1,13 +1,12 @@
 -- A turn of a walk.
-use Rattle.std.proofs.Common.{◌≡◌, ℕ, suc, ◌+◌, ◌-◌, ◌<◌, ◌≤◌, ◌⊎◌, inl, inr, Bool, true, false, List, [], ◌∷◌, ◌++◌, map, length, Option, Some, None, refl, sym, ap, ◌∙◌, arith, subst}
-use Rattle.std.specs.Prelude.{Vec, MatchOption, IsTrue, ◌↔◌}
+use Rattle.std.proofs.Common.{◌≡◌, ℕ, suc, ◌+◌, ◌-◌, ◌<◌, ◌≤◌, ◌⊎◌, inl, inr, true, false, List, [], ◌∷◌, ◌++◌, map, length, Option, Some, None, refl, sym, ap, ◌∙◌, arith, subst}
+use Rattle.std.specs.Prelude.{Vec, IsTrue}
 use Rattle.std.proofs.lemmas.Bool.{cases_lt}
 use Rattle.std.specs.declared.alloc.Global.{Global}
 use Rattle.sx_rules.specs.Rules.{Judgement, Rule, Hypotheses}
 use Rattle.sx_rules.specs.Modes.{Modes}
 use Rattle.sx_derive.specs.Passing.{task_at, ComeToNothing}
 use Rattle.sx_derive.specs.Walk.{depth_spent, Event, try, give, stop, Answer, tries_then}
-use Rattle.sx_derive.specs.Search.{walk, are_wanted, found_when, tries_of, tries_unless}
 use Rattle.sx_derive.specs.Machine.{Task, hypotheses_from, Result, nothing, stops, answers, goes_on}
 use Rattle.sx_derive.specs.Machine.{tasks_events, result_events}
 use Rattle.sx_derive.specs.declared.chains.Head.{Head}
@@ -31,15 +30,14 @@ use Rattle.sx_derive.specs.Step.{IsSearchStep}
 use Rattle.sx_derive.specs.Store.{IsStore, StoreGrows, IsMark, store_trees, store_envs, store_kids}
 use Rattle.sx_derive.specs.Store.{store_frames}
 use Rattle.sx_derive.specs.Tasks.{task_from, task_in, stacked, events_left, TaskFits, TasksFit}
-use Rattle.sx_derive.specs.Tasks.{Piled, IsNextCandidate, wanted_in, WantedBelow}
+use Rattle.sx_derive.specs.Tasks.{Piled, IsNextCandidate}
 use Rattle.sx_derive.specs.Turns.{IsTaskTurn}
-use Rattle.sx_arena.proofs.Arenas.{distinct, maps_same, below_more}
+use Rattle.sx_arena.proofs.Arenas.{maps_same, below_more}
 use Rattle.sx_derive.proofs.Chained.{frames_stay_at}
 use Rattle.sx_arena.proofs.Growing.{extends-length}
 use Rattle.sx_arena.proofs.Parted.{pairs_stay}
 use Rattle.sx_derive.proofs.Resumed.{sizes}
 use Rattle.sx_derive.proofs.Tasked.{task_hypotheses, next_given, next_rule, next_none, rule_there, judgement_there}
-use Rattle.sx_derive.proofs.Tried.{numbers_same, numbers_differ}
 
 module _ (modes : Modes) (rules : List Rule) (js : List Judgement) where
   pub stack_push : (s : Store) (xs : List TaskOf) (t : TaskOf) (ts : List Task) → stacked modes rules js s (xs ++ t ∷ []) ts ≡ task_in modes rules js s t ∷ stacked modes rules js s xs ts
@@ -128,8 +126,8 @@ events_pop modes rules pairs js s xs k h =
     ap (tasks_events modes rules (hyps_in pairs s js)) (stack_push modes rules js s xs k [])
     ∙ next_none modes rules (hyps_in pairs s js) k.levels (goal_in s k.form k.terms.items) (frames_in modes rules s k.frames) k.next h (stacked modes rules js s xs [])
 
-module _ (modes : Modes) (rules : List Rule) (pairs : List Pair) (js : List Judgement) (wanted : Option (Vec ℕ Global)) (n : ℕ) (old new : Store) (t after : TaskOf) (tasks : List TaskOf) (step : Step)
-    (hs : IsStore modes rules old) (hp : ArePairs (length (store_trees old)) pairs) (hw : WantedBelow (length (store_trees old)) wanted) (ft : TaskFits modes rules old n t) (fs : TasksFit modes rules old n tasks)
+module _ (modes : Modes) (rules : List Rule) (pairs : List Pair) (js : List Judgement) (n : ℕ) (old new : Store) (t after : TaskOf) (tasks : List TaskOf) (step : Step)
+    (hs : IsStore modes rules old) (hp : ArePairs (length (store_trees old)) pairs) (ft : TaskFits modes rules old n t) (fs : TasksFit modes rules old n tasks)
     (less : t.next < n) (x : IsNextCandidate modes rules pairs js old new t step)
     (a_next : after.next ≡ t.next + 1) (a_form : after.form ≡ t.form) (a_terms : after.terms.items ≡ t.terms.items) (a_levels : after.levels ≡ t.levels) (a_frames : after.frames ≡ t.frames) (a_mark : after.mark ≡ t.mark) where
   abbrev hyps : Hypotheses
@@ -197,7 +195,7 @@ module _ (modes : Modes) (rules : List Rule) (pairs : List Pair) (js : List Judg
       ∙ x.events (stacked modes rules js old tasks [])
       ∙ ap (λ q. try ∷ (result_events modes rules hyps q ++ tasks_events modes rules hyps left_stack)) e
 
-  pub turn_nothing : step ≡ Nothing → IsTaskTurn modes rules pairs js wanted n old new t tasks (tasks ++ after ∷ []) None
+  pub turn_nothing : step ≡ Nothing → IsTaskTurn modes rules pairs js n old new t tasks (tasks ++ after ∷ []) None
   turn_nothing e =
       let r : x.result ≡ nothing = subst (λ (y : Step). IsSearchStep modes rules js new answers y x.result) e x.is in
       let q = old_is nothing r in
@@ -205,14 +203,10 @@ module _ (modes : Modes) (rules : List Rule) (pairs : List Pair) (js : List Judg
         grows = x.grows;
         fits = left_fits;
         piled = left_piled;
-        meets = λ v. (_, q, sym left_is);
-        outcome = λ left. (
-          ap (walk (wanted_in old wanted) (suc left)) q ∙ ap (walk (wanted_in old wanted) left) (sym left_is),
-          ap (tries_of (wanted_in old wanted) (suc left)) q ∙ ap (λ es. suc (tries_of (wanted_in old wanted) left es)) (sym left_is),
-        );
+        meets = (_, q, sym left_is);
       }
 
-  pub turn_passed : (l : Limit) → step ≡ Passed l → IsTaskTurn modes rules pairs js wanted n old new t tasks (tasks ++ after ∷ []) (Some (WasPassed l))
+  pub turn_passed : (l : Limit) → step ≡ Passed l → IsTaskTurn modes rules pairs js n old new t tasks (tasks ++ after ∷ []) (Some (WasPassed l))
   turn_passed l e =
       let r = subst (λ (y : Step). IsSearchStep modes rules js new answers y x.result) e x.is in
       let q = old_is (stops r.0) r.2 in
@@ -220,14 +214,10 @@ module _ (modes : Modes) (rules : List Rule) (pairs : List Pair) (js : List Judg
         grows = x.grows;
         fits = left_fits;
         piled = left_piled;
-        meets = λ v. (_, q, (r.0, r.1, ap (λ es. stop r.0 ∷ es) (sym left_is)));
-        outcome = λ left. (
-          (r.0, r.1, ap (walk (wanted_in old wanted) (suc left)) q),
-          ap (tries_of (wanted_in old wanted) (suc left)) q,
-        );
+        meets = (_, q, (r.0, r.1, ap (λ es. stop r.0 ∷ es) (sym left_is)));
       }
 
-  pub turn_spent : step ≡ DepthSpent → IsTaskTurn modes rules pairs js wanted n old new t tasks (tasks ++ after ∷ []) (Some WasSpent)
+  pub turn_spent : step ≡ DepthSpent → IsTaskTurn modes rules pairs js n old new t tasks (tasks ++ after ∷ []) (Some WasSpent)
   turn_spent e =
       let r : x.result ≡ stops depth_spent = subst (λ (y : Step). IsSearchStep modes rules js new answers y x.result) e x.is in
       let q = old_is (stops depth_spent) r in
@@ -235,13 +225,12 @@ module _ (modes : Modes) (rules : List Rule) (pairs : List Pair) (js : List Judg
         grows = x.grows;
         fits = left_fits;
         piled = left_piled;
-        meets = λ v. (_, q, ap (λ es. stop depth_spent ∷ es) (sym left_is));
-        outcome = λ left. (ap (walk (wanted_in old wanted) (suc left)) q, ap (tries_of (wanted_in old wanted) (suc left)) q);
+        meets = (_, q, ap (λ es. stop depth_spent ∷ es) (sym left_is));
       }
 
   pub turn_goes : (form : ℕ) (terms : Vec ℕ Global) (levels frames : ℕ) (mark : Mark) (more : TaskOf) → IsMark new mark → step ≡ Goes form terms levels frames →
       more ≡ record { next = 0; form = form; terms = terms; levels = levels; frames = frames; mark = mark } →
-      IsTaskTurn modes rules pairs js wanted n old new t tasks ((tasks ++ after ∷ []) ++ more ∷ []) None
+      IsTaskTurn modes rules pairs js n old new t tasks ((tasks ++ after ∷ []) ++ more ∷ []) None
   turn_goes form terms levels frames mark more mk e f =
       let r = subst (λ (y : Step). IsSearchStep modes rules js new answers y x.result) e x.is in
       let goal = goal_in new form terms.items in
@@ -262,74 +251,25 @@ module _ (modes : Modes) (rules : List Rule) (pairs : List Pair) (js : List Judg
         fits = k;
         piled = λ first c p u v g. subst (λ (m : TaskOf). Piled modes rules n first ((tasks ++ after ∷ []) ++ m ∷ []) new) (sym f)
             (piled_push modes rules n first new new (tasks ++ after ∷ []) goes_to (left_piled first c p u v g) mk goes_fits (grows_same modes rules new x.grows.store));
-        meets = λ v. (_, q, sym s);
-        outcome = λ left. (
-          ap (walk (wanted_in old wanted) (suc left)) q ∙ ap (walk (wanted_in old wanted) left) (sym s),
-          ap (tries_of (wanted_in old wanted) (suc left)) q ∙ ap (λ es. suc (tries_of (wanted_in old wanted) left es)) (sym s),
-        );
+        meets = (_, q, sym s);
       }
 
-  module _ (head : Head) (outs : Vec ℕ Global) (e : step ≡ Done head outs) where
-    told : HeadFits (length (store_envs new)) (length (store_kids new)) head × AreBelow (length (store_trees new)) outs.items × (x.result ≡ answers (answer_in new head outs.items))
-    told = subst (λ (y : Step). IsSearchStep modes rules js new answers y x.result) e x.is
-
-    pub done_below : AreBelow (length (store_trees new)) outs.items
-    done_below = told.1
-
-    pub turn_found : are_wanted (wanted_in old wanted) (map (tree_at (store_trees new)) outs.items) ≡ true → IsTaskTurn modes rules pairs js wanted n old new t tasks (tasks ++ after ∷ []) (Some (Found head outs))
-    turn_found w =
-        let q = old_is (answers (answer_in new head outs.items)) told.2 in
-        record {
-          grows = x.grows;
-          fits = left_fits;
-          piled = left_piled;
-          meets = λ v. (_, q, (told.0, told.1, ap (λ es. give (answer_in new head outs.items) ∷ es) (sym left_is)));
-          outcome = λ left. (
-            (told.0, told.1, ap (walk (wanted_in old wanted) (suc left)) q ∙ ap (λ b. found_when b (answer_in new head outs.items) (walk (wanted_in old wanted) left (tasks_events modes rules hyps left_stack))) w),
-            ap (tries_of (wanted_in old wanted) (suc left)) q ∙ ap (λ b. suc (tries_unless b (tries_of (wanted_in old wanted) left (tasks_events modes rules hyps left_stack)))) w,
-          );
-        }
-
-    pub turn_other : are_wanted (wanted_in old wanted) (map (tree_at (store_trees new)) outs.items) ≡ false → IsTaskTurn modes rules pairs js wanted n old new t tasks (tasks ++ after ∷ []) None
-    turn_other w =
-        let q = old_is (answers (answer_in new head outs.items)) told.2 in
-        record {
-          grows = x.grows;
-          fits = left_fits;
-          piled = left_piled;
-          meets = λ v. absurd (let e : true ≡ false = ap (λ u. are_wanted (wanted_in old u) (map (tree_at (store_trees new)) outs.items)) (sym v) ∙ w in cc);
-          outcome = λ left. (
-            ap (walk (wanted_in old wanted) (suc left)) q ∙ ap (λ b. found_when b (answer_in new head outs.items) (walk (wanted_in old wanted) left (tasks_events modes rules hyps left_stack))) w ∙ ap (walk (wanted_in old wanted) left) (sym left_is),
-            ap (tries_of (wanted_in old wanted) (suc left)) q ∙ ap (λ b. suc (tries_unless b (tries_of (wanted_in old wanted) left (tasks_events modes rules hyps left_stack)))) w
-                ∙ ap (λ es. suc (tries_of (wanted_in old wanted) left es)) (sym left_is),
-          );
-        }
+  pub turn_found : (head : Head) (outs : Vec ℕ Global) → step ≡ Done head outs → IsTaskTurn modes rules pairs js n old new t tasks (tasks ++ after ∷ []) (Some (Found head outs))
+  turn_found head outs e =
+      let r : HeadFits (length (store_envs new)) (length (store_kids new)) head × AreBelow (length (store_trees new)) outs.items × (x.result ≡ answers (answer_in new head outs.items)) =
+      subst (λ (y : Step). IsSearchStep modes rules js new answers y x.result) e x.is in
+      let q = old_is (answers (answer_in new head outs.items)) r.2 in
+      record {
+        grows = x.grows;
+        fits = left_fits;
+        piled = left_piled;
+        meets = (_, q, (r.0, r.1, ap (λ es. give (answer_in new head outs.items) ∷ es) (sym left_is)));
+      }
 
 -- a turn with the tasks that it leaves by another name
-pub turned_on : (modes : Modes) (rules : List Rule) (pairs : List Pair) (js : List Judgement) (wanted : Option (Vec ℕ Global)) (n : ℕ) (old new : Store) (t : TaskOf) (before more left_over : List TaskOf) (o : Option EndingOf) → left_over ≡ before ++ more →
-    IsTaskTurn modes rules pairs js wanted n old new t before (before ++ more) o → IsTaskTurn modes rules pairs js wanted n old new t before left_over o
-turned_on modes rules pairs js wanted n old new t before more left_over o e h = subst (λ (ts : List TaskOf). IsTaskTurn modes rules pairs js wanted n old new t before ts o) (sym e) h
-
--- the outputs are wanted just where the numbers are the same
-pub wanted_true : (modes : Modes) (rules : List Rule) (old new : Store) (w : Vec ℕ Global) (outs : List ℕ) → StoreGrows modes rules old new → AreBelow (length (store_trees old)) w.items → outs ≡ w.items → are_wanted (wanted_in old (Some w)) (map (tree_at (store_trees new)) outs) ≡ true
-wanted_true modes rules old new w outs g b e =
-    ap (λ ts. are_wanted (Some ts) (map (tree_at (store_trees new)) outs)) (sym (maps_same (store_trees old) (store_trees new) g.trees w.items b)) ∙ numbers_same (store_trees new) outs w.items e
-
-pub wanted_false : (modes : Modes) (rules : List Rule) (old new : Store) (w : Vec ℕ Global) (outs : List ℕ) → StoreGrows modes rules old new → AreBelow (length (store_trees old)) w.items → AreBelow (length (store_trees new)) outs → (outs ≡ w.items → ⊥) → are_wanted (wanted_in old (Some w)) (map (tree_at (store_trees new)) outs) ≡ false
-wanted_false modes rules old new w outs g b c d =
-    ap (λ ts. are_wanted (Some ts) (map (tree_at (store_trees new)) outs)) (sym (maps_same (store_trees old) (store_trees new) g.trees w.items b))
-    ∙ numbers_differ (store_trees new) (distinct new.arena.cells g.store.arena) outs w.items c (below_more (length (store_trees old)) (length (store_trees new)) (extends-length (store_trees old) (store_trees new) g.trees) w.items b) d
-
--- what the test says, by cases on what is wanted
-pub tested_true : (modes : Modes) (rules : List Rule) (old new : Store) (wanted : Option (Vec ℕ Global)) (outs : List ℕ) (b : Bool) → StoreGrows modes rules old new → WantedBelow (length (store_trees old)) wanted →
-    MatchOption wanted (b ≡ true) (λ w. IsTrue b ↔ (outs ≡ w.items)) → b ≡ true → are_wanted (wanted_in old wanted) (map (tree_at (store_trees new)) outs) ≡ true
-tested_true modes rules old new None outs b g l t e = refl
-tested_true modes rules old new (Some w) outs b g l t e = wanted_true modes rules old new w outs g l (t.0 e)
-
-pub tested_false : (modes : Modes) (rules : List Rule) (old new : Store) (wanted : Option (Vec ℕ Global)) (outs : List ℕ) (b : Bool) → StoreGrows modes rules old new → WantedBelow (length (store_trees old)) wanted → AreBelow (length (store_trees new)) outs →
-    MatchOption wanted (b ≡ true) (λ w. IsTrue b ↔ (outs ≡ w.items)) → b ≡ false → are_wanted (wanted_in old wanted) (map (tree_at (store_trees new)) outs) ≡ false
-tested_false modes rules old new None outs b g l c t e = (let q : true ≡ false = sym t ∙ e in cc)
-tested_false modes rules old new (Some w) outs b g l c t e = wanted_false modes rules old new w outs g l c (λ f. let q : true ≡ false = sym (t.1 f) ∙ e in let z : ⊥ = cc in z)
+pub turned_on : (modes : Modes) (rules : List Rule) (pairs : List Pair) (js : List Judgement) (n : ℕ) (old new : Store) (t : TaskOf) (before more left_over : List TaskOf) (o : Option EndingOf) → left_over ≡ before ++ more →
+    IsTaskTurn modes rules pairs js n old new t before (before ++ more) o → IsTaskTurn modes rules pairs js n old new t before left_over o
+turned_on modes rules pairs js n old new t before more left_over o e h = subst (λ (ts : List TaskOf). IsTaskTurn modes rules pairs js n old new t before ts o) (sym e) h
 
 pub not_less : (m n : ℕ) → (m < n → IsTrue false) → n ≤ m
 not_less m n h = go (cases_lt m n)

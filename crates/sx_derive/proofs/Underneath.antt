@@ -21,7 +21,7 @@ use Rattle.sx_derive.specs.declared.chains.Waiting.{Waiting}
 use Rattle.sx_derive.specs.declared.store.Store.{Store}
 use Rattle.sx_derive.specs.declared.tasks.Task.{Task as TaskOf}
 use Rattle.sx_derive.specs.declared.trace.Traced.{Traced}
-use Rattle.sx_derive.specs.declared.trace.Traced.TheVariants.{Answered, Failed}
+use Rattle.sx_derive.specs.declared.trace.Traced.TheVariants.{Answered, Failed, Halted}
 use Rattle.sx_derive.proofs.Chained.{frames_stay_at}
 use Rattle.sx_derive.proofs.Handed.{frames_until}
 use Rattle.sx_derive.proofs.MoreFrames.{until_at, grows_back, piled_back, events_back}
@@ -95,18 +95,18 @@ module _ (modes : Modes) (rules : List Rule) (pairs : List Pair) (s : Store) (c 
     grown : StoreGrows modes rules base u → StoreGrows modes rules s (until_at s.until u)
     grown g = grows_then modes rules s more (until_at s.until u) pushed.0 (grows_back modes rules base s.until pushed.0.store full base u (grows_same modes rules base under_store) g)
 
-    pub under_traced : (t : Traced) → IsTraced modes rules pairs js n base u levels form terms left t → IsTracedUnder modes rules pairs js n s (until_at s.until u) c levels form terms left t
-    under_traced (Failed notes) x = (grown x.0, x.1, x.2, x.3)
-    under_traced (Answered head outs) x =
-        let p = x.2 in
+    pub under_traced : (old new : ℕ) (t : Traced) → IsTraced modes rules pairs js n base u old new levels form terms left t → IsTracedUnder modes rules pairs js n s (until_at s.until u) old new c levels form terms left t
+    under_traced old new (Failed notes) x = ((grown x.0.0, x.0.1, x.0.2), x.1)
+    under_traced old new (Halted ending) x = (grown x.0, x.1)
+    under_traced old new (Answered head outs) x =
+        let p = x.1 in
         let g = piled_grows modes rules n base u left p in (
-          x.0,
-          x.1,
+          x.2,
+          x.3,
           piled_earlier modes rules n s more (until_at s.until u) left pushed.0 (piled_back modes rules base s.until pushed.0.store full n base u left (grows_same modes rules base under_store) p),
           (
-            x.3.0,
             events_left modes rules pairs js u left,
-            x.3.1,
+            x.4,
             sym (events_back modes rules base s.until pushed.0.store full u g n pairs js left (piled_fits modes rules n base u left p)
                 ∙ (λ i. then_each (after_frames modes rules (record { judgements = js; pairs = pairs_stay (store_trees s) (store_trees u) g.trees pairs hp i }) (frame_there u g i)) (events_left modes rules pairs js u left))
                 ∙ one_frame (hyps_in pairs s js) (frame_of modes rules (store_envs s) (store_kids s) c) (events_left modes rules pairs js u left)),

@@ -1,48 +1,50 @@
--- A walk on its way.
-use Rattle.std.proofs.Common.{◌≡◌, ℕ, zero, suc, ◌+◌, ◌-◌, ◌<◌, ◌≤◌, List, [], ◌∷◌, ◌++◌, length, Option, Some, None, refl, sym, ap, ◌∙◌, arith, subst}
-use Rattle.std.specs.Prelude.{Vec, Result, Ok, Err}
+-- A walk that goes on from what its events have come to.
+use Rattle.std.proofs.Common.{◌≡◌, ℕ, zero, suc, ◌+◌, ◌<◌, Bool, true, false, List, [], ◌∷◌, map, length, reverse, Option, Some, None, refl, sym, ap, ◌∙◌, arith, subst}
+use Rattle.std.specs.Prelude.{Vec, MatchOption, IsTrue, ◌↔◌, not}
 use Rattle.std.specs.declared.alloc.Global.{Global}
-use Rattle.sx_term.specs.declared.no_memory.NoMemory.{NoMemory}
 use Rattle.sx_term.specs.Tree.{Tree}
-use Rattle.sx_rules.specs.Rules.{Judgement, Rule}
-use Rattle.sx_rules.specs.Modes.{Modes}
-use Rattle.sx_derive.specs.Walk.{Event, try, Answer, tries_then}
-use Rattle.sx_derive.specs.Search.{walk, tries_of}
-use Rattle.sx_arena.specs.declared.fact.Fact.{Fact}
-use Rattle.sx_arena.specs.declared.pairs.Pair.{Pair}
-use Rattle.sx_derive.specs.declared.store.Store.{Store}
-use Rattle.sx_derive.specs.declared.tasks.Task.{Task as TaskOf}
-use Rattle.sx_derive.specs.declared.tasks.Ending.{Ending as EndingOf}
-use Rattle.sx_derive.specs.declared.tasks.Ending.TheVariants.{Spent, Exhausted}
-use Rattle.sx_arena.specs.Arena.{AreBelow, Extends}
-use Rattle.sx_derive.specs.Candidates.{goal_in, AreFacts}
-use Rattle.sx_derive.specs.Handing.{hyps_in}
-use Rattle.sx_derive.specs.Store.{IsStore, StoreGrows, IsMark, IsStoreCut, store_trees}
-use Rattle.sx_derive.specs.Machine.{Frame, tasks_events}
-use Rattle.sx_derive.specs.Tasks.{task_from, events_left, TaskFits, TasksFit, Piled, wanted_in, WantedBelow}
-use Rattle.sx_derive.specs.Tasks.{IsEnding, IsTryOutcome}
-use Rattle.sx_derive.specs.Turns.{IsTaskPopped, IsTaskTurn}
-use Rattle.sx_derive.specs.Walked.{events_in, IsWalked}
-use Rattle.sx_arena.proofs.Facts.{facts_stay}
-use Rattle.sx_arena.proofs.Arenas.{maps_same, below_more}
-use Rattle.sx_derive.proofs.Stored.{grows_same, grows_then}
-use Rattle.sx_derive.proofs.Tasked.{task_starts, facts_length}
-use Rattle.sx_derive.proofs.Turned.{fits_more, fits_push, piled_grows, piled_fits, piled_push, piled_top, events_stay, events_try}
-use Rattle.sx_derive.proofs.Cut.{cut_grows}
-use Rattle.sx_derive.proofs.Handed.{frames_until}
+use Rattle.sx_rules.specs.Rules.{Judgement, Rule, Hypotheses}
+use Rattle.sx_rules.specs.Modes.{Modes, Goal}
+use Rattle.sx_arena.specs.Arena.{tree_at, AreBelow}
 use Rattle.sx_arena.specs.Pairs.{ArePairs}
+use Rattle.sx_arena.specs.Views.{rules_of, set_modes}
+use Rattle.sx_arena.specs.declared.pairs.Pair.{Pair}
+use Rattle.sx_arena.proofs.Arenas.{distinct, maps_same, below_more}
 use Rattle.sx_arena.proofs.Growing.{extends-length}
-use Rattle.sx_arena.proofs.Parted.{pairs_more_terms}
+use Rattle.sx_derive.specs.Candidates.{goal_in}
+use Rattle.sx_derive.specs.Failing.{FailsAlong}
+use Rattle.sx_derive.specs.Givens.{HasFacts}
+use Rattle.sx_derive.specs.Halting.{AfterTries, HaltsWith, HaltsAfter}
+use Rattle.sx_derive.specs.Handing.{hyps_in, answer_in}
+use Rattle.sx_derive.specs.Machine.{Frame, tasks_events}
+use Rattle.sx_derive.specs.Runs.{IsRunTo, IsRunBy, StandFrom, TakesTry, candidates_of, left_by}
+use Rattle.sx_derive.specs.Search.{are_wanted, found_when, walk, tries_of, tries_unless}
+use Rattle.sx_derive.specs.Store.{IsStore, StoreGrows, IsMark, store_trees}
+use Rattle.sx_derive.specs.Tasks.{task_from, events_left, TasksFit, Piled, wanted_in, WantedBelow, IsEnding}
+use Rattle.sx_derive.specs.Walk.{Event, try, give, Answer, tries_then}
+use Rattle.sx_derive.specs.Walked.{events_in, IsUnwanted, HasComeTo, WalkEnds}
+use Rattle.sx_derive.specs.declared.chains.Head.{Head}
+use Rattle.sx_derive.specs.declared.given.Given.{Given}
 use Rattle.sx_derive.specs.declared.store.Mark.{Mark}
+use Rattle.sx_derive.specs.declared.store.Store.{Store}
+use Rattle.sx_derive.specs.declared.tasks.Ending.{Ending as EndingOf}
+use Rattle.sx_derive.specs.declared.tasks.Ending.TheVariants.{Found, Passed, DepthSpent}
+use Rattle.sx_derive.specs.declared.tasks.Ending.TheVariants.{Spent, Exhausted}
+use Rattle.sx_derive.specs.declared.tasks.Task.{Task as TaskOf}
+use Rattle.sx_derive.proofs.Handed.{frames_until}
+use Rattle.sx_derive.proofs.Stored.{grows_same}
+use Rattle.sx_derive.proofs.Tasked.{task_starts}
+use Rattle.sx_derive.proofs.Tried.{numbers_same, numbers_differ}
 
--- more terms change nothing of what is wanted
-pub wanted_stays : (s t : Store) → Extends (store_trees s) (store_trees t) → (w : Option (Vec ℕ Global)) → WantedBelow (length (store_trees s)) w → wanted_in t w ≡ wanted_in s w
-wanted_stays s t x None b = refl
-wanted_stays s t x (Some w) b = ap Some (maps_same (store_trees s) (store_trees t) x w.items b)
+-- the outputs are wanted just where the numbers are the same
+wanted_true : (modes : Modes) (rules : List Rule) (old new : Store) (w : Vec ℕ Global) (outs : List ℕ) → StoreGrows modes rules old new → AreBelow (length (store_trees old)) w.items → outs ≡ w.items → are_wanted (wanted_in old (Some w)) (map (tree_at (store_trees new)) outs) ≡ true
+wanted_true modes rules old new w outs g b e =
+    ap (λ ts. are_wanted (Some ts) (map (tree_at (store_trees new)) outs)) (sym (maps_same (store_trees old) (store_trees new) g.trees w.items b)) ∙ numbers_same (store_trees new) outs w.items e
 
-pub wanted_below : (m n : ℕ) → m ≤ n → (w : Option (Vec ℕ Global)) → WantedBelow m w → WantedBelow n w
-wanted_below m n l None b = tt
-wanted_below m n l (Some w) b = below_more m n l w.items b
+wanted_false : (modes : Modes) (rules : List Rule) (old new : Store) (w : Vec ℕ Global) (outs : List ℕ) → StoreGrows modes rules old new → AreBelow (length (store_trees old)) w.items → AreBelow (length (store_trees new)) outs → (outs ≡ w.items → ⊥) → are_wanted (wanted_in old (Some w)) (map (tree_at (store_trees new)) outs) ≡ false
+wanted_false modes rules old new w outs g b c d =
+    ap (λ ts. are_wanted (Some ts) (map (tree_at (store_trees new)) outs)) (sym (maps_same (store_trees old) (store_trees new) g.trees w.items b))
+    ∙ numbers_differ (store_trees new) (distinct new.arena.cells g.store.arena) outs w.items c (below_more (length (store_trees old)) (length (store_trees new)) (extends-length (store_trees old) (store_trees new) g.trees) w.items b) d
 
 -- tries that come to nothing are walked over
 walk_tries : (wanted : Option (List Tree)) (n left before : ℕ) (es : List (Event Answer)) → before ≡ n + left → walk wanted before (tries_then n es) ≡ walk wanted left es
@@ -58,177 +60,183 @@ tries_tries wanted zero left before es e =
 tries_tries wanted (suc n) left zero es e = absurd (omega arith)
 tries_tries wanted (suc n) left (suc before) es e = let h = tries_tries wanted n left before es (omega arith) in omega arith
 
-module _ (modes : Modes) (rules : List Rule) (pairs : List Pair) (facts : List Fact) (wanted : Option (Vec ℕ Global)) (old : Store) (budget : ℕ) (start : List TaskOf) (first : ℕ) where
-  abbrev events_first : List Judgement → List (Event Answer)
-  events_first js = events_left modes rules pairs js old start
+-- what comes after some tries is walked with the tries that are left
+module _ (wanted : Option (List Tree)) where
+  after_walk : (old left : ℕ) (es rest : List (Event Answer)) → AfterTries old left es rest → walk wanted old es ≡ walk wanted left rest
+  after_walk old left es rest h = ap (walk wanted old) h.2 ∙ walk_tries wanted h.0 left old rest h.1
 
-  -- what is left of the walk with the tries that are left
-  pub record Walking (now : Store) (left last : ℕ) (tasks : List TaskOf) : Type 0 where
-    pub grows : StoreGrows modes rules old now
-    pub fits : TasksFit modes rules now (length facts + length rules) tasks
-    pub piled : Piled modes rules (length facts + length rules) old tasks now
-    pub less : left ≤ budget
-    pub steps : last ≡ first + (budget - left)
-    pub walks : (js : List Judgement) → AreFacts modes (store_trees old) js facts →
-        walk (wanted_in old wanted) budget (events_first js) ≡ walk (wanted_in old wanted) left (events_left modes rules pairs js now tasks)
-    pub tries : (js : List Judgement) → AreFacts modes (store_trees old) js facts →
-        tries_of (wanted_in old wanted) budget (events_first js) ≡ (budget - left) + tries_of (wanted_in old wanted) left (events_left modes rules pairs js now tasks)
+  after_tries : (old left : ℕ) (es rest : List (Event Answer)) → AfterTries old left es rest → tries_of wanted old es + left ≡ old + tries_of wanted left rest
+  after_tries old left es rest h =
+      let t : tries_of wanted old es ≡ h.0 + tries_of wanted left rest = ap (tries_of wanted old) h.2 ∙ tries_tries wanted h.0 left old rest h.1 in
+      let e = h.1 in
+      omega arith
 
-  pub walking_first : IsStore modes rules old → Piled modes rules (length facts + length rules) old start old → Walking old budget first start
-  walking_first h p = record {
-    grows = grows_same modes rules old h;
-    fits = piled_fits modes rules (length facts + length rules) old old start p;
-    piled = p;
-    less = (omega arith);
-    steps = (omega arith);
-    walks = λ js a. refl;
-    tries = λ js a. let n = tries_of (wanted_in old wanted) budget (events_first js) in let z : n ≡ (budget - budget) + n = omega arith in z;
-  }
+  -- where the events halt the walk
+  halts_walk : (s : Store) (left : ℕ) (ending : EndingOf) (es : List (Event Answer)) → HaltsWith left ending es → IsEnding s ending (walk wanted left es) × (tries_of wanted left es ≡ 0)
+  halts_walk s left (Passed limit) es h = subst (λ xs. IsEnding s (Passed limit) (walk wanted left xs) × (tries_of wanted left xs ≡ 0)) (sym h.2.1) ((h.0, h.1, refl), refl)
+  halts_walk s left DepthSpent es h = subst (λ xs. IsEnding s DepthSpent (walk wanted left xs) × (tries_of wanted left xs ≡ 0)) (sym h.1) (refl, refl)
+  halts_walk s left Spent es h =
+      subst (λ xs. IsEnding s Spent (walk wanted left xs) × (tries_of wanted left xs ≡ 0)) (sym h.1.1)
+      (subst (λ (k : ℕ). IsEnding s Spent (walk wanted k (try ∷ h.1.0)) × (tries_of wanted k (try ∷ h.1.0) ≡ 0)) (sym h.0) (refl, refl))
+  halts_walk s left (Found head outs) es h = absurd h
+  halts_walk s left Exhausted es h = absurd h
 
-  module _ (now : Store) (left last : ℕ) (tasks : List TaskOf) (w : Walking now left last tasks) where
-    pub facts_now : (js : List Judgement) → AreFacts modes (store_trees old) js facts → AreFacts modes (store_trees now) js facts
-    facts_now js a = facts_stay modes (store_trees old) (store_trees now) w.grows.trees js facts a
+  -- how the walk ends that goes on with those events
+  ends_after : (s : Store) (old left : ℕ) (ending : EndingOf) (es rest : List (Event Answer)) → AfterTries old left es rest → IsEnding s ending (walk wanted left rest) × (tries_of wanted left rest ≡ 0) →
+      IsEnding s ending (walk wanted old es) × (old ≡ tries_of wanted old es + left)
+  ends_after s old left ending es rest h e =
+      let t = after_tries old left es rest h in
+      let z = e.1 in
+      (subst (IsEnding s ending) (sym (after_walk old left es rest h)) e.0, (omega arith))
 
-    -- after tries that come to nothing
-    module _ (n then_left then_last : ℕ) (few : n ≤ left) (e : then_left ≡ left - n) (f : then_last ≡ last + n) where
-      pub walking_popped : (one : List Judgement) → AreFacts modes (store_trees old) one facts → (task : TaskOf) (rest : List TaskOf) →
-          ((js : List Judgement) → AreFacts modes (store_trees now) js facts → IsTaskPopped modes rules pairs js now (length facts + length rules) n tasks rest (Some task)) → Walking now then_left then_last (rest ++ task ∷ [])
-      walking_popped one b task rest p =
-          let v = p one (facts_now one b) in
-          let x = w.less in
-          let y = w.steps in
-          let z : left ≡ n + then_left = omega arith in
-          record {
-            grows = w.grows;
-            fits = v.2;
-            piled = v.3 old w.piled;
-            less = (omega arith);
-            steps = (omega arith);
-            walks = λ js a.
-                w.walks js a
-                ∙ ap (walk (wanted_in old wanted) left) (p js (facts_now js a)).1
-                ∙ walk_tries (wanted_in old wanted) n then_left left (events_left modes rules pairs js now (rest ++ task ∷ [])) z;
-            tries = λ js a.
-                let k = tries_of (wanted_in old wanted) then_left (events_left modes rules pairs js now (rest ++ task ∷ [])) in
-                let q : tries_of (wanted_in old wanted) budget (events_first js) ≡ (budget - left) + (n + k) =
-                w.tries js a
-                ∙ ap (λ es. (budget - left) + tries_of (wanted_in old wanted) left es) (p js (facts_now js a)).1
-                ∙ ap (λ (m : ℕ). (budget - left) + m) (tries_tries (wanted_in old wanted) n then_left left (events_left modes rules pairs js now (rest ++ task ∷ [])) z) in
-                (let r = q in omega arith);
-          }
+-- the walk that halts ends so
+pub halts_ends : (modes : Modes) (rules : List Rule) (old new : Store) (wanted : Option (Vec ℕ Global)) (budget left : ℕ) (es : List (Event Answer)) (ending : EndingOf) → StoreGrows modes rules old new → HaltsAfter budget left es ending →
+    WalkEnds modes rules old new wanted budget left es ending
+halts_ends modes rules old new wanted budget left es ending g h =
+    let e = ends_after (wanted_in old wanted) new budget left ending es h.0 h.1 (halts_walk (wanted_in old wanted) new left ending h.0 h.2) in
+    (g, e.0, e.1)
 
-      pub walking_end : (rest : List TaskOf) → ((js : List Judgement) → AreFacts modes (store_trees now) js facts → IsTaskPopped modes rules pairs js now (length facts + length rules) n tasks rest None) →
-          (js : List Judgement) → AreFacts modes (store_trees old) js facts → IsWalked modes rules old now wanted budget (events_first js) first then_last (Ok Exhausted)
-      walking_end rest p js a =
-          let z : left ≡ n + then_left = omega arith in
-          let t : tries_of (wanted_in old wanted) budget (events_first js) ≡ (budget - left) + (n + 0) =
-          w.tries js a ∙ ap (λ es. (budget - left) + tries_of (wanted_in old wanted) left es) (p js (facts_now js a)).0 ∙ ap (λ (m : ℕ). (budget - left) + m) (tries_tries (wanted_in old wanted) n then_left left [] z) in
-          let s = w.steps in (
-            w.grows,
-            w.walks js a ∙ ap (walk (wanted_in old wanted) left) (p js (facts_now js a)).0 ∙ walk_tries (wanted_in old wanted) n then_left left [] z,
-            (omega arith),
-          )
+-- the walk that comes to the end of its events
+pub exhausted_ends : (modes : Modes) (rules : List Rule) (pairs : List Pair) (js : List Judgement) (n : ℕ) (old new : Store) (wanted : Option (Vec ℕ Global)) (budget left : ℕ) (es : List (Event Answer)) (tasks : List TaskOf) →
+    IsRunTo modes rules pairs js n old new budget left es tasks Exhausted → WalkEnds modes rules old new wanted budget left es Exhausted
+exhausted_ends modes rules pairs js n old new wanted budget left es tasks r =
+    let e = ends_after (wanted_in old wanted) new budget left Exhausted es [] r.1 (refl, refl) in
+    (r.0, e.0, e.1)
 
-  module _ (now : Store) (left last : ℕ) (task : TaskOf) (rest : List TaskOf) (w : Walking now left last (rest ++ task ∷ [])) where
-    then_facts : (js : List Judgement) → AreFacts modes (store_trees old) js facts → AreFacts modes (store_trees now) js facts
-    then_facts js a = facts_now now left last (rest ++ task ∷ []) w js a
+module _ (modes : Modes) (rules : List Rule) (pairs : List Pair) (js : List Judgement) (n : ℕ) (first s : Store) (wanted : Option (Vec ℕ Global)) (hw : WantedBelow (length (store_trees first)) wanted) where
+  -- an answer is wanted, unless its outputs are others
+  wanted_unless : StoreGrows modes rules first s → (head : Head) (outs : Vec ℕ Global) → AreBelow (length (store_trees s)) outs.items → (w : Option (Vec ℕ Global)) → WantedBelow (length (store_trees first)) w → (IsUnwanted w (Found head outs) → ⊥) →
+      are_wanted (wanted_in first w) (map (tree_at (store_trees s)) outs.items) ≡ true
+  wanted_unless g head outs b None l u = refl
+  wanted_unless g head outs b (Some w) l u = go (are_wanted (wanted_in first (Some w)) (map (tree_at (store_trees s)) outs.items)) refl
+    where
+      go : (x : Bool) → are_wanted (wanted_in first (Some w)) (map (tree_at (store_trees s)) outs.items) ≡ x → are_wanted (wanted_in first (Some w)) (map (tree_at (store_trees s)) outs.items) ≡ true
+      go true e = e
+      go false e = absurd (u (λ q. let f : true ≡ false = sym (wanted_true modes rules first s w outs.items g l q) ∙ e in let z : ⊥ = cc in z))
 
-    -- the store that there was when the task was made
-    abbrev Top : Type 0
-    Top = (c : Store) × (Piled modes rules (length facts + length rules) old rest c × IsMark c task.mark × TaskFits modes rules c (length facts + length rules) task × StoreGrows modes rules c now)
+  -- the walk ends where its events have come to, unless that is an answer that is not wanted
+  pub come_ends : (budget left : ℕ) (es : List (Event Answer)) (tasks : List TaskOf) (ending : EndingOf) → IsRunTo modes rules pairs js n first s budget left es tasks ending → (IsUnwanted wanted ending → ⊥) → WalkEnds modes rules first s wanted budget left es ending
+  come_ends budget left es tasks (Found head outs) r u =
+      let w = wanted_in first wanted in
+      let rest = events_left modes rules pairs js s tasks in
+      let q = wanted_unless r.0 head outs r.3 wanted hw u in
+      let f = ap (λ b. found_when b (answer_in s head outs.items) (walk w left rest)) q in
+      let t = ap (λ b. tries_unless b (tries_of w left rest)) q in
+      let e = ends_after w s budget left (Found head outs) es (give (answer_in s head outs.items) ∷ rest) r.4 ((r.2, r.3, f), t) in
+      (r.0, e.0, e.1)
+  come_ends budget left es tasks Exhausted r u = exhausted_ends modes rules pairs js n first s wanted budget left es tasks r
+  come_ends budget left es tasks (Passed limit) r u = halts_ends modes rules first s wanted budget left es (Passed limit) r.0 r.1
+  come_ends budget left es tasks DepthSpent r u = halts_ends modes rules first s wanted budget left es DepthSpent r.0 r.1
+  come_ends budget left es tasks Spent r u = halts_ends modes rules first s wanted budget left es Spent r.0 r.1
 
-    top : Top
-    top = piled_top modes rules (length facts + length rules) old now rest task w.piled
+-- the walk of events goes on as that of others
+pub record GoesAs (wanted : Option (List Tree)) (budget : ℕ) (es : List (Event Answer)) (then_budget : ℕ) (then_es : List (Event Answer)) : Type 0 where
+  pub walks : walk wanted budget es ≡ walk wanted then_budget then_es
+  pub tries : tries_of wanted budget es + then_budget ≡ budget + tries_of wanted then_budget then_es
 
-    -- where the chains are cut back to it nothing changes
-    pub walking_cut : ArePairs (length (store_trees old)) pairs → (cut : Store) → IsStoreCut task.mark now cut → Walking cut left last (rest ++ task ∷ [])
-    walking_cut hp cut k =
-        let n = length facts + length rules in
-        let t = top in
-        let c = t.0 in
-        let oc = piled_grows modes rules n old c rest t.1.0 in
-        let g = cut_grows modes rules c now cut task.mark oc.store t.1.1 t.1.3 k in
-        let hc = pairs_more_terms (length (store_trees old)) (length (store_trees c)) (extends-length (store_trees old) (store_trees c) oc.trees) pairs hp in
-        let fc = fits_push modes rules n c rest task (piled_fits modes rules n old c rest t.1.0) t.1.2 in
-        let same : (js : List Judgement) → AreFacts modes (store_trees old) js facts → events_left modes rules pairs js now (rest ++ task ∷ []) ≡ events_left modes rules pairs js cut (rest ++ task ∷ []) =
-        λ js a. events_stay modes rules n pairs js c now (rest ++ task ∷ []) hc t.1.3 fc ∙ sym (events_stay modes rules n pairs js c cut (rest ++ task ∷ []) hc g fc) in
-        record {
-          grows = grows_then modes rules old c cut oc g;
-          fits = fits_more modes rules n c cut (rest ++ task ∷ []) g fc;
-          piled = piled_push modes rules n old c cut rest task t.1.0 t.1.1 t.1.2 g;
-          less = w.less;
-          steps = w.steps;
-          walks = λ js a. w.walks js a ∙ ap (λ es. walk (wanted_in old wanted) left es) (same js a);
-          tries = λ js a. w.tries js a ∙ ap (λ es. (budget - left) + tries_of (wanted_in old wanted) left es) (same js a);
-        }
+goes_then : (wanted : Option (List Tree)) (a b c : ℕ) (es fs gs : List (Event Answer)) → GoesAs wanted a es b fs → GoesAs wanted b fs c gs → GoesAs wanted a es c gs
+goes_then wanted a b c es fs gs h k =
+    let x = h.tries in
+    let y = k.tries in
+    record { walks = h.walks ∙ k.walks; tries = (omega arith) }
 
-    module _ (less : task.next < length facts + length rules) where
-      begins : (js : List Judgement) → AreFacts modes (store_trees old) js facts → (more : List (Event Answer)) × (events_left modes rules pairs js now (rest ++ task ∷ []) ≡ try ∷ more)
-      begins js a =
-          let l = facts_length modes (store_trees old) js facts a in
-          events_try modes rules pairs js now rest task (omega arith)
+-- after an answer that is not wanted it goes on with the tasks that are left
+goes_past : (modes : Modes) (rules : List Rule) (pairs : List Pair) (js : List Judgement) (n : ℕ) (first s : Store) (wanted : Option (Vec ℕ Global)) → WantedBelow (length (store_trees first)) wanted →
+    (budget left : ℕ) (es : List (Event Answer)) (tasks : List TaskOf) (ending : EndingOf) → IsRunTo modes rules pairs js n first s budget left es tasks ending → IsUnwanted wanted ending →
+    Piled modes rules n first tasks s × GoesAs (wanted_in first wanted) budget es left (events_left modes rules pairs js s tasks)
+goes_past modes rules pairs js n first s None hw budget left es tasks ending r u = absurd u
+goes_past modes rules pairs js n first s (Some o) hw budget left es tasks (Found head outs) r u =
+    let w = wanted_in first (Some o) in
+    let rest = events_left modes rules pairs js s tasks in
+    let all = give (answer_in s head outs.items) ∷ rest in
+    let q = wanted_false modes rules first s o outs.items r.0 hw r.3 u in
+    let f = ap (λ b. found_when b (answer_in s head outs.items) (walk w left rest)) q in
+    let t : tries_of w left all ≡ tries_of w left rest = ap (λ b. tries_unless b (tries_of w left rest)) q in
+    let x = after_tries w budget left es all r.4 in
+    (r.1, record { walks = after_walk w budget left es all r.4 ∙ f; tries = (omega arith) })
+goes_past modes rules pairs js n first s (Some o) hw budget left es tasks (Passed limit) r u = absurd u
+goes_past modes rules pairs js n first s (Some o) hw budget left es tasks DepthSpent r u = absurd u
+goes_past modes rules pairs js n first s (Some o) hw budget left es tasks Spent r u = absurd u
+goes_past modes rules pairs js n first s (Some o) hw budget left es tasks Exhausted r u = absurd u
 
-      pub walking_spent : left ≡ 0 → (js : List Judgement) → AreFacts modes (store_trees old) js facts → IsWalked modes rules old now wanted budget (events_first js) first last (Ok Spent)
-      walking_spent z js a =
-          let b = begins js a in
-          let e : events_left modes rules pairs js now (rest ++ task ∷ []) ≡ try ∷ b.0 = b.1 in
-          let t : tries_of (wanted_in old wanted) budget (events_first js) ≡ (budget - left) + 0 =
-          w.tries js a ∙ ap (λ es. (budget - left) + tries_of (wanted_in old wanted) left es) e ∙ ap (λ (k : ℕ). (budget - left) + tries_of (wanted_in old wanted) k (try ∷ b.0)) z in
-          let s = w.steps in
-          (w.grows, w.walks js a ∙ ap (walk (wanted_in old wanted) left) e ∙ ap (λ (k : ℕ). walk (wanted_in old wanted) k (try ∷ b.0)) z, (omega arith))
+-- events that have come to the ending with tasks by another name
+pub come_by : (g : Given) (first s : Store) (js : List Judgement) (budget left : ℕ) (es : List (Event Answer)) (tasks more : List TaskOf) (ending : EndingOf) → HasFacts g first js → ArePairs (length (store_trees first)) g.pairs.now → tasks ≡ more →
+    IsRunBy g js first s budget left es more ending → HasComeTo g first s js budget left es tasks ending
+come_by g first s js budget left es tasks more ending f p e r = record { facts = f; pairs = p; comes = subst (λ (ts : List TaskOf). IsRunBy g js first s budget left es ts ending) (sym e) r }
 
-      -- without memory the try of the task is counted, and no more
-      pub walking_failed : (e : NoMemory) → 0 < left → (js : List Judgement) → AreFacts modes (store_trees old) js facts → (new : Store) (after : ℕ) → after ≡ last + 1 → IsWalked modes rules old new wanted budget (events_first js) first after (Err e)
-      walking_failed e l js a new after f =
-          let b = begins js a in
-          let g : events_left modes rules pairs js now (rest ++ task ∷ []) ≡ try ∷ b.0 = b.1 in
-          let k : left ≡ suc (left - 1) = omega arith in
-          let t : tries_of (wanted_in old wanted) budget (events_first js) ≡ (budget - left) + suc (tries_of (wanted_in old wanted) (left - 1) b.0) =
-          w.tries js a ∙ ap (λ es. (budget - left) + tries_of (wanted_in old wanted) left es) g ∙ ap (λ (n : ℕ). (budget - left) + tries_of (wanted_in old wanted) n (try ∷ b.0)) k in
-          let s = w.steps in
-          let m = w.less in
-          ((omega arith), (omega arith))
+-- no notes say nothing
+pub no_notes : (modes : Modes) (rules : List Rule) (hyps : Hypotheses) (levels : ℕ) (goal : Goal) (notes : List ℕ) → notes ≡ [] → FailsAlong modes rules hyps levels goal (reverse notes)
+unfolding FailsAlong
+no_notes modes rules hyps levels goal notes e = subst (λ (ks : List ℕ). FailsAlong modes rules hyps levels goal (reverse ks)) (sym e) tt
 
-    module _ (l : 0 < left) (hw : WantedBelow (length (store_trees old)) wanted) (new : Store) (more : List TaskOf) where
-      turned : (o : Option EndingOf) (x : (js : List Judgement) → AreFacts modes (store_trees now) js facts → IsTaskTurn modes rules pairs js wanted (length facts + length rules) now new task rest more o) →
-          (js : List Judgement) → AreFacts modes (store_trees old) js facts → IsTryOutcome new (wanted_in old wanted) (left - 1) (events_left modes rules pairs js now (rest ++ task ∷ [])) (events_left modes rules pairs js new more) o
-      turned o x js a =
-          let i = (x js (then_facts js a)).outcome (left - 1) in
-          subst (λ v. IsTryOutcome new v (left - 1) (events_left modes rules pairs js now (rest ++ task ∷ [])) (events_left modes rules pairs js new more) o) (wanted_stays old now w.grows.trees wanted hw) i
+-- the walk of the events goes on as that of some that have come to the ending
+pub record HasGone (g : Given) (first s : Store) (js : List Judgement) (wanted : Option (Vec ℕ Global)) (budget left : ℕ) (es : List (Event Answer)) (tasks : List TaskOf) (ending : EndingOf) : Type 0 where
+  pub then_budget : ℕ
+  pub then_es : List (Event Answer)
+  pub comes : HasComeTo g first s js then_budget left then_es tasks ending
+  pub goes : GoesAs (wanted_in first wanted) budget es then_budget then_es
 
-      pub walking_more : (x : (js : List Judgement) → AreFacts modes (store_trees now) js facts → IsTaskTurn modes rules pairs js wanted (length facts + length rules) now new task rest more None) →
-          (js : List Judgement) → AreFacts modes (store_trees old) js facts → (after : ℕ) → after ≡ last + 1 → Walking new (left - 1) after more
-      walking_more x one b after f =
-          let y = x one (then_facts one b) in
-          let k : suc (left - 1) ≡ left = omega arith in
-          let s = w.steps in
-          let m = w.less in
-          record {
-            grows = grows_then modes rules old now new w.grows y.grows;
-            fits = y.fits;
-            piled = (let t = top in y.piled old t.0 t.1.0 t.1.1 t.1.2 t.1.3);
-            less = (omega arith);
-            steps = (omega arith);
-            walks = λ js a. w.walks js a ∙ ap (λ (n : ℕ). walk (wanted_in old wanted) n (events_left modes rules pairs js now (rest ++ task ∷ []))) (sym k) ∙ (turned None x js a).0;
-            tries = λ js a.
-                let t : tries_of (wanted_in old wanted) budget (events_first js) ≡ (budget - left) + suc (tries_of (wanted_in old wanted) (left - 1) (events_left modes rules pairs js new more)) =
-                w.tries js a ∙ ap (λ (n : ℕ). (budget - left) + tries_of (wanted_in old wanted) n (events_left modes rules pairs js now (rest ++ task ∷ []))) (sym k) ∙ ap (λ (n : ℕ). (budget - left) + n) (turned None x js a).1 in
-                (let z = t in omega arith);
-          }
+module _ (g : Given) (first s : Store) (js : List Judgement) (wanted : Option (Vec ℕ Global)) (budget left : ℕ) (es : List (Event Answer)) (tasks : List TaskOf) (ending : EndingOf) where
+  pub gone_first : HasComeTo g first s js budget left es tasks ending → HasGone g first s js wanted budget left es tasks ending
+  gone_first h =
+      let n = tries_of (wanted_in first wanted) budget es in
+      record { then_budget = budget; then_es = es; comes = h; goes = record { walks = refl; tries = (omega arith) } }
 
-      pub walking_ends : (ending : EndingOf) (x : (js : List Judgement) → AreFacts modes (store_trees now) js facts → IsTaskTurn modes rules pairs js wanted (length facts + length rules) now new task rest more (Some ending)) →
-          (after : ℕ) → after ≡ last + 1 → (js : List Judgement) → AreFacts modes (store_trees old) js facts → IsWalked modes rules old new wanted budget (events_first js) first after (Ok ending)
-      walking_ends ending x after f js a =
-          let y = x js (then_facts js a) in
-          let k : suc (left - 1) ≡ left = omega arith in
-          let s = w.steps in
-          let m = w.less in
-          let o = turned (Some ending) x js a in
-          let e : walk (wanted_in old wanted) budget (events_first js) ≡ walk (wanted_in old wanted) (suc (left - 1)) (events_left modes rules pairs js now (rest ++ task ∷ [])) =
-          w.walks js a ∙ ap (λ (n : ℕ). walk (wanted_in old wanted) n (events_left modes rules pairs js now (rest ++ task ∷ []))) (sym k) in
-          let t : tries_of (wanted_in old wanted) budget (events_first js) ≡ (budget - left) + 1 =
-          w.tries js a ∙ ap (λ (n : ℕ). (budget - left) + tries_of (wanted_in old wanted) n (events_left modes rules pairs js now (rest ++ task ∷ []))) (sym k) ∙ ap (λ (n : ℕ). (budget - left) + n) o.1 in
-          (grows_then modes rules old now new w.grows y.grows, subst (IsEnding new ending) (sym e) o.0, (let z = t in omega arith))
+  module _ (hw : WantedBelow (length (store_trees first)) wanted) (h : HasGone g first s js wanted budget left es tasks ending) where
+    pub gone_ends : (IsUnwanted wanted ending → ⊥) → WalkEnds (set_modes g.rules.now) (rules_of g.rules.now) first s wanted budget left es ending
+    gone_ends u =
+        let e = come_ends (set_modes g.rules.now) (rules_of g.rules.now) g.pairs.now js (candidates_of g) first s wanted hw h.then_budget left h.then_es tasks ending h.comes.comes u in
+        let x = h.goes.tries in
+        let y = e.2 in
+        (e.0, subst (IsEnding s ending) (sym h.goes.walks) e.1, (omega arith))
+
+    past : IsUnwanted wanted ending → Piled (set_modes g.rules.now) (rules_of g.rules.now) (candidates_of g) first tasks s × GoesAs (wanted_in first wanted) h.then_budget h.then_es left (left_by g js s tasks)
+    past u = goes_past (set_modes g.rules.now) (rules_of g.rules.now) g.pairs.now js (candidates_of g) first s wanted hw h.then_budget left h.then_es tasks ending h.comes.comes u
+
+    -- the tasks that are left can be run
+    pub gone_stands : IsUnwanted wanted ending → StandFrom g first js tasks s
+    gone_stands u = record { facts = h.comes.facts; pairs = h.comes.pairs; piled = (past u).0 }
+
+    pub gone_more : IsUnwanted wanted ending → (new : Store) (then_left : ℕ) (then_tasks : List TaskOf) (then_ending : EndingOf) → IsRunBy g js first new left then_left (left_by g js s tasks) then_tasks then_ending →
+        HasGone g first new js wanted budget then_left es then_tasks then_ending
+    gone_more u new then_left then_tasks then_ending r = record {
+      then_budget = left;
+      then_es = left_by g js s tasks;
+      comes = record { facts = h.comes.facts; pairs = h.comes.pairs; comes = r };
+      goes = goes_then (wanted_in first wanted) budget h.then_budget left es h.then_es (left_by g js s tasks) h.goes (past u).1;
+    }
+
+-- how often the walk can still go on
+pub tries_on : EndingOf → ℕ → ℕ
+tries_on (Found head outs) n = suc n
+tries_on (Passed limit) n = 0
+tries_on DepthSpent n = 0
+tries_on Spent n = 0
+tries_on Exhausted n = 0
+
+on_less : (ending : EndingOf) (old new : ℕ) → TakesTry old new ending → tries_on ending new < suc old
+unfolding tries_on
+on_less (Found head outs) old new l = omega arith
+on_less (Passed limit) old new l = omega arith
+on_less DepthSpent old new l = omega arith
+on_less Spent old new l = omega arith
+on_less Exhausted old new l = omega arith
+
+pub takes_less : (wanted : Option (Vec ℕ Global)) (ending then_ending : EndingOf) (old new : ℕ) → IsUnwanted wanted ending → TakesTry old new then_ending → tries_on then_ending new < tries_on ending old
+unfolding tries_on
+takes_less None ending then_ending old new u l = absurd u
+takes_less (Some w) (Found head outs) then_ending old new u l = on_less then_ending old new l
+takes_less (Some w) (Passed limit) then_ending old new u l = absurd u
+takes_less (Some w) DepthSpent then_ending old new u l = absurd u
+takes_less (Some w) Spent then_ending old new u l = absurd u
+takes_less (Some w) Exhausted then_ending old new u l = absurd u
+
+-- the answer is unwanted just where the test fails
+pub unwanted_found : (wanted : Option (Vec ℕ Global)) (head : Head) (outs : Vec ℕ Global) (b : Bool) (is : List ℕ) → is ≡ outs.items → MatchOption wanted (b ≡ true) (λ w. IsTrue b ↔ (is ≡ w.items)) → IsTrue (not b) ↔ IsUnwanted wanted (Found head outs)
+unwanted_found None head outs true is e t = ((λ x. let z : ⊥ = cc in z), λ x. absurd x)
+unwanted_found None head outs false is e t = (let z : ⊥ = cc in absurd z)
+unwanted_found (Some w) head outs true is e t = ((λ x. let z : ⊥ = cc in absurd z), λ x. absurd (x (sym e ∙ t.0 refl)))
+unwanted_found (Some w) head outs false is e t = ((λ x q. let f = t.1 (e ∙ q) in let z : ⊥ = cc in z), λ x. refl)
 
 -- the events of a goal are those of its first task
 pub first_events : (modes : Modes) (rules : List Rule) (pairs : List Pair) (js : List Judgement) (s : Store) (form : ℕ) (terms : Vec ℕ Global) (levels : ℕ) (mark : Mark) (tasks : List TaskOf) → IsStore modes rules s →
@@ -247,7 +255,3 @@ pub first_piled : (modes : Modes) (rules : List Rule) (s : Store) (n form : ℕ)
     tasks ≡ record { next = 0; form = form; terms = terms; levels = levels; frames = s.until; mark = mark } ∷ [] → Piled modes rules n s tasks s
 first_piled modes rules s n form terms levels mark tasks h k b e =
     subst (λ (ts : List TaskOf). Piled modes rules n s ts s) (sym e) (s, (grows_same modes rules s h, k, record { next = (omega arith); terms = b; frames = h.until; until = (omega arith) }, grows_same modes rules s h))
-
-pub walked_as : (modes : Modes) (rules : List Rule) (old new : Store) (wanted : Option (Vec ℕ Global)) (budget : ℕ) (es fs : List (Event Answer)) (first last : ℕ) (r : Result EndingOf NoMemory) → es ≡ fs →
-    IsWalked modes rules old new wanted budget es first last r → IsWalked modes rules old new wanted budget fs first last r
-walked_as modes rules old new wanted budget es fs first last r e h = subst (λ (xs : List (Event Answer)). IsWalked modes rules old new wanted budget xs first last r) e h

@@ -18,6 +18,7 @@ use Rattle.sx_derive.specs.Descents.{
   IsDescent,
 }
 use Rattle.sx_derive.specs.Failing.{FailsAlong}
+use Rattle.sx_derive.specs.Quiet.{IsQuiet}
 use Rattle.sx_derive.specs.Store.{IsStore, StoreGrows, store_trees, store_envs}
 use Rattle.sx_derive.specs.Stuck.{Blame, IsStuck}
 use Rattle.sx_derive.specs.Walk.{Event, Answer, premise_events, goal_events, rules_events}
@@ -83,6 +84,13 @@ abbrev pub CandidateFails : Given → Hypotheses → ℕ → Store → Candidate
 CandidateFails g hyps levels s c notes =
     PremisesFailAlong (set_modes g.rules.now) (rules_of g.rules.now) hyps levels (reverse notes)
     (rule_of c.rule.now).premises (env_at (store_envs s) c.env)
+
+-- by some hypotheses the candidate's events are quiet, and it fails as the notes say
+abbrev pub FailsQuietly : Given → Bounds → Store → Candidate → List ℕ → Type 0
+FailsQuietly g bounds s c notes =
+    (hyps : Hypotheses) × HasHyps g s hyps
+    × IsQuiet bounds.budget (candidate_events g hyps bounds.levels s c)
+    × CandidateFails g hyps bounds.levels s c notes
 
 -- the goal fails among the rules as the notes say, of which the last is its own
 abbrev pub RulesFailBy : Given → Hypotheses → ℕ → Store → Spot → List ℕ → Type 0

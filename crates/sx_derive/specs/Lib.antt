@@ -17,6 +17,7 @@ pub mod Turns
 pub mod Walked
 pub mod Problems
 pub mod Quiet
+pub mod Halting
 pub mod Failing
 pub mod Noted
 pub mod Asking

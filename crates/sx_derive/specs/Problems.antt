@@ -1,9 +1,11 @@
 -- A problem in a store, and what a search answers.
-use Rattle.std.specs.Prelude.{◌≡◌, ℕ, ◌+◌, ◌≤◌, List, map, length, Option, Vec, Result, Ok, Err}
+use Rattle.std.specs.Prelude.{◌≡◌, ℕ, ◌+◌, ◌≤◌, List, map, length, reverse}
+use Rattle.std.specs.Prelude.{Option, Vec, Result, Ok, Err}
 use Rattle.std.specs.declared.alloc.Global.{Global}
 use Rattle.sx_term.specs.Tree.{Tree}
 use Rattle.sx_term.specs.declared.no_memory.NoMemory.{NoMemory}
 use Rattle.sx_rules.specs.Rules.{Rule, Hypotheses}
+use Rattle.sx_rules.specs.Limits.{most_levels}
 use Rattle.sx_rules.specs.Modes.{Modes, Goal}
 use Rattle.sx_derive.specs.Walk.{events}
 use Rattle.sx_derive.specs.Search.{walk, tries_of}
@@ -14,6 +16,7 @@ use Rattle.sx_derive.specs.declared.problem.Problem.{Problem}
 use Rattle.sx_derive.specs.declared.problem.Searched.{Searched}
 use Rattle.sx_arena.specs.Arena.{trees, tree_at, IsArena, AreBelow, Extends}
 use Rattle.sx_derive.specs.Candidates.{AreFacts}
+use Rattle.sx_derive.specs.Failing.{FailsAlong}
 use Rattle.sx_arena.specs.Pairs.{pairs_of, ArePairs}
 use Rattle.sx_derive.specs.Store.{IsStore, store_trees}
 use Rattle.sx_derive.specs.Tasks.{wanted_at, WantedBelow, IsEnding}
@@ -43,13 +46,14 @@ abbrev pub problem_of : Store → Entered → Problem
 problem_of s e =
     record { store = s; facts = e.facts; pairs = e.pairs; terms = e.terms; wanted = e.wanted }
 
--- the ending is how the walk of the goal ends, after all of its tries; without memory some of its
--- tries were made
+-- the ending is how the walk of the goal ends, after all of its tries, and where the goal has no
+-- answer the notes say where it fails; without memory some of its tries were made
 abbrev pub IsSearched : Modes → List Rule → Hypotheses → Goal → Option (List Tree) → ℕ → ℕ → ℕ →
     Result Searched NoMemory → Type 0
 IsSearched modes rules hyps goal wanted budget first last (Ok s) =
     IsStore modes rules s.store
     × IsEnding s.store s.ending (walk wanted budget (events modes rules hyps goal 1))
     × (last ≡ first + tries_of wanted budget (events modes rules hyps goal 1))
+    × FailsAlong modes rules hyps most_levels goal (reverse s.notes.items)
 IsSearched modes rules hyps goal wanted budget first last (Err e) =
     (first ≤ last) × (last ≤ first + tries_of wanted budget (events modes rules hyps goal 1))

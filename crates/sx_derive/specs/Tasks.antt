@@ -26,7 +26,7 @@ use Rattle.sx_term.specs.Tree.{Tree}
 use Rattle.sx_rules.specs.Rules.{Judgement, Rule}
 use Rattle.sx_rules.specs.Modes.{Modes, Goal}
 use Rattle.sx_derive.specs.Walk.{Cause, depth_spent, Event, try, Answer}
-use Rattle.sx_derive.specs.Search.{Ending, found, stopped, spent, exhausted, walk, tries_of}
+use Rattle.sx_derive.specs.Search.{Ending, found, stopped, spent, exhausted}
 use Rattle.sx_derive.specs.Machine.{
   Frame,
   Task,
@@ -149,13 +149,3 @@ IsEnding s (Passed limit) e =
 IsEnding s DepthSpent e = e ≡ stopped depth_spent
 IsEnding s Spent e = e ≡ spent
 IsEnding s Exhausted e = e ≡ exhausted
-
--- where a walk goes on, or how it ends, after a try
-abbrev pub IsTryOutcome : Store → Option (List Tree) → ℕ → List (Event Answer) →
-    List (Event Answer) →
-    Option EndingOf → Type 0
-IsTryOutcome s wanted left es rest None =
-    (walk wanted (suc left) es ≡ walk wanted left rest)
-    × (tries_of wanted (suc left) es ≡ suc (tries_of wanted left rest))
-IsTryOutcome s wanted left es rest (Some ending) =
-    IsEnding s ending (walk wanted (suc left) es) × (tries_of wanted (suc left) es ≡ 1)

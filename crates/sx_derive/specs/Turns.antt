@@ -1,7 +1,6 @@
 -- What a turn of a walk makes of the tasks, and what a walk answers.
 use Rattle.std.specs.Prelude.{◌≡◌, ℕ, ◌<◌, ◌≤◌, List, [], ◌∷◌, ◌++◌, length, take, drop}
-use Rattle.std.specs.Prelude.{Option, Some, None, Vec}
-use Rattle.std.specs.declared.alloc.Global.{Global}
+use Rattle.std.specs.Prelude.{Option, Some, None}
 use Rattle.sx_rules.specs.Rules.{Judgement, Rule}
 use Rattle.sx_rules.specs.Modes.{Modes}
 use Rattle.sx_arena.specs.declared.pairs.Pair.{Pair}
@@ -21,7 +20,7 @@ use Rattle.sx_arena.specs.Places.{IsLimit}
 use Rattle.sx_derive.specs.Chains.{HeadFits}
 use Rattle.sx_derive.specs.Handing.{answer_in}
 use Rattle.sx_derive.specs.Store.{StoreGrows, IsMark, store_trees, store_envs, store_kids}
-use Rattle.sx_derive.specs.Tasks.{events_left, TaskFits, TasksFit, Piled, wanted_in, IsTryOutcome}
+use Rattle.sx_derive.specs.Tasks.{events_left, TaskFits, TasksFit, Piled}
 
 -- others come behind the tasks, of which this holds
 abbrev pub PutsBehind : List TaskOf → List TaskOf → (List TaskOf → Type 0) → Type 0
@@ -65,19 +64,15 @@ IsMetAfterTry s (Some DepthSpent) es rest = es ≡ stop depth_spent ∷ rest
 IsMetAfterTry s (Some Spent) es rest = ⊥
 IsMetAfterTry s (Some Exhausted) es rest = ⊥
 
--- after a try of the task the walk goes on with the tasks that are left, or ends
+-- after a try of the task the walk goes on with the tasks that are left, or something ends it
 pub record IsTaskTurn (modes : Modes) (rules : List Rule) (pairs : List Pair) (js : List Judgement)
-    (wanted : Option (Vec ℕ Global)) (candidates : ℕ) (old new : Store) (t : TaskOf)
+    (candidates : ℕ) (old new : Store) (t : TaskOf)
     (tasks left_over : List TaskOf) (o : Option EndingOf) : Type 0 where
   pub grows : StoreGrows modes rules old new
   pub fits : TasksFit modes rules new candidates left_over
   pub piled : (first c : Store) → Piled modes rules candidates first tasks c → IsMark c t.mark →
       TaskFits modes rules c candidates t → StoreGrows modes rules c old →
       Piled modes rules candidates first left_over new
-  pub meets : wanted ≡ None → (es : List (Event Answer))
+  pub meets : (es : List (Event Answer))
       × (events_left modes rules pairs js old (tasks ++ t ∷ []) ≡ try ∷ es)
       × IsMetAfterTry new o es (events_left modes rules pairs js new left_over)
-  pub outcome : (left : ℕ) →
-      IsTryOutcome new (wanted_in old wanted) left
-      (events_left modes rules pairs js old (tasks ++ t ∷ []))
-      (events_left modes rules pairs js new left_over) o

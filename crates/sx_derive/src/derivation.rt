@@ -1,16 +1,18 @@
 //! The first derivation of a goal.
 
-ghost use Rattle.std.specs.Prelude.{◌^◌, ◌<◌, List, Option, IfOk, MatchOption, length, map};
+ghost use Rattle.std.specs.Prelude.{◌^◌, ◌<◌, List, Option, IfOk, MatchOption, length, map, reverse};
 ghost use Rattle.std.specs.Option.{option_map};
 ghost use Rattle.sx_term.specs.Term.{tree};
 ghost use Rattle.sx_term.specs.Tree.{Tree};
 ghost use Rattle.sx_rules.specs.Deep.{AreShallow};
 ghost use Rattle.sx_rules.specs.Derivations.{ShallowJudgements};
 ghost use Rattle.sx_rules.specs.First.{IsFirst};
+ghost use Rattle.sx_rules.specs.Limits.{most_levels};
 ghost use Rattle.sx_rules.specs.Views.{goal as goal_of, hypotheses};
 ghost use Rattle.sx_arena.specs.Entered.{ArePairsShallow};
 ghost use Rattle.sx_arena.specs.Views.{rules_of, set_modes};
 ghost use Rattle.sx_derive.specs.Deriving.{answer_of, IsDerived, IsNone, AreCounted};
+ghost use Rattle.sx_derive.specs.Failing.{FailsAlong};
 ghost use Rattle.sx_derive.specs.Search.{walk, tries_of};
 ghost use Rattle.sx_derive.specs.Store.{IsStore};
 ghost use Rattle.sx_derive.specs.Tasks.{IsEnding};
@@ -40,6 +42,8 @@ fn answer(
     requires apart { ArePairsShallow (hypotheses given.now).pairs }
     requires goal { AreShallow (goal_of goal.now).terms }
     requires store { IsStore (set_modes rules.now) (rules_of rules.now) searched.store }
+    requires notes { FailsAlong (set_modes rules.now) (rules_of rules.now) (hypotheses given.now)
+        most_levels (goal_of goal.now) (reverse searched.notes.items) }
     requires ending { (wanted : Option (List Tree))
         × IsEnding searched.store searched.ending
         (walk wanted budget

@@ -51,7 +51,8 @@ pub(crate) fn first_noted(
 {
     let mark = store.mark();
     let mut tasks = Vec::new(given.alloc);
-    let traced = trace(given, store, goal, &mut tasks, budget)?;
+    let mut tries = budget;
+    let traced = trace(given, store, goal, &mut tasks, &mut tries)?;
     drop(tasks);
     match traced {
         Traced::Answered { head: _, outputs } => {
@@ -62,5 +63,6 @@ pub(crate) fn first_noted(
             store.cut(mark);
             Ok(First::Nothing(notes))
         }
+        Traced::Halted(_) => unreachable!(),
     }
 }

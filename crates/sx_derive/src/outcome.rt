@@ -1,14 +1,16 @@
 //! What a search has found, or why it has found nothing.
 
-ghost use Rattle.std.specs.Prelude.{◌^◌, ◌<◌, List, Option, length};
+ghost use Rattle.std.specs.Prelude.{◌^◌, ◌<◌, List, Option, length, reverse};
 ghost use Rattle.sx_term.specs.Tree.{Tree};
 ghost use Rattle.sx_rules.specs.Deep.{AreShallow};
 ghost use Rattle.sx_rules.specs.Derivations.{ShallowJudgements};
+ghost use Rattle.sx_rules.specs.Limits.{most_levels};
 ghost use Rattle.sx_rules.specs.Views.{goal as goal_of, hypotheses};
 ghost use Rattle.sx_arena.specs.Entered.{ArePairsShallow};
 ghost use Rattle.sx_arena.specs.Views.{rules_of, set_modes};
 ghost use Rattle.sx_derive.specs.Deriving.{IsToldBy};
 ghost use Rattle.sx_derive.specs.Listing.{SaysFound};
+ghost use Rattle.sx_derive.specs.Failing.{FailsAlong};
 ghost use Rattle.sx_derive.specs.Search.{walk};
 ghost use Rattle.sx_derive.specs.Store.{IsStore};
 ghost use Rattle.sx_derive.specs.Tasks.{IsEnding};
@@ -48,6 +50,8 @@ pub(crate) fn outcome(
     requires apart { ArePairsShallow (hypotheses given.now).pairs }
     requires goal { AreShallow (goal_of goal.now).terms }
     requires store { IsStore (set_modes rules.now) (rules_of rules.now) searched.store }
+    requires notes { FailsAlong (set_modes rules.now) (rules_of rules.now) (hypotheses given.now)
+        most_levels (goal_of goal.now) (reverse searched.notes.items) }
     requires ending { (wanted : Option (List Tree))
         × IsEnding searched.store searched.ending
         (walk wanted budget
@@ -64,7 +68,11 @@ pub(crate) fn outcome(
         (events (set_modes rules.now) (rules_of rules.now) (hypotheses given.now) (goal_of goal.now)
         1)) result }
 {
-    let Searched { store, ending } = searched;
+    let Searched {
+        store,
+        ending,
+        notes,
+    } = searched;
     match ending {
         Ending::Found { head, outputs } => Ok(StoredAnswer {
             store,
@@ -89,7 +97,7 @@ pub(crate) fn outcome(
         }
         Ending::Exhausted => {
             drop(store);
-            let blame = stuck_goal(alloc, rules, given, goal, budget)?;
+            let blame = stuck_goal(alloc, rules, given, goal, budget, notes)?;
             Err(DeriveError::Underivable(blame))
         }
     }

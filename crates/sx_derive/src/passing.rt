@@ -5,6 +5,7 @@ ghost use Rattle.std.specs.Prelude.{
   ℕ,
   ◌+◌,
   ◌-◌,
+  ◌^◌,
   ◌≤◌,
   ◌<◌,
   true,
@@ -19,6 +20,7 @@ ghost use Rattle.sx_arena.specs.Places.{NeverFit};
 ghost use Rattle.sx_rules.specs.SubjectTerms.{output_mask};
 ghost use Rattle.sx_arena.specs.Views.{rules_of, rule_of, set_modes};
 ghost use Rattle.sx_derive.specs.Givens.{IsStoreOf, HasFacts};
+ghost use Rattle.sx_derive.specs.Halting.{AreTriesTaken};
 ghost use Rattle.sx_derive.specs.Passing.{ComeToNothing};
 ghost use Rattle.sx_derive.specs.Store.{store_trees};
 
@@ -101,6 +103,21 @@ pub(crate) fn pass_over(given: &Given, store: &Store, task: &Task, left: &mut u6
         *left -= 1;
     }
     next
+}
+
+/// Takes the tries of the candidates up to the rule with the number, its own too, and answers
+/// whether there are so many; none is left where there are not.
+pub(crate) fn take_tries(given: &Given, number: u32, tries: &mut u64) -> bool
+    requires few { length given.now.facts.now < 2 ^ 32 }
+    ensures { AreTriesTaken (length given.now.facts.now + number) tries.old tries.new result }
+{
+    let before = given.facts.len() as u64 + number as u64;
+    if *tries <= before {
+        *tries = 0;
+        return false;
+    }
+    *tries -= before + 1;
+    true
 }
 
 /// Counts that many tries.

@@ -12,12 +12,10 @@ ghost use Rattle.sx_derive.specs.Givens.{
   IsStoreOf,
   GrowsIn,
   HasHyps,
-  candidate_events,
-  CandidateFails,
   CandidateLeads,
   DescendsTo,
+  FailsQuietly,
 };
-ghost use Rattle.sx_derive.specs.Quiet.{IsQuiet};
 ghost use Rattle.sx_derive.specs.Store.{store_trees};
 ghost use Rattle.sx_derive.specs.Ways.{subject_modes};
 ghost use Rattle.sx_derive.specs.declared.descent.Descent.TheVariants.{Stuck};
@@ -117,10 +115,7 @@ pub(crate) fn descend_premises(
     requires env { candidate.now.env ≤ length store.old.binds.cells.items }
     requires terms { AreBelow (length (store_trees store.old)) spot.terms.items }
     requires levels { bounds.levels < most_levels }
-    requires quiet { (hyps : Hypotheses) × HasHyps given.now store.old hyps
-        × IsQuiet bounds.budget
-        (candidate_events given.now hyps bounds.levels store.old candidate.now)
-        × CandidateFails given.now hyps bounds.levels store.old candidate.now notes.old.items }
+    requires quiet { FailsQuietly given.now bounds store.old candidate.now notes.old.items }
     ensures grows { IfOk result (λ _. GrowsIn given.now store.old store.new) }
     ensures descent { IfOk result (λ d. (hyps : Hypotheses) → HasHyps given.now store.old hyps →
         DescendsTo given.now hyps bounds store.new notes.new.items

@@ -15,7 +15,7 @@ use crate::given::Given;
 use crate::numbered_goal::{LEVELS_BELOW, NumberedGoal};
 use crate::store::Store;
 use crate::tasks::Ending;
-use crate::walk::walk;
+use crate::walk::{Walked, walk};
 use std::alloc::Global;
 use std::sync::ledger::Ledger;
 use sx_arena::{Fact, Pair};
@@ -32,11 +32,13 @@ pub(crate) struct Problem {
     pub(crate) wanted: Option<Vec<usize>>,
 }
 
-/// How a search ended, and what it made.
+/// How a search ended, and what it made; and where the goal has no answer, the premises without an
+/// answer that first candidates lead to, the innermost first.
 #[derive(Drop)]
 pub(crate) struct Searched {
     pub(crate) store: Store,
     pub(crate) ending: Ending,
+    pub(crate) notes: Vec<usize>,
 }
 
 /// The problem in a new store.
@@ -122,11 +124,15 @@ pub(crate) fn search<L: Ledger>(
         levels: LEVELS_BELOW,
     };
     match walk(&known, &mut store, &wanted, goal, budget, steps) {
-        Ok(ending) => {
+        Ok(Walked { ending, notes }) => {
             drop(wanted);
             drop(pairs);
             drop(facts);
-            Ok(Searched { store, ending })
+            Ok(Searched {
+                store,
+                ending,
+                notes,
+            })
         }
         Err(e) => {
             drop(wanted);

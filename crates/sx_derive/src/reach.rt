@@ -114,7 +114,7 @@ pub(crate) fn reach<L: Ledger>(
             Some(task) => {
                 left -= 1;
                 steps.tick();
-                match turn(given, store, &None, task, tasks) {
+                match turn(given, store, task, tasks) {
                     Err(e) => return Err(e),
                     Ok(None) => {}
                     Ok(Some(ending)) => {

@@ -1,6 +1,6 @@
 //! The stuck goal of a goal without an answer.
 
-ghost use Rattle.std.specs.Prelude.{◌≡◌, ◌^◌, ◌<◌, ◌≤◌, [], IfOk, length, None};
+ghost use Rattle.std.specs.Prelude.{◌≡◌, ◌^◌, ◌<◌, ◌≤◌, [], IfOk, length, reverse, None};
 ghost use Rattle.sx_rules.specs.Deep.{AreShallow};
 ghost use Rattle.sx_rules.specs.Derivations.{ShallowJudgements};
 ghost use Rattle.sx_rules.specs.Rules.{Hypotheses};
@@ -11,7 +11,8 @@ ghost use Rattle.sx_arena.specs.Views.{rules_of, set_modes};
 ghost use Rattle.sx_derive.specs.Blames.{blame_of, cause_of};
 ghost use Rattle.sx_derive.specs.Candidates.{goal_in};
 ghost use Rattle.sx_derive.specs.Descents.{reason_in, ReasonBelow, blame_in};
-ghost use Rattle.sx_derive.specs.Givens.{IsStoreOf, HasHyps, events_by, IsStuckBy};
+ghost use Rattle.sx_derive.specs.Failing.{FailsAlong};
+ghost use Rattle.sx_derive.specs.Givens.{GoalFails, IsStoreOf, HasHyps, events_by, IsStuckBy};
 ghost use Rattle.sx_derive.specs.Quiet.{IsQuiet};
 ghost use Rattle.sx_derive.specs.Store.{store_trees};
 ghost use Rattle.sx_derive.specs.Stuck.{IsStuck};
@@ -80,19 +81,21 @@ fn stuck_below(
     store: &mut Store,
     first: Spot,
     bounds: Bounds,
+    noted: Vec<usize>,
 ) -> Result<Blame, NoMemory>
     requires few { length given.now.facts.now < 2 ^ 32 }
     requires store { IsStoreOf given.now store.old }
     requires terms { AreBelow (length (store_trees store.old)) first.terms.items }
     requires levels { bounds.levels ≤ most_levels }
     requires quiet { (hyps : Hypotheses) × HasHyps given.now store.old hyps
-        × IsQuiet bounds.budget (events_by given.now hyps bounds.levels store.old first) }
+        × IsQuiet bounds.budget (events_by given.now hyps bounds.levels store.old first)
+        × GoalFails given.now hyps bounds.levels store.old first noted.items }
     ensures { IfOk result (λ b. (hyps : Hypotheses) → HasHyps given.now store.old hyps →
         IsStuckBy given.now hyps bounds.levels store.old first (blame_of b)) }
 {
     let mut here = first;
     let mut left = bounds.levels;
-    let mut notes = Vec::new(given.alloc);
+    let mut notes = noted;
     while left > 0 {
         left -= 1;
         let below = Bounds {
@@ -111,13 +114,15 @@ fn stuck_below(
 }
 
 /// The stuck goal of a goal without an answer, which is found by first answers and without counting
-/// a try.
+/// a try. The notes say which premises have no answer, the goal's own the last, as far as that is
+/// known.
 pub(crate) fn stuck_goal(
     alloc: Global,
     rules: &RuleSet,
     given: &Hyps,
     goal: &Goal,
     budget: u64,
+    notes: Vec<usize>,
 ) -> Result<Blame, NoMemory>
     requires few { length given.now.holds.items < 2 ^ 32 }
     requires holds { ShallowJudgements (hypotheses given.now).judgements }
@@ -126,6 +131,8 @@ pub(crate) fn stuck_goal(
     requires quiet { IsQuiet budget
         (events (set_modes rules.now) (rules_of rules.now) (hypotheses given.now) (goal_of goal.now)
         1) }
+    requires notes { FailsAlong (set_modes rules.now) (rules_of rules.now) (hypotheses given.now)
+        most_levels (goal_of goal.now) (reverse notes.items) }
     ensures { IfOk result
         (λ b. IsStuck (set_modes rules.now) (subject_modes rules.now) (rules_of rules.now)
         (hypotheses given.now) most_levels (goal_of goal.now) [] (blame_of b)) }
@@ -155,7 +162,7 @@ pub(crate) fn stuck_goal(
         levels: MOST_LEVELS as usize,
         budget,
     };
-    let blame = stuck_below(&hypotheses, &mut store, first, bounds);
+    let blame = stuck_below(&hypotheses, &mut store, first, bounds, notes);
     drop(store);
     drop(pairs);
     drop(facts);

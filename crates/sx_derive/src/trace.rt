@@ -13,22 +13,17 @@ ghost use Rattle.sx_derive.specs.Candidates.{goal_in};
 ghost use Rattle.sx_derive.specs.Chains.{HeadFits};
 ghost use Rattle.sx_derive.specs.Givens.{IsStoreOf, GrowsIn, HasFacts};
 ghost use Rattle.sx_derive.specs.Handing.{IsWaitingCell, answer_in};
+ghost use Rattle.sx_derive.specs.Runs.{StandFrom, StandsSomewhere, left_by};
 ghost use Rattle.sx_derive.specs.Store.{store_trees, store_envs, store_kids};
 ghost use Rattle.sx_derive.specs.Traced.{IsAnswerTaken, IsFirstCandidate};
 ghost use Rattle.sx_derive.specs.Turns.{AreKeptBelow, PutsBehind};
 ghost use Rattle.sx_derive.specs.Tracing.{
-  AreQuiet,
   ComesToBy,
   IsCandidateTracedBy,
   IsPremiseTracedBy,
   IsTracedBy,
   IsTracedUnderBy,
-  StandFrom,
-  StandsSomewhere,
-  WaitsQuietly,
-  candidate_left,
-  goal_events_by,
-  left_by,
+  WaitsAt,
 };
 ghost use Rattle.sx_derive.specs.declared.store.Store.{Store as StoreOf};
 
@@ -38,28 +33,32 @@ use crate::chains::{Head, Waiting, push_kid, push_waiting};
 use crate::given::Given;
 use crate::made_places::{made_inputs, made_outputs};
 use crate::numbered_goal::NumberedGoal;
-use crate::run::next_answer;
+use crate::passing::take_tries;
+use crate::run::run;
 use crate::store::Store;
-use crate::tasks::Task;
+use crate::tasks::{Ending, Task};
 use crate::walk::goal_task;
-use sx_arena::{Chain, Side, fit_places, instances_apart, rule_at};
+use sx_arena::{Chain, Side, fit_places, instances_apart, passed, rule_at};
 use sx_rules::{Judgement, Premise};
 use sx_term::NoMemory;
 
 /// The first answer of a goal; or that there is none, and the premises without an answer that first
-/// candidates lead to, the innermost first.
+/// candidates lead to, the innermost first; or what halts its walk before either.
 #[derive(Drop)]
 pub enum Traced {
     Answered { head: Head, outputs: Vec<usize> },
     Failed(Vec<usize>),
+    Halted(Ending),
 }
 
 /// A premise holds by what is given first, with the chains of bindings and of proofs after it; or
-/// nothing is given at it, and where its goal has no answer, the notes of its goal and its number.
+/// nothing is given at it, and where its goal has no answer, the notes of its goal and its number;
+/// or the walk halts at it.
 #[derive(Drop)]
 pub enum Premised {
     Holds { env: usize, kids: usize },
     Fails(Vec<usize>),
+    Halts(Ending),
 }
 
 /// The first rule that fits and the chain that states the match, where no fact is the goal.
@@ -91,29 +90,28 @@ fn try_others(
     tasks: &mut Vec<Task>,
     base: usize,
     notes: Vec<usize>,
-    budget: u64,
+    tries: &mut u64,
 ) -> Result<Traced, NoMemory>
     requires few { length given.now.facts.now < 2 ^ 32 }
     requires base { base ≤ length tasks.old.items }
     requires stands { StandsSomewhere given.now (drop base tasks.old.items) store.old }
-    requires quiet { AreQuiet given.now budget store.old
-        (λ js. left_by given.now js store.old (drop base tasks.old.items)) }
     ensures below { IfOk result (λ _. AreKeptBelow base tasks.old.items tasks.new.items) }
     ensures comes { IfOk result (λ t. (first : StoreOf) (js : List JudgementOf) →
         StandFrom given.now first js (drop base tasks.old.items) store.old →
-        ComesToBy given.now js first store.new
+        ComesToBy given.now js first store.new tries.old tries.new
         (left_by given.now js store.old (drop base tasks.old.items))
         (λ noted. noted ≡ reverse notes.items) (drop base tasks.new.items) t) }
 {
-    match next_answer(given, store, tasks, base, budget)? {
-        Some(answer) => {
+    match run(given, store, tasks, base, tries)? {
+        Ending::Found { head, outputs } => {
             drop(notes);
-            Ok(Traced::Answered {
-                head: answer.head,
-                outputs: answer.outputs,
-            })
+            Ok(Traced::Answered { head, outputs })
         }
-        None => Ok(Traced::Failed(notes)),
+        Ending::Exhausted => Ok(Traced::Failed(notes)),
+        ending => {
+            drop(notes);
+            Ok(Traced::Halted(ending))
+        }
     }
 }
 
@@ -156,7 +154,7 @@ fn trace_under(
     from: Waiting,
     goal: NumberedGoal,
     tasks: &mut Vec<Task>,
-    budget: u64,
+    tries: &mut u64,
 ) -> Result<Traced, NoMemory>
     requires few { length given.now.facts.now < 2 ^ 32 }
     requires facts { (js : List JudgementOf) × HasFacts given.now store.old js }
@@ -167,14 +165,12 @@ fn trace_under(
     requires before { from.before ≡ store.old.until }
     requires levels { goal.levels < most_levels }
     requires terms { AreBelow (length (store_trees store.old)) goal.terms.items }
-    requires quiet { AreQuiet given.now budget store.old
-        (λ js. goal_events_by given.now js store.old goal) }
     ensures { IfOk result (λ t. PutsBehind tasks.old.items tasks.new.items
-        (IsTracedUnderBy given.now store.old store.new from goal t)) }
+        (IsTracedUnderBy given.now store.old store.new tries.old tries.new from goal t)) }
 {
     let outer = store.until;
     store.until = push_waiting(&mut store.frames, from)?;
-    let traced = trace(given, store, goal, tasks, budget);
+    let traced = trace(given, store, goal, tasks, tries);
     store.until = outer;
     traced
 }
@@ -187,7 +183,7 @@ fn trace_judgement(
     judgement: &Judgement,
     from: Waiting,
     tasks: &mut Vec<Task>,
-    budget: u64,
+    tries: &mut u64,
 ) -> Result<Premised, NoMemory>
     requires few { length given.now.facts.now < 2 ^ 32 }
     requires facts { (js : List JudgementOf) × HasFacts given.now store.old js }
@@ -198,19 +194,24 @@ fn trace_judgement(
     requires env { from.env ≤ length store.old.binds.cells.items }
     requires kids { from.kids ≤ length store.old.kids.items }
     requires levels { from.levels < most_levels }
-    requires waits { WaitsQuietly given.now budget store.old (holds (judgement_of judgement.now))
-        from }
+    requires waits { WaitsAt given.now (holds (judgement_of judgement.now)) from }
     ensures { IfOk result (λ p. PutsBehind tasks.old.items tasks.new.items
-        (IsPremiseTracedBy given.now store.old store.new from (holds (judgement_of judgement.now))
-        p)) }
+        (IsPremiseTracedBy given.now store.old store.new tries.old tries.new from
+        (holds (judgement_of judgement.now)) p)) }
 {
     let terms = made_inputs(given, store, judgement, from.env)?;
+    if let Some(limit) = passed(&store.arena, &terms) {
+        return Ok(Premised::Halts(Ending::Passed(limit)));
+    }
+    if from.levels == 0 {
+        return Ok(Premised::Halts(Ending::DepthSpent));
+    }
     let goal = NumberedGoal {
         form: judgement.form,
         terms,
         levels: from.levels - 1,
     };
-    match trace_under(given, store, from, goal, tasks, budget)? {
+    match trace_under(given, store, from, goal, tasks, tries)? {
         Traced::Failed(noted) => {
             let mut notes = noted;
             notes.push(from.premise)?;
@@ -219,6 +220,7 @@ fn trace_judgement(
         Traced::Answered { head, outputs } => {
             take_answer(given, store, judgement, from, head, &outputs)
         }
+        Traced::Halted(ending) => Ok(Premised::Halts(ending)),
     }
 }
 
@@ -230,7 +232,7 @@ fn trace_premise(
     premise: &Premise,
     from: Waiting,
     tasks: &mut Vec<Task>,
-    budget: u64,
+    tries: &mut u64,
 ) -> Result<Premised, NoMemory>
     requires few { length given.now.facts.now < 2 ^ 32 }
     requires facts { (js : List JudgementOf) × HasFacts given.now store.old js }
@@ -241,12 +243,13 @@ fn trace_premise(
     requires env { from.env ≤ length store.old.binds.cells.items }
     requires kids { from.kids ≤ length store.old.kids.items }
     requires levels { from.levels < most_levels }
-    requires waits { WaitsQuietly given.now budget store.old (premise_of premise.now) from }
+    requires waits { WaitsAt given.now (premise_of premise.now) from }
     ensures { IfOk result (λ p. PutsBehind tasks.old.items tasks.new.items
-        (IsPremiseTracedBy given.now store.old store.new from (premise_of premise.now) p)) }
+        (IsPremiseTracedBy given.now store.old store.new tries.old tries.new from
+        (premise_of premise.now) p)) }
 {
     match premise {
-        Premise::Holds(judgement) => trace_judgement(given, store, judgement, from, tasks, budget),
+        Premise::Holds(judgement) => trace_judgement(given, store, judgement, from, tasks, tries),
         Premise::Apart(one, other) => {
             let chain = Chain {
                 binds: &store.binds,
@@ -272,7 +275,7 @@ fn trace_rule(
     candidate: &Candidate,
     levels: usize,
     tasks: &mut Vec<Task>,
-    budget: u64,
+    tries: &mut u64,
 ) -> Result<Traced, NoMemory>
     requires few { length given.now.facts.now < 2 ^ 32 }
     requires facts { (js : List JudgementOf) × HasFacts given.now store.old js }
@@ -283,10 +286,9 @@ fn trace_rule(
     requires shallow { RuleIsShallow (rule_of candidate.now.rule.now) }
     requires env { candidate.now.env ≤ length store.old.binds.cells.items }
     requires levels { levels < most_levels }
-    requires quiet { AreQuiet given.now budget store.old
-        (λ js. candidate_left given.now js store.old candidate.now levels) }
     ensures { IfOk result (λ t. PutsBehind tasks.old.items tasks.new.items
-        (IsCandidateTracedBy given.now store.old store.new candidate.now levels t)) }
+        (IsCandidateTracedBy given.now store.old store.new tries.old tries.new candidate.now levels
+        t)) }
 {
     let rule = candidate.rule;
     let mut env = candidate.env;
@@ -301,7 +303,7 @@ fn trace_rule(
             levels,
             before: outer,
         };
-        match trace_premise(given, store, &rule.premises[k], from, tasks, budget)? {
+        match trace_premise(given, store, &rule.premises[k], from, tasks, tries)? {
             Premised::Holds {
                 env: next,
                 kids: more,
@@ -310,9 +312,13 @@ fn trace_rule(
                 kids = more;
             }
             Premised::Fails(notes) => return Ok(Traced::Failed(notes)),
+            Premised::Halts(ending) => return Ok(Traced::Halted(ending)),
         }
     }
     let outputs = made_outputs(given, store, &rule.conclusion, env)?;
+    if let Some(limit) = passed(&store.arena, &outputs) {
+        return Ok(Traced::Halted(Ending::Passed(limit)));
+    }
     Ok(Traced::Answered {
         head: Head::By {
             number: candidate.number,
@@ -332,7 +338,7 @@ pub(crate) fn trace(
     store: &mut Store,
     goal: NumberedGoal,
     tasks: &mut Vec<Task>,
-    budget: u64,
+    tries: &mut u64,
 ) -> Result<Traced, NoMemory>
     requires few { length given.now.facts.now < 2 ^ 32 }
     requires facts { (js : List JudgementOf) × HasFacts given.now store.old js }
@@ -340,10 +346,8 @@ pub(crate) fn trace(
     requires pairs { ArePairs (length (store_trees store.old)) given.now.pairs.now }
     requires levels { goal.levels < most_levels }
     requires terms { AreBelow (length (store_trees store.old)) goal.terms.items }
-    requires quiet { AreQuiet given.now budget store.old
-        (λ js. goal_events_by given.now js store.old goal) }
     ensures { IfOk result (λ t. PutsBehind tasks.old.items tasks.new.items
-        (IsTracedBy given.now store.old store.new goal t)) }
+        (IsTracedBy given.now store.old store.new tries.old tries.new goal t)) }
 {
     let mark = store.mark();
     let outer = store.until;
@@ -351,9 +355,12 @@ pub(crate) fn trace(
     match first_candidate(given, store, goal.form, &goal.terms)? {
         None => {
             tasks.push(goal_task(goal, outer, mark))?;
-            try_others(given, store, tasks, base, Vec::new(given.alloc), budget)
+            try_others(given, store, tasks, base, Vec::new(given.alloc), tries)
         }
         Some((number, env)) => {
+            if !take_tries(given, number, tries) {
+                return Ok(Traced::Halted(Ending::Spent));
+            }
             given.rules.facts();
             let rule = rule_at(given.rules, number);
             let candidate = Candidate { rule, number, env };
@@ -370,9 +377,9 @@ pub(crate) fn trace(
                 frames: outer,
                 mark,
             })?;
-            match trace_rule(given, store, &candidate, levels, tasks, budget)? {
-                Traced::Failed(notes) => try_others(given, store, tasks, base, notes, budget),
-                answered => Ok(answered),
+            match trace_rule(given, store, &candidate, levels, tasks, tries)? {
+                Traced::Failed(notes) => try_others(given, store, tasks, base, notes, tries),
+                other => Ok(other),
             }
         }
     }

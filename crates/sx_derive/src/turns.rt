@@ -1,27 +1,22 @@
 //! The turns of a walk.
 
 ghost use Rattle.std.specs.Prelude.{
-  ◌≡◌,
   ◌+◌,
   ◌-◌,
   ◌^◌,
   ◌≤◌,
   ◌<◌,
-  ◌↔◌,
   ◌++◌,
-  IsTrue,
   IfOk,
   drop,
   length,
   List,
-  MatchOption,
-  true,
 };
 ghost use Rattle.sx_rules.specs.Rules.{Judgement};
 ghost use Rattle.sx_arena.specs.Pairs.{ArePairs};
 ghost use Rattle.sx_derive.specs.Givens.{IsStoreOf, HasFacts};
 ghost use Rattle.sx_derive.specs.Store.{store_trees};
-ghost use Rattle.sx_derive.specs.Tasks.{TaskFits, TasksFit, WantedBelow, IsNextCandidate};
+ghost use Rattle.sx_derive.specs.Tasks.{TaskFits, TasksFit, IsNextCandidate};
 ghost use Rattle.sx_derive.specs.Turns.{
   AreKeptBelow,
   IsPoppedAbove,
@@ -37,19 +32,7 @@ use crate::passing::pass_over;
 use crate::step::Step;
 use crate::store::Store;
 use crate::tasks::{Ending, Task, is_candidate, new_task, try_next};
-use sx_arena::same_numbers;
 use sx_term::NoMemory;
-
-/// Whether the outputs are the wanted ones, where some are wanted.
-fn is_wanted(wanted: &Option<Vec<usize>>, outputs: &[usize]) -> bool
-    ensures { MatchOption wanted.now (result ≡ true)
-        (λ w. IsTrue result ↔ (outputs.now ≡ w.items)) }
-{
-    match wanted {
-        None => true,
-        Some(those) => same_numbers(outputs, those),
-    }
-}
 
 /// Takes off the last task above the base, which counts the tasks below it.
 fn pop_above(tasks: &mut Vec<Task>, base: usize) -> Option<Task>
@@ -122,12 +105,11 @@ fn try_task(given: &Given, store: &mut Store, task: &Task) -> Result<Step, NoMem
     }
 }
 
-/// A try of the task, and how the walk ends where it ends with it. The tasks that are left of it
+/// A try of the task, and what ends the walk where something ends it. The tasks that are left of it
 /// come behind the others, whatever those are.
 pub(crate) fn turn(
     given: &Given,
     store: &mut Store,
-    wanted: &Option<Vec<usize>>,
     task: Task,
     tasks: &mut Vec<Task>,
 ) -> Result<Option<Ending>, NoMemory>
@@ -135,7 +117,6 @@ pub(crate) fn turn(
     requires facts { (js : List Judgement) × HasFacts given.now store.old js }
     requires store { IsStoreOf given.now store.old }
     requires pairs { ArePairs (length (store_trees store.old)) given.now.pairs.now }
-    requires wanted { WantedBelow (length (store_trees store.old)) wanted.now }
     requires task { TaskFits (set_modes given.now.rules.now)
         (rules_of given.now.rules.now) store.old
         (length given.now.facts.now + length (rules_of given.now.rules.now)) task }
@@ -145,7 +126,7 @@ pub(crate) fn turn(
         TasksFit (set_modes given.now.rules.now) (rules_of given.now.rules.now) store.old
         (length given.now.facts.now + length (rules_of given.now.rules.now)) before →
         IsTaskTurn (set_modes given.now.rules.now) (rules_of given.now.rules.now)
-        given.now.pairs.now js wanted.now
+        given.now.pairs.now js
         (length given.now.facts.now + length (rules_of given.now.rules.now)) store.old store.new
         task before (before ++ more) o)) }
 {
@@ -172,12 +153,6 @@ pub(crate) fn turn(
             tasks.push(new_task(form, terms, levels, frames, mark))?;
             Ok(None)
         }
-        Step::Done { head, outputs } => {
-            if is_wanted(wanted, &outputs) {
-                Ok(Some(Ending::Found { head, outputs }))
-            } else {
-                Ok(None)
-            }
-        }
+        Step::Done { head, outputs } => Ok(Some(Ending::Found { head, outputs })),
     }
 }

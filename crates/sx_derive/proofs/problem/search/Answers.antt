@@ -3,7 +3,7 @@ use Rattle.std.proofs.lemmas.List.{length-map}
 use Rattle.sx_rules.specs.Views.{goal as goal_of, hypotheses}
 use Rattle.sx_derive.specs.Candidates.{AreFacts}
 use Rattle.sx_derive.specs.Store.{store_trees}
-use Rattle.sx_derive.specs.Walked.{events_in, IsWalked}
+use Rattle.sx_derive.specs.Walked.{IsWalked}
 use Rattle.sx_arena.specs.Views.{rules_of, set_modes, judgement_of}
 use Rattle.sx_derive.proofs.Tasked.{facts_length}
 use Rattle.sx_derive.proofs.Searching.{searched_ok, searched_err}
@@ -26,8 +26,8 @@ returns-in-Ok-walk g c =
     let p = c.in-Ok.problem in
     let h = c.in-Ok.ensures in
     let js = (hypotheses c.args.given.now).judgements in
-    searched_ok m rs (hypotheses c.args.given.now) c.args.goal.now.form (goal_of c.args.goal.now).terms _ p h c.walk.new.store c.args.budget c.args.steps.now c.walk.new.steps c.in-Ok-walk.ending
-    (subst (λ ps. IsWalked m rs p.store c.walk.new.store p.wanted c.args.budget (events_in m rs ps js p.store 2999 c.args.goal.now.form p.terms.items) c.args.steps.now c.walk.new.steps (Ok c.in-Ok-walk.ending)) c.deref-2.ensures.value
+    searched_ok m rs (hypotheses c.args.given.now) c.args.goal.now.form (goal_of c.args.goal.now).terms _ p h c.walk.new.store c.args.budget c.args.steps.now c.walk.new.steps c.in-Ok-walk.field-0
+    (subst (λ ps. IsWalked m rs ps js p.store c.walk.new.store p.wanted c.args.budget (record { form = c.args.goal.now.form; terms = p.terms; levels = 2999 }) c.args.steps.now c.walk.new.steps (Ok c.in-Ok-walk.field-0)) c.deref-2.ensures.value
     (c.in-Ok-walk.ensures js (subst (λ fs. AreFacts m (store_trees p.store) js fs) (sym c.deref.ensures.value) h.facts)))
 
 pub returns-in-Err-walk : goal.returns-in-Err-walk
@@ -38,5 +38,5 @@ returns-in-Err-walk g c =
     let h = c.in-Ok.ensures in
     let js = (hypotheses c.args.given.now).judgements in
     searched_err m rs (hypotheses c.args.given.now) c.args.goal.now.form (goal_of c.args.goal.now).terms _ p h c.walk.new.store c.args.budget c.args.steps.now c.walk.new.steps c.in-Err-walk.e
-    (subst (λ ps. IsWalked m rs p.store c.walk.new.store p.wanted c.args.budget (events_in m rs ps js p.store 2999 c.args.goal.now.form p.terms.items) c.args.steps.now c.walk.new.steps (Err c.in-Err-walk.e)) c.deref-2.ensures.value
+    (subst (λ ps. IsWalked m rs ps js p.store c.walk.new.store p.wanted c.args.budget (record { form = c.args.goal.now.form; terms = p.terms; levels = 2999 }) c.args.steps.now c.walk.new.steps (Err c.in-Err-walk.e)) c.deref-2.ensures.value
     (c.in-Err-walk.ensures js (subst (λ fs. AreFacts m (store_trees p.store) js fs) (sym c.deref.ensures.value) h.facts)))

@@ -14,7 +14,7 @@ ended c = subst (λ d. From (set_modes c.args.given.now.rules.now) (subject_mode
 pub loop-left-init : goal.loop-left-init
 loop-left-init c =
     let q = c.requires.quiet in
-    (q.0, sinking_first (set_modes c.args.given.now.rules.now) (subject_modes c.args.given.now.rules.now) (rules_of c.args.given.now.rules.now) q.0 c.args.bounds.budget c.args.bounds.levels c.args.store.now c.args.given.now.facts.now c.args.given.now.pairs.now c.args.first c.requires.store c.requires.terms q.1 q.2 c.new-notes.result.items c.new-notes.ensures.items)
+    (q.0, sinking_first (set_modes c.args.given.now.rules.now) (subject_modes c.args.given.now.rules.now) (rules_of c.args.given.now.rules.now) q.0 c.args.bounds.budget c.args.bounds.levels c.args.store.now c.args.given.now.facts.now c.args.given.now.pairs.now c.args.first c.requires.store c.requires.terms q.1 q.2 c.args.noted.items q.3)
 
 pub descend-requires-clause-levels : goal.descend-requires-clause-levels
 descend-requires-clause-levels c =

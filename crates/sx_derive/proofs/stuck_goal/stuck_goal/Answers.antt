@@ -28,7 +28,7 @@ stuck_below-blame-requires-clause-quiet c =
     let rs = rules_of c.args.rules.now in
     let hy = hypotheses c.args.given.now in
     problem_quiet m rs hy c.args.goal.now.form (goal_of c.args.goal.now).terms _ c.in_ok-problem.problem c.in_ok-problem.ensures c.deref.result.now c.deref-2.result.now c.deref.ensures.value c.deref-2.ensures.value
-    c.args.budget 3000 (events_quiet m rs hy c.args.budget (goal_of c.args.goal.now) c.requires.quiet)
+    c.args.budget 3000 c.args.notes.items (events_quiet m rs hy c.args.budget (goal_of c.args.goal.now) c.requires.quiet) c.requires.notes
 
 pub returns : goal.returns
 returns c =

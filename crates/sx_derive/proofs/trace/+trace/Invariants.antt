@@ -2,7 +2,7 @@ use Rattle.std.proofs.Common.{◌+◌, ◌*◌, List, ◌++◌, map, drop}
 use Rattle.sx_rules.specs.Rules.{Judgement}
 use Rattle.sx_arena.specs.Views.{rules_of, set_modes, rule_of, premise_of}
 use Rattle.sx_derive.specs.Givens.{HasFacts}
-use Rattle.sx_derive.specs.Tracing.{FitIn, candidates_of}
+use Rattle.sx_derive.specs.Runs.{FitIn, candidates_of}
 use Rattle.sx_derive.specs.Turns.{PutsBehind}
 use Rattle.sx_derive.specs.declared.tasks.Task.{Task}
 use Rattle.sx_derive.proofs.CandidateTraces.{Going}
@@ -27,4 +27,4 @@ abbrev pub invariant-trace_rule-loop-k : goal.invariant-trace_rule-loop-k
 invariant-trace_rule-loop-k l =
     PutsBehind l.initial.tasks.items l.tasks.items
     (λ more. (js : List Judgement) (tasks : List Task) → HasFacts l.given l.initial.store js → FitIn l.given l.initial.store tasks →
-    Going (set_modes l.given.rules.now) (rules_of l.given.rules.now) l.given.pairs.now js (candidates_of l.given) l.candidate.number (rule_of l.candidate.rule.now) l.levels l.initial.store l.candidate.env tasks l.store l.k (drop l.k (map premise_of l.candidate.rule.now.premises.items)) l.env l.kids (tasks ++ more))
+    Going (set_modes l.given.rules.now) (rules_of l.given.rules.now) l.given.pairs.now js (candidates_of l.given) l.candidate.number (rule_of l.candidate.rule.now) l.levels l.initial.store l.candidate.env l.initial.tries tasks l.store l.tries l.k (drop l.k (map premise_of l.candidate.rule.now.premises.items)) l.env l.kids (tasks ++ more))

@@ -1,14 +1,9 @@
-use Rattle.std.proofs.Common.{◌+◌, ◌∷◌, [], ◌++◌, List, length, None, refl, sym, ap, ◌∙◌, subst}
+use Rattle.std.proofs.Common.{◌+◌, ◌∷◌, [], ◌++◌, List, length, None, refl, ap, ◌∙◌, subst}
 use Rattle.std.proofs.lemmas.List.{append_assoc}
 use Rattle.sx_derive.specs.declared.tasks.Task.{Task}
-use Rattle.std.proofs.Common.{map}
-use Rattle.sx_arena.specs.Arena.{tree_at, AreBelow}
-use Rattle.sx_derive.specs.Search.{are_wanted}
-use Rattle.sx_derive.specs.Store.{store_trees}
-use Rattle.sx_derive.specs.Tasks.{wanted_in}
 use Rattle.sx_derive.specs.Turns.{IsTaskTurn}
 use Rattle.sx_arena.specs.Views.{rules_of, set_modes}
-use Rattle.sx_derive.proofs.Turned.{turn_nothing, turn_passed, turn_spent, turn_goes, turn_found, turn_other, done_below, tested_true, tested_false}
+use Rattle.sx_derive.proofs.Turned.{turn_nothing, turn_passed, turn_spent, turn_goes, turn_found}
 use Rattle.sx_derive.proofs.turns.turn.Goals as goal
 
 -- the task after its next candidate
@@ -27,7 +22,7 @@ returns-in-Nothing c = (
       let w = c.try_task.new.store in
       let t = c.args.task in
       let x = c.in_ok-step.ensures js a in
-      (turn_nothing m rs c.args.given.now.pairs.now js c.args.wanted.now n s w t (after t) before c.in_ok-step.step c.requires.store c.requires.pairs c.requires.wanted c.requires.task f c.requires.next x refl refl refl refl refl refl c.in-Nothing.is),
+      (turn_nothing m rs c.args.given.now.pairs.now js n s w t (after t) before c.in_ok-step.step c.requires.store c.requires.pairs c.requires.task f c.requires.next x refl refl refl refl refl refl c.in-Nothing.is),
 )
 
 pub returns-in-Passed : goal.returns-in-Passed
@@ -42,7 +37,7 @@ returns-in-Passed c = (
       let w = c.try_task.new.store in
       let t = c.args.task in
       let x = c.in_ok-step.ensures js a in
-      (turn_passed m rs c.args.given.now.pairs.now js c.args.wanted.now n s w t (after t) before c.in_ok-step.step c.requires.store c.requires.pairs c.requires.wanted c.requires.task f c.requires.next x refl refl refl refl refl refl c.in-Passed.limit c.in-Passed.is),
+      (turn_passed m rs c.args.given.now.pairs.now js n s w t (after t) before c.in_ok-step.step c.requires.store c.requires.pairs c.requires.task f c.requires.next x refl refl refl refl refl refl c.in-Passed.limit c.in-Passed.is),
 )
 
 pub returns-in-DepthSpent : goal.returns-in-DepthSpent
@@ -57,7 +52,7 @@ returns-in-DepthSpent c = (
       let w = c.try_task.new.store in
       let t = c.args.task in
       let x = c.in_ok-step.ensures js a in
-      (turn_spent m rs c.args.given.now.pairs.now js c.args.wanted.now n s w t (after t) before c.in_ok-step.step c.requires.store c.requires.pairs c.requires.wanted c.requires.task f c.requires.next x refl refl refl refl refl refl c.in-DepthSpent.is),
+      (turn_spent m rs c.args.given.now.pairs.now js n s w t (after t) before c.in_ok-step.step c.requires.store c.requires.pairs c.requires.task f c.requires.next x refl refl refl refl refl refl c.in-DepthSpent.is),
 )
 
 pub returns-in_ok-push-in-Goes : goal.returns-in_ok-push-in-Goes
@@ -73,12 +68,12 @@ returns-in_ok-push-in-Goes c = (
       let t = c.args.task in
       let x = c.in_ok-step.ensures js a in
       let more = c.new_task.result in
-      subst (λ (ts : List Task). IsTaskTurn m rs c.args.given.now.pairs.now js c.args.wanted.now n s w t before ts None) (append_assoc before (after t ∷ []) (more ∷ []))
-      (turn_goes m rs c.args.given.now.pairs.now js c.args.wanted.now n s w t (after t) before c.in_ok-step.step c.requires.store c.requires.pairs c.requires.wanted c.requires.task f c.requires.next x refl refl refl refl refl refl c.in-Goes.form c.in-Goes.terms c.in-Goes.levels c.in-Goes.frames c.mark-mark.result more c.mark-mark.ensures c.in-Goes.is c.new_task.ensures),
+      subst (λ (ts : List Task). IsTaskTurn m rs c.args.given.now.pairs.now js n s w t before ts None) (append_assoc before (after t ∷ []) (more ∷ []))
+      (turn_goes m rs c.args.given.now.pairs.now js n s w t (after t) before c.in_ok-step.step c.requires.store c.requires.pairs c.requires.task f c.requires.next x refl refl refl refl refl refl c.in-Goes.form c.in-Goes.terms c.in-Goes.levels c.in-Goes.frames c.mark-mark.result more c.mark-mark.ensures c.in-Goes.is c.new_task.ensures),
 )
 
-pub returns-then-is_wanted : goal.returns-then-is_wanted
-returns-then-is_wanted c = (
+pub returns-in-Done : goal.returns-in-Done
+returns-in-Done c = (
   after c.args.task ∷ [],
   c.in_ok-push.ensures.items,
   λ js a before f.
@@ -89,21 +84,5 @@ returns-then-is_wanted c = (
       let w = c.try_task.new.store in
       let t = c.args.task in
       let x = c.in_ok-step.ensures js a in
-      (turn_found m rs c.args.given.now.pairs.now js c.args.wanted.now n s w t (after t) before c.in_ok-step.step c.requires.store c.requires.pairs c.requires.wanted c.requires.task f c.requires.next x refl refl refl refl refl refl c.in-Done.head c.in-Done.outputs c.in-Done.is (ap (λ os. are_wanted (wanted_in s c.args.wanted.now) (map (tree_at (store_trees w)) os)) (sym c.deref.ensures.value) ∙ tested_true m rs s w c.args.wanted.now c.deref.result.now c.is_wanted.result x.grows c.requires.wanted c.is_wanted.ensures c.if-is_wanted.true)),
-)
-
-pub returns-else-is_wanted : goal.returns-else-is_wanted
-returns-else-is_wanted c = (
-  after c.args.task ∷ [],
-  c.in_ok-push.ensures.items,
-  λ js a before f.
-      let m = set_modes c.args.given.now.rules.now in
-      let rs = rules_of c.args.given.now.rules.now in
-      let n = length c.args.given.now.facts.now + length rs in
-      let s = c.args.store.now in
-      let w = c.try_task.new.store in
-      let t = c.args.task in
-      let x = c.in_ok-step.ensures js a in
-      (turn_other m rs c.args.given.now.pairs.now js c.args.wanted.now n s w t (after t) before c.in_ok-step.step c.requires.store c.requires.pairs c.requires.wanted c.requires.task f c.requires.next x refl refl refl refl refl refl c.in-Done.head c.in-Done.outputs c.in-Done.is (ap (λ os. are_wanted (wanted_in s c.args.wanted.now) (map (tree_at (store_trees w)) os)) (sym c.deref.ensures.value) ∙ tested_false m rs s w c.args.wanted.now c.deref.result.now c.is_wanted.result x.grows c.requires.wanted
-      (subst (λ os. AreBelow (length (store_trees w)) os) (sym c.deref.ensures.value) (done_below m rs c.args.given.now.pairs.now js c.args.wanted.now n s w t (after t) before c.in_ok-step.step c.requires.store c.requires.pairs c.requires.wanted c.requires.task f c.requires.next x refl refl refl refl refl refl c.in-Done.head c.in-Done.outputs c.in-Done.is)) c.is_wanted.ensures c.if-is_wanted.false)),
+      (turn_found m rs c.args.given.now.pairs.now js n s w t (after t) before c.in_ok-step.step c.requires.store c.requires.pairs c.requires.task f c.requires.next x refl refl refl refl refl refl c.in-Done.head c.in-Done.outputs c.in-Done.is),
 )

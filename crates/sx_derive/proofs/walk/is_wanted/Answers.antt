@@ -1,6 +1,6 @@
 use Rattle.std.proofs.Common.{◌≡◌, ℕ, true, Option, Vec, Global, sym, ◌∙◌, subst}
 use Rattle.std.specs.Prelude.{◌↔◌, IsTrue, MatchOption}
-use Rattle.sx_derive.proofs.turns.is_wanted.Goals as goal
+use Rattle.sx_derive.proofs.walk.is_wanted.Goals as goal
 
 pub returns-in-Some : goal.returns-in-Some
 returns-in-Some c =
