@@ -98,5 +98,8 @@ module _ (modes : Modes) (rules : List Rule) (pairs : List Pair) (js : List Judg
       noted e [] k = tt
       noted e (i ∷ ks) k = (
         (let l = k.0 in omega arith),
-        subst (λ (y : Assignment). PremisesFail modes rules hyps (FailsAlong modes rules hyps c.levels) (goal_events modes rules hyps c.levels) (suc c.premise) i ks ps y) e k.1,
+        (
+          sym told.is ∙ f,
+          subst (λ (y : Assignment). PremisesFail modes rules hyps (FailsAlong modes rules hyps c.levels) (goal_events modes rules hyps c.levels) (suc c.premise) i ks ps y) e k.1,
+        ),
       )

@@ -1,6 +1,6 @@
 -- The premises of a goal's first candidate, gone through with first answers.
-use Rattle.std.proofs.Common.{◌≡◌, ℕ, suc, ◌+◌, ◌≤◌, Bool, true, false, List, [], ◌∷◌, ◌++◌, map, length, reverse, Option, Some, None, Vec, refl, sym, ap, ◌∙◌, arith, subst}
-use Rattle.std.specs.Prelude.{option_to_list}
+use Rattle.std.proofs.Common.{◌≡◌, ℕ, suc, ◌+◌, ◌≤◌, Bool, true, false, List, [], ◌∷◌, map, length, reverse, Option, Some, None, Vec, refl, sym, ap, ◌∙◌, arith, subst}
+use Rattle.std.specs.Prelude.{slice_get}
 use Rattle.std.specs.declared.alloc.Global.{Global}
 use Rattle.sx_term.specs.Tree.{Tree}
 use Rattle.sx_rules.specs.Deep.{AreShallow}
@@ -21,9 +21,10 @@ use Rattle.sx_arena.proofs.Facts.{facts_stay}
 use Rattle.sx_arena.proofs.Growing.{extends-length}
 use Rattle.sx_arena.proofs.Parted.{pairs_more_terms, pairs_stay}
 use Rattle.sx_derive.specs.Asking.{asked_goal, asked_events, AskedFails, AreTermsOf, IsAnswered}
+use Rattle.sx_derive.specs.Binding.{binds_terms}
 use Rattle.sx_derive.specs.Candidates.{AreFacts}
 use Rattle.sx_derive.specs.Descents.{AreHyps, spot_goal, reason_in, ReasonBelow, PremisesLead}
-use Rattle.sx_derive.specs.Descents.{PremisesFailAlong, IsDescent, IsPremiseSpot}
+use Rattle.sx_derive.specs.Descents.{IsDescent, IsPremiseSpot}
 use Rattle.sx_derive.specs.Handing.{hyps_in}
 use Rattle.sx_derive.specs.Failing.{FailsAlong, PremisesFail}
 use Rattle.sx_derive.specs.Quiet.{IsQuiet, first_given}
@@ -41,7 +42,7 @@ use Rattle.sx_derive.proofs.Asked.{facts_unique}
 use Rattle.sx_arena.proofs.Kept.{limit_shallow}
 use Rattle.sx_derive.proofs.Descending.{descend_apart, descend_unequal, descend_below, descend_mismatch, descend_more}
 use Rattle.sx_derive.proofs.Premised.{stays}
-use Rattle.sx_derive.proofs.Noted.{note_taken}
+use Rattle.sx_derive.proofs.Unanswered.{here_fails, rest_fails, fails_bound}
 use Rattle.sx_derive.proofs.Quiet.{quiet_apart, quiet_goal, quiet_rest}
 use Rattle.sx_derive.proofs.Stored.{grows_same, grows_then, grows_terms}
 
@@ -99,13 +100,13 @@ module _ (modes subjects : Modes) (rules : List Rule) (hyps : Hypotheses) (moded
 
   pub descending_first : IsStore modes rules old → AreHyps modes old facts pairs hyps → first ≤ length old.binds.cells.items →
       IsQuiet budget (premise_events modes hyps (goal_events modes rules hyps levels) rule.premises (env_at (store_envs old) first)) →
-      (all : List ℕ) → PremisesFailAlong modes rules hyps levels (reverse all) rule.premises (env_at (store_envs old) first) → all ≡ notes ++ option_to_list noted → D old 0 rule.premises first
-  descending_first h a l q all f e = record {
+      ((n : ℕ) → noted ≡ Some n → FailFrom 0 n rule.premises (env_at (store_envs old) first)) → D old 0 rule.premises first
+  descending_first h a l q f = record {
     are = a;
     grows = grows_same modes rules old h;
     within = l;
     quiet = q;
-    fails = λ n x. f n (reverse notes) (note_taken all notes noted n e x);
+    fails = f;
     leads = λ blame x. x;
   }
 
@@ -152,7 +153,7 @@ module _ (modes subjects : Modes) (rules : List Rule) (hyps : Hypotheses) (moded
             quiet = subst (λ (e : Assignment). IsQuiet budget (premise_events modes hyps (goal_events modes rules hyps levels) rest e)) (sym s.envs)
                 (quiet_apart modes hyps (goal_events modes rules hyps levels) budget t u rest (env_at (store_envs mid) env) (apart_is ∙ f) d.quiet);
             fails = λ n x. subst (λ (m : ℕ). FailFrom m n rest (env_at (store_envs new) env)) (plus_one k)
-                (subst (λ (e : Assignment). FailFrom (suc k) n rest e) (sym s.envs) (d.fails n x));
+                (subst (λ (e : Assignment). FailFrom (suc k) n rest e) (sym s.envs) (d.fails n x).1);
             leads = λ blame x. d.leads blame (descend_apart modes subjects rules hyps moded levels budget number rule (spot_goal old spot) spot.path.items k rest (env_at (store_envs mid) env) t u (apart_is ∙ f) blame
                 (subst (λ (e : Assignment). From (suc k) rest e blame) s.envs (subst (λ (n : ℕ). From n rest (env_at (store_envs new) env) blame) (sym (plus_one k)) x)));
           }
@@ -240,7 +241,7 @@ module _ (modes subjects : Modes) (rules : List Rule) (hyps : Hypotheses) (moded
               within = a.0;
               quiet = quiet_rest modes hyps (goal_events modes rules hyps levels) budget j rest (env_at (store_envs mid) env) (env_at (store_envs new) next) x.0 first_is x.2 d.quiet;
               fails = λ n y. subst (λ (m : ℕ). FailFrom m n rest (env_at (store_envs new) next)) (plus_one k)
-                  ((d.fails n y).1 (λ same. other (y ∙ ap Some (sym same))) x.0 (env_at (store_envs new) next) first_is x.2);
+                  (rest_fails modes rules hyps levels k n (reverse notes) j rest (env_at (store_envs mid) env) (env_at (store_envs new) next) x.0 (λ same. other (y ∙ ap Some (sym same))) first_is x.2 (d.fails n y));
               leads = λ blame h. d.leads blame (descend_more modes subjects rules hyps moded levels budget number rule (spot_goal old spot) spot.path.items k rest (env_at (store_envs mid) env) j x.0 first_is (env_at (store_envs new) next) x.2 blame
                   (subst (λ (n : ℕ). From n rest (env_at (store_envs new) next) blame) (sym (plus_one k)) h));
             }
@@ -256,7 +257,7 @@ module _ (modes subjects : Modes) (rules : List Rule) (hyps : Hypotheses) (moded
 
         pub noted_below : (kid : Spot) → IsPremiseSpot subjects rule j terms spot.path.items kid → IsDescent modes subjects rules hyps budget levels new notes Leads (Below kid)
         noted_below kid p =
-            let f = (d.fails k n).0 refl in
+            let f = here_fails modes rules hyps levels k (reverse notes) j rest (env_at (store_envs mid) env) (d.fails k n) in
             leads_below noted_made notes terms kid (record { below = held.within; are = held.are }) f.0 f.1 p
 
     -- all premises pass
@@ -268,3 +269,25 @@ module _ (modes subjects : Modes) (rules : List Rule) (hyps : Hypotheses) (moded
       pub end_stuck : IsDescent modes subjects rules hyps budget levels new notes Leads (Stuck spot (Mismatch None got))
       end_stuck = stuck_here end_grown (Mismatch None got) held.within
           (subst (λ (outs : List Tree). Leads (record { goal = spot_goal old spot; path = spot.path.items; reason = mismatch None outs })) (sym held.are) (d.leads _ refl))
+
+  -- the premise that is noted, of whose inputs the candidate binds all variables
+  module _ (h : IsStore modes rules old) (k : ℕ) (j : Judgement) (n : noted ≡ Some k) (there : slice_get rule.premises k ≡ Some (holds j)) (bound : binds_terms (env_at (store_envs old) first) (inputs_of modes j) ≡ true)
+      (q : IsQuiet budget (premise_events modes hyps (goal_events modes rules hyps levels) rule.premises (env_at (store_envs old) first)))
+      (f : (m : ℕ) → noted ≡ Some m → FailFrom 0 m rule.premises (env_at (store_envs old) first))
+      (new : Store) (terms : List ℕ) (held : AreHeld old.arena new.arena terms (inputs_of modes (judgement_instance (filled (env_at (store_envs old) first)) j)))
+      (eb : new.binds ≡ old.binds) (ek : new.kids.items ≡ old.kids.items) (ef : new.frames.items ≡ old.frames.items) (eu : new.until ≡ old.until) where
+    pub bound_grown : StoreGrows modes rules old new
+    bound_grown = grows_terms modes rules old new h held.arena held.extends eb ek ef eu
+
+    pub bound_below : (kid : Spot) → IsPremiseSpot subjects rule j terms spot.path.items kid → IsDescent modes subjects rules hyps budget levels new notes Leads (Below kid)
+    bound_below kid p =
+        let x = fails_bound modes subjects rules hyps moded budget levels number rule (spot_goal old spot) spot.path.items k (reverse notes) j rule.premises (env_at (store_envs old) first) there bound q (f k n) in
+        let e : map (tree_at (store_trees new)) kid.terms.items ≡ (asked_goal modes old first j).terms = ap (map (tree_at (store_trees new))) p.terms_are ∙ held.are in
+        let same : spot_goal new kid ≡ asked_goal modes old first j = (λ i. record { form = p.form i; terms = e i }) in (
+          subst (λ is. AreBelow (length (store_trees new)) is) (sym p.terms_are) held.within,
+          subst (λ (g : Goal). AreShallow g.terms) (sym same) (limit_shallow (asked_goal modes old first j).terms x.0),
+          subst (λ (g : Goal). IsQuiet budget (goal_events modes rules hyps levels g)) (sym same) x.1,
+          subst (λ (g : Goal). FailsAlong modes rules hyps levels g (reverse notes)) (sym same) x.2,
+          λ blame l. x.3 blame
+              (subst (λ (g : Goal). IsStuck modes subjects rules hyps levels g (path_of subjects spot.path.items rule j) blame) same (subst (λ (way : List ℕ). IsStuck modes subjects rules hyps levels (spot_goal new kid) way blame) p.path_is l)),
+        )

@@ -33,7 +33,6 @@ pub mod RuleEvents
 pub mod MoreFrames
 pub mod Underneath
 pub mod Piling
-pub mod Kept
 pub mod PremiseTraces
 pub mod ApartTraces
 pub mod CandidateTraces
@@ -44,6 +43,8 @@ pub mod FoundEach
 pub mod Descending
 pub mod Asked
 pub mod Waying
+pub mod Bound
+pub mod Unanswered
 pub mod Descended
 pub mod Led
 pub mod GoalTraces

@@ -1,5 +1,5 @@
 -- What comes of a judgement premise: its goal has no answer, or its first answer is taken.
-use Rattle.std.proofs.Common.{◌≡◌, ℕ, suc, ◌+◌, ◌-◌, ◌<◌, ◌≤◌, List, [], ◌∷◌, ◌++◌, map, drop, length, reverse, Option, Some, None, Vec, refl, sym, ap, ◌∙◌, arith, subst, append-nil}
+use Rattle.std.proofs.Common.{◌≡◌, ℕ, suc, ◌+◌, ◌-◌, ◌<◌, ◌≤◌, inl, inr, List, [], ◌∷◌, ◌++◌, map, drop, length, reverse, Option, Some, None, Vec, refl, sym, ap, ◌∙◌, arith, subst, append-nil}
 use Rattle.std.specs.Prelude.{slice_get}
 use Rattle.std.specs.declared.alloc.Global.{Global}
 use Rattle.std.proofs.lemmas.List.{reverse-append}
@@ -17,7 +17,7 @@ use Rattle.sx_arena.proofs.Growing.{extends-length}
 use Rattle.sx_arena.proofs.Parted.{pairs_stay, pairs_more_terms}
 use Rattle.sx_derive.specs.Candidates.{goal_in}
 use Rattle.sx_derive.specs.Chains.{kids_at, frame_of}
-use Rattle.sx_derive.specs.Failing.{PremisesFail, FailsAlong}
+use Rattle.sx_derive.specs.Failing.{FailsAlong}
 use Rattle.sx_derive.specs.Handing.{hyps_in, answer_in, IsWaitingCell}
 use Rattle.sx_derive.specs.Machine.{Frame, joined_proofs, premises_after, after_frame}
 use Rattle.sx_derive.specs.Halting.{HaltsAfter}
@@ -186,7 +186,7 @@ module _ (modes : Modes) (rules : List Rule) (pairs : List Pair) (js : List Judg
                       ∙ ap (tries_then x.0.1.0) (sym (events_stay modes rules n pairs js s u before w.pairs_there failed_grows fit)),
                 ),
                 subst (λ (ks : List ℕ). NotedFrom modes rules pairs js s c.levels c.premise (holds j ∷ ps) env ks) turned
-                    ((omega arith), ((λ i. (ap first_given goal_fails ∙ tries-first x.0.1.0 [], along)), (λ d. absurd (d refl)))),
+                    ((omega arith), inl (refl, ap first_given goal_fails ∙ tries-first x.0.1.0 [], along)),
               );
             })
 
@@ -284,15 +284,7 @@ module _ (modes : Modes) (rules : List Rule) (pairs : List Pair) (js : List Judg
               noted : (notes : List ℕ) → NotedFrom modes rules pairs js s c.levels (suc c.premise) ps (env_at (store_envs v) next) notes → NotedFrom modes rules pairs js s c.levels c.premise (holds j ∷ ps) env notes
               noted [] f = tt
               noted (i ∷ ks) f =
-                  let l = f.0 in (
-                    (omega arith),
-                    (
-                      (λ e. absurd (omega arith)),
-                      λ d a other first match.
-                          (let first_is : first_given (goal_events modes rules hyps c.levels asked) ≡ Some answer = ap first_given goal_answers ∙ tries-first x.3.1.0 (give answer ∷ x.3.0) in
-                          let same_answer : answer ≡ a = (let z = sym first_is ∙ first in cc) in
-                          let m : match_all (outputs_of modes j) answer.1 env ≡ Some (env_at (store_envs v) next) = ap (match_all (outputs_of modes j) answer.1) (sym env_same) ∙ k.2 in
-                          let same_env : env_at (store_envs v) next ≡ other = (let z : Some (env_at (store_envs v) next) ≡ Some other = sym m ∙ ap (λ (y : Answer). match_all (outputs_of modes j) y.1 env) same_answer ∙ match in cc) in
-                          subst (λ (y : Assignment). PremisesFail modes rules hyps (FailsAlong modes rules hyps c.levels) (goal_events modes rules hyps c.levels) (suc c.premise) i ks ps y) same_env f.1),
-                    ),
-                  )
+                  let l = f.0 in
+                  let first_is : first_given (goal_events modes rules hyps c.levels asked) ≡ Some answer = ap first_given goal_answers ∙ tries-first x.3.1.0 (give answer ∷ x.3.0) in
+                  let m : match_all (outputs_of modes j) answer.1 env ≡ Some (env_at (store_envs v) next) = ap (match_all (outputs_of modes j) answer.1) (sym env_same) ∙ k.2 in
+                  ((omega arith), inr ((λ e. absurd (omega arith)), (answer, env_at (store_envs v) next, first_is, m, f.1)))

@@ -14,23 +14,17 @@ use Rattle.sx_derive.specs.Runs.{IsRunTo, TakesTry}
 use Rattle.sx_derive.specs.Store.{StoreGrows, IsMark, IsStoreCut, store_trees}
 use Rattle.sx_derive.specs.Tasks.{events_left, TaskFits, TasksFit, Piled}
 use Rattle.sx_derive.specs.Turns.{IsTaskPopped, IsMetAfterTry, IsTaskTurn}
-use Rattle.sx_derive.specs.Walk.{depth_spent, Event, try, stop, Answer, tries_then}
+use Rattle.sx_derive.specs.Walk.{depth_spent, Event, try, stop, Answer}
 use Rattle.sx_derive.specs.declared.store.Store.{Store}
 use Rattle.sx_derive.specs.declared.tasks.Ending.{Ending as EndingOf}
 use Rattle.sx_derive.specs.declared.tasks.Ending.TheVariants.{Found, Passed, DepthSpent}
 use Rattle.sx_derive.specs.declared.tasks.Ending.TheVariants.{Spent, Exhausted}
 use Rattle.sx_derive.specs.declared.tasks.Task.{Task as TaskOf}
 use Rattle.sx_derive.proofs.Cut.{cut_grows}
-use Rattle.sx_derive.proofs.Passed.{tries_both}
+use Rattle.sx_derive.proofs.Halted.{after_then}
 use Rattle.sx_derive.proofs.Stored.{grows_then}
 use Rattle.sx_derive.proofs.Tasked.{facts_length}
 use Rattle.sx_derive.proofs.Turned.{fits_push, piled_grows, piled_fits, piled_push, piled_top, events_stay, events_try}
-
--- tries that come first, and then more of them
-pub after_more : {A : Type 0} (old mid new n : ℕ) (es fs gs : List (Event A)) → AfterTries old mid es fs → mid ≡ n + new → fs ≡ tries_then n gs → AfterTries old new es gs
-after_more old mid new n es fs gs h e q =
-    let a = h.1 in
-    (h.0 + n, (omega arith), h.2 ∙ ap (tries_then h.0) q ∙ tries_both h.0 n (h.0 + n) gs refl)
 
 -- where a try was taken
 pub takes_try : (old new : ℕ) (ending : EndingOf) → new < old → TakesTry old new ending
@@ -67,12 +61,12 @@ module _ (modes : Modes) (rules : List Rule) (pairs : List Pair) (facts : List F
       running_popped task p = record {
         grows = w.grows;
         piled = p.3 first w.piled;
-        goes = after_more budget left then_left n _ _ _ w.goes e p.1;
+        goes = after_then budget left then_left _ _ _ w.goes (n, e, p.1);
       }
 
       pub running_end : IsTaskPopped modes rules pairs js now (length facts + length rules) n tasks rest None →
           IsRunTo modes rules pairs js (length facts + length rules) first now budget then_left (events_left modes rules pairs js old start) rest Exhausted
-      running_end p = (w.grows, after_more budget left then_left n _ _ _ w.goes e p.0, p.1)
+      running_end p = (w.grows, after_then budget left then_left _ _ _ w.goes (n, e, p.0), p.1)
 
   module _ (a : AreFacts modes (store_trees first) js facts) (now : Store) (left : ℕ) (task : TaskOf) (rest : List TaskOf) (w : Running now left (rest ++ task ∷ [])) where
     -- the store that there was when the task was made
@@ -109,7 +103,7 @@ module _ (modes : Modes) (rules : List Rule) (pairs : List Pair) (facts : List F
 
     module _ (l : 0 < left) (new : Store) (more : List TaskOf) where
       further : (es after : List (Event Answer)) → events_left modes rules pairs js now (rest ++ task ∷ []) ≡ try ∷ es → es ≡ after → AfterTries budget (left - 1) (events_left modes rules pairs js old start) after
-      further es after q z = after_more budget left (left - 1) 1 _ _ after w.goes (omega arith) (q ∙ ap (λ fs. try ∷ fs) z)
+      further es after q z = after_then budget left (left - 1) _ _ after w.goes (1, (omega arith), q ∙ ap (λ fs. try ∷ fs) z)
 
       -- the tasks stand where they stood when the turn's task was made, and behind it what the turn made
       turned : (o : Option EndingOf) → IsTaskTurn modes rules pairs js (length facts + length rules) now new task rest more o → Piled modes rules (length facts + length rules) first more new

@@ -1,10 +1,10 @@
 -- A walk that goes on from what its events have come to.
-use Rattle.std.proofs.Common.{◌≡◌, ℕ, zero, suc, ◌+◌, ◌<◌, Bool, true, false, List, [], ◌∷◌, map, length, reverse, Option, Some, None, refl, sym, ap, ◌∙◌, arith, subst}
+use Rattle.std.proofs.Common.{◌≡◌, ℕ, zero, suc, ◌+◌, ◌<◌, Bool, true, false, List, [], ◌∷◌, map, length, Option, Some, None, refl, sym, ap, ◌∙◌, arith, subst}
 use Rattle.std.specs.Prelude.{Vec, MatchOption, IsTrue, ◌↔◌, not}
 use Rattle.std.specs.declared.alloc.Global.{Global}
 use Rattle.sx_term.specs.Tree.{Tree}
-use Rattle.sx_rules.specs.Rules.{Judgement, Rule, Hypotheses}
-use Rattle.sx_rules.specs.Modes.{Modes, Goal}
+use Rattle.sx_rules.specs.Rules.{Judgement, Rule}
+use Rattle.sx_rules.specs.Modes.{Modes}
 use Rattle.sx_arena.specs.Arena.{tree_at, AreBelow}
 use Rattle.sx_arena.specs.Pairs.{ArePairs}
 use Rattle.sx_arena.specs.Views.{rules_of, set_modes}
@@ -12,7 +12,6 @@ use Rattle.sx_arena.specs.declared.pairs.Pair.{Pair}
 use Rattle.sx_arena.proofs.Arenas.{distinct, maps_same, below_more}
 use Rattle.sx_arena.proofs.Growing.{extends-length}
 use Rattle.sx_derive.specs.Candidates.{goal_in}
-use Rattle.sx_derive.specs.Failing.{FailsAlong}
 use Rattle.sx_derive.specs.Givens.{HasFacts}
 use Rattle.sx_derive.specs.Halting.{AfterTries, HaltsWith, HaltsAfter}
 use Rattle.sx_derive.specs.Handing.{hyps_in, answer_in}
@@ -163,11 +162,6 @@ goes_past modes rules pairs js n first s (Some o) hw budget left es tasks Exhaus
 pub come_by : (g : Given) (first s : Store) (js : List Judgement) (budget left : ℕ) (es : List (Event Answer)) (tasks more : List TaskOf) (ending : EndingOf) → HasFacts g first js → ArePairs (length (store_trees first)) g.pairs.now → tasks ≡ more →
     IsRunBy g js first s budget left es more ending → HasComeTo g first s js budget left es tasks ending
 come_by g first s js budget left es tasks more ending f p e r = record { facts = f; pairs = p; comes = subst (λ (ts : List TaskOf). IsRunBy g js first s budget left es ts ending) (sym e) r }
-
--- no notes say nothing
-pub no_notes : (modes : Modes) (rules : List Rule) (hyps : Hypotheses) (levels : ℕ) (goal : Goal) (notes : List ℕ) → notes ≡ [] → FailsAlong modes rules hyps levels goal (reverse notes)
-unfolding FailsAlong
-no_notes modes rules hyps levels goal notes e = subst (λ (ks : List ℕ). FailsAlong modes rules hyps levels goal (reverse ks)) (sym e) tt
 
 -- the walk of the events goes on as that of some that have come to the ending
 pub record HasGone (g : Given) (first s : Store) (js : List Judgement) (wanted : Option (Vec ℕ Global)) (budget left : ℕ) (es : List (Event Answer)) (tasks : List TaskOf) (ending : EndingOf) : Type 0 where

@@ -1,5 +1,5 @@
 -- What a search is given: its rules, and its hypotheses by their numbers in a store.
-use Rattle.std.specs.Prelude.{ℕ, List, reverse}
+use Rattle.std.specs.Prelude.{◌≡◌, ℕ, List, reverse, Option, Some}
 use Rattle.sx_rules.specs.Rules.{Judgement, Hypotheses}
 use Rattle.sx_rules.specs.Derivations.{Proofs}
 use Rattle.sx_rules.specs.declared.rule.Judgement.{Judgement as JudgementOf}
@@ -17,7 +17,7 @@ use Rattle.sx_derive.specs.Descents.{
   RulesLead,
   IsDescent,
 }
-use Rattle.sx_derive.specs.Failing.{FailsAlong}
+use Rattle.sx_derive.specs.Failing.{FailsAlong, PremisesFail}
 use Rattle.sx_derive.specs.Quiet.{IsQuiet}
 use Rattle.sx_derive.specs.Store.{IsStore, StoreGrows, store_trees, store_envs}
 use Rattle.sx_derive.specs.Stuck.{Blame, IsStuck}
@@ -28,6 +28,7 @@ use Rattle.sx_derive.specs.declared.candidate.Candidate.{Candidate}
 use Rattle.sx_derive.specs.declared.descent.Descent.{Descent}
 use Rattle.sx_derive.specs.declared.descent.Spot.{Spot}
 use Rattle.sx_derive.specs.declared.given.Given.{Given}
+use Rattle.sx_derive.specs.declared.noted_candidate.NotedCandidate.{NotedCandidate}
 use Rattle.sx_derive.specs.declared.store.Store.{Store}
 
 -- the store is one of a search by the rules
@@ -85,12 +86,28 @@ CandidateFails g hyps levels s c notes =
     PremisesFailAlong (set_modes g.rules.now) (rules_of g.rules.now) hyps levels (reverse notes)
     (rule_of c.rule.now).premises (env_at (store_envs s) c.env)
 
+-- they fail at the premise that is noted, and its goal as the notes say
+abbrev pub FailsAtNoted : Given → Hypotheses → ℕ → Store → Candidate → Option ℕ → List ℕ → Type 0
+FailsAtNoted g hyps levels s c noted notes =
+    (k : ℕ) → noted ≡ Some k →
+    PremisesFail (set_modes g.rules.now) (rules_of g.rules.now) hyps
+    (FailsAlong (set_modes g.rules.now) (rules_of g.rules.now) hyps levels)
+    (goal_events (set_modes g.rules.now) (rules_of g.rules.now) hyps levels) 0 k (reverse notes)
+    (rule_of c.rule.now).premises (env_at (store_envs s) c.env)
+
 -- by some hypotheses the candidate's events are quiet, and it fails as the notes say
 abbrev pub FailsQuietly : Given → Bounds → Store → Candidate → List ℕ → Type 0
 FailsQuietly g bounds s c notes =
     (hyps : Hypotheses) × HasHyps g s hyps
     × IsQuiet bounds.budget (candidate_events g hyps bounds.levels s c)
     × CandidateFails g hyps bounds.levels s c notes
+
+-- by some hypotheses the candidate's events are quiet, and it fails at the premise that is noted
+abbrev pub FailsQuietlyAt : Given → Bounds → Store → NotedCandidate → List ℕ → Type 0
+FailsQuietlyAt g bounds s c notes =
+    (hyps : Hypotheses) × HasHyps g s hyps
+    × IsQuiet bounds.budget (candidate_events g hyps bounds.levels s c.candidate)
+    × FailsAtNoted g hyps bounds.levels s c.candidate c.noted notes
 
 -- the goal fails among the rules as the notes say, of which the last is its own
 abbrev pub RulesFailBy : Given → Hypotheses → ℕ → Store → Spot → List ℕ → Type 0

@@ -19,6 +19,7 @@ pub mod Problems
 pub mod Quiet
 pub mod Halting
 pub mod Failing
+pub mod Binding
 pub mod Noted
 pub mod Asking
 pub mod Ways

@@ -3,6 +3,7 @@
 
 mod ask;
 mod blame;
+mod bound_inputs;
 mod bounds;
 mod candidate;
 mod candidate_descent;
@@ -23,6 +24,7 @@ mod laws;
 mod list_derivation;
 mod listed;
 mod made_places;
+mod noted_candidate;
 mod numbered_goal;
 mod outcome;
 mod passing;

@@ -27,7 +27,7 @@ use Rattle.sx_derive.proofs.ApartTraces.{apart_failed, apart_passed}
 use Rattle.sx_derive.proofs.CandidateTraces.{Going, comes_after, going_first, going_as, going_more, going_fails, going_halts, going_passed, going_end}
 use Rattle.sx_derive.proofs.GoalTraces.{fails_none, number_within, chain_within, later_piled, goal_spent, goal_answered, failed_piled, failed_comes}
 use Rattle.sx_derive.proofs.Halted.{after_none}
-use Rattle.sx_derive.proofs.Kept.{behind_both, base_within, above_base, kept_behind}
+use Rattle.sx_derive.proofs.Above.{behind_both, base_within, above_base, kept_behind}
 use Rattle.sx_derive.proofs.PremiseTraces.{JudgementWaits, none_limit, mid_grows, mid_waits, mid_before, judgement_passed, judgement_deep, judgement_halted, judgement_failed, taken_grows, judgement_taken}
 use Rattle.sx_derive.proofs.Premised.{shallow_premise_at, drop_premise, drop_premises_end, premise_get}
 use Rattle.sx_derive.proofs.Resumed.{shallow_at}
